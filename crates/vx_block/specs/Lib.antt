@@ -1,0 +1,4 @@
+pub mod Cell
+pub mod Cut
+pub mod Kind
+pub mod Part

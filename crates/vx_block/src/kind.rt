@@ -1,0 +1,70 @@
+ghost use Rattle.std.specs.Prelude.{◌≡◌, IfSome, Some};
+ghost use Rattle.vx_block.specs.Kind.{kind_word};
+
+/// What a cell is, whatever its state. Each kind has one word, with which the texts of its cells and parts begin.
+#[derive(Clone, Copy, Debug, PartialEq, Eq, Hash)]
+pub enum Kind {
+    Air,
+    Stone,
+    Dirt,
+    Planks,
+    Glass,
+    Obsidian,
+    Bedrock,
+}
+
+impl Kind {
+    /// The word of this kind, in lower case.
+    pub fn word(self) -> &'static str
+        ensures { result.now ≡ kind_word self }
+    {
+        match self {
+            Kind::Air => "air",
+            Kind::Stone => "stone",
+            Kind::Dirt => "dirt",
+            Kind::Planks => "planks",
+            Kind::Glass => "glass",
+            Kind::Obsidian => "obsidian",
+            Kind::Bedrock => "bedrock",
+        }
+    }
+
+    /// The kind that has this word, letter for letter.
+    pub fn read(word: &str) -> Option<Kind>
+        ensures found { IfSome result (λ k. kind_word k ≡ word.now) }
+        ensures only { (k : Kind) → kind_word k ≡ word.now → result ≡ Some k }
+    {
+        match word {
+            "air" => Some(Kind::Air),
+            "stone" => Some(Kind::Stone),
+            "dirt" => Some(Kind::Dirt),
+            "planks" => Some(Kind::Planks),
+            "glass" => Some(Kind::Glass),
+            "obsidian" => Some(Kind::Obsidian),
+            "bedrock" => Some(Kind::Bedrock),
+            _ => None,
+        }
+    }
+}
+
+#[cfg(test)]
+mod tests {
+    use super::*;
+
+    #[test]
+    fn each_kind_has_its_word(rt: HostRuntime) {
+        for (kind, word) in [
+            (Kind::Air, "air"),
+            (Kind::Stone, "stone"),
+            (Kind::Dirt, "dirt"),
+            (Kind::Planks, "planks"),
+            (Kind::Glass, "glass"),
+            (Kind::Obsidian, "obsidian"),
+            (Kind::Bedrock, "bedrock"),
+        ] {
+            assert_eq!(rt; kind.word(), word);
+            assert_eq!(rt; Kind::read(word), Some(kind), "{word}");
+        }
+        assert_eq!(rt; Kind::read("Stone"), None);
+    }
+}

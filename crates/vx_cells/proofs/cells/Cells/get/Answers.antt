@@ -1,0 +1,5 @@
+use Rattle.vx_cells.proofs.Places.{inside_from_holds}
+use Rattle.vx_cells.proofs.cells.Cells.get.Goals as goal
+
+pub place_in_sector-requires : goal.place_in_sector-requires
+place_in_sector-requires c = let held = rw (← c.self.view_is) at c.requires in inside_from_holds _ c.args.p held

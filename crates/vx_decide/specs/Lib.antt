@@ -1,0 +1,4 @@
+pub mod Laws
+pub mod Least
+pub mod Texts
+pub mod Verdict

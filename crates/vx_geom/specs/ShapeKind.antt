@@ -1,0 +1,7 @@
+use Rattle.vx_geom.specs.declared.shape.ShapeKind.{ShapeKind}
+use Rattle.vx_geom.specs.declared.shape.ShapeKind.TheVariants as kind
+use Rattle.vx_geom.specs.Outline.{Outline, Cuboid}
+
+-- the outline that a shape holds
+abbrev pub outline : ShapeKind → Outline
+outline (kind.Cuboid low high) = Cuboid low high

@@ -1,0 +1,17 @@
+//! Positions, the bounds of a world and its division into sectors, and the shapes of regions.
+#![tactic(auto)]
+
+mod bounds;
+mod dir;
+mod laws;
+mod polygon;
+mod pos;
+mod shape;
+mod shape_spec;
+
+pub use bounds::Bounds;
+pub use dir::Dir;
+pub use laws::{places_differ, sectors_divide};
+pub use pos::Pos;
+pub use shape::Shape;
+pub use shape_spec::ShapeSpec;

@@ -1,0 +1,32 @@
+ghost use Rattle.std.specs.Prelude.{◌≡◌, Some, None, MatchResult};
+ghost use Rattle.vx_region.specs.Words.{read_id};
+
+use crate::word;
+use arrayvec::ArrayString;
+use thiserror::Error;
+
+/// The id of a region: 1 to 32 letters, digits, `_` or `-`, kept in lower case.
+#[derive(Clone, Copy, Debug, PartialEq, Eq, Hash)]
+pub struct Id {
+    text: ArrayString<32>,
+}
+
+/// The text spells no id.
+#[derive(Clone, Copy, Debug, PartialEq, Eq, Error)]
+#[error("bad id")]
+pub struct BadId;
+
+impl Id {
+    /// The id that the text spells, letter case aside.
+    pub fn read(text: &str) -> Result<Id, BadId>
+        ensures { MatchResult result (λ id. read_id text.now ≡ Some id.text.bytes) (λ _. read_id text.now ≡ None) }
+    {
+    }
+
+    /// The id in lower case.
+    pub fn as_str(&self) -> &str
+        ensures { result.now ≡ self.now.text.bytes }
+    {
+        self.text.as_str()
+    }
+}

@@ -1,0 +1,17 @@
+//! Regions of land: their ids, their owners and members by name, and the set of all regions of a world.
+#![tactic(auto)]
+
+mod id;
+mod name;
+mod region;
+mod region_no;
+mod region_set;
+mod subject;
+mod word;
+
+pub use id::{BadId, Id};
+pub use name::{BadName, Name};
+pub use region::Region;
+pub use region_no::RegionNo;
+pub use region_set::RegionSet;
+pub use subject::Subject;

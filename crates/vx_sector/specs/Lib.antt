@@ -1,0 +1,4 @@
+pub mod Acting
+pub mod Laws
+pub mod SectorData
+pub mod Texts

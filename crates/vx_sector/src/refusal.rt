@@ -1,0 +1,59 @@
+ghost use Rattle.std.specs.Prelude.{◌≡◌, Some};
+
+use std::error::Error;
+use std::fmt;
+use vx_decide::Rule;
+
+/// Why a command was not carried out. Each has a number; docs/FORMATS.md has the table.
+#[derive(Clone, Copy, Debug, PartialEq, Eq)]
+pub enum Refusal {
+    /// The position is not of this sector.
+    OutOfWorld,
+    /// The policy denies it, by this rule.
+    Denied(Rule),
+    /// Something stands where a part was to be placed.
+    Occupied,
+    /// There is nothing to break.
+    Nothing,
+    /// Bedrock does not break.
+    Unbreakable,
+    /// There is no memory for the record; nothing was done and nothing recorded.
+    NoMemory,
+}
+
+impl Refusal {
+    ghost use Rattle.vx_sector.specs.Texts.{refusal_number, refusal_words};
+
+    /// The number of the refusal.
+    pub fn number(self) -> u8
+        ensures { result ≡ refusal_number self }
+    {
+        match self {
+            Refusal::OutOfWorld => 1,
+            Refusal::Denied(_) => 2,
+            Refusal::Occupied => 3,
+            Refusal::Nothing => 4,
+            Refusal::Unbreakable => 9,
+            Refusal::NoMemory => 14,
+        }
+    }
+}
+
+impl fmt::Display for Refusal {
+    ghost use Rattle.vx_sector.specs.Texts.{refusal_text};
+
+    ghost output = { λ refusal. Some (refusal_text refusal) };
+
+    fn fmt<W: fmt::Write>(&self, f: &mut fmt::Formatter<W>) -> fmt::Result {
+        match self {
+            Refusal::OutOfWorld => write!(f, "refused 1 out of world"),
+            Refusal::Denied(rule) => write!(f, "refused 2 {rule}"),
+            Refusal::Occupied => write!(f, "refused 3 occupied"),
+            Refusal::Nothing => write!(f, "refused 4 nothing"),
+            Refusal::Unbreakable => write!(f, "refused 9 unbreakable"),
+            Refusal::NoMemory => write!(f, "refused 14 memory"),
+        }
+    }
+}
+
+impl Error for Refusal {}

@@ -1,0 +1,27 @@
+ghost use Rattle.std.specs.Prelude.{Some};
+
+use std::fmt;
+use vx_block::Cell;
+use vx_decide::Rule;
+
+/// The answer to a command that was carried out.
+#[derive(Clone, Copy, Debug, PartialEq, Eq)]
+pub enum Reply {
+    /// The cell that a look showed.
+    Seen(Cell),
+    /// What the command does is done, by leave of the rule.
+    Done(Rule),
+}
+
+impl fmt::Display for Reply {
+    ghost use Rattle.vx_sector.specs.Texts.{reply_text};
+
+    ghost output = { λ reply. Some (reply_text reply) };
+
+    fn fmt<W: fmt::Write>(&self, f: &mut fmt::Formatter<W>) -> fmt::Result {
+        match self {
+            Reply::Seen(cell) => write!(f, "seen {cell}"),
+            Reply::Done(rule) => write!(f, "ok {rule}"),
+        }
+    }
+}

@@ -1,0 +1,19 @@
+use Rattle.std.specs.Prelude.{ℕ, ℤ, pos, neg_ℤ, ◌+◌, ◌-◌, ◌*◌, ◌^◌, Bool, ◌&&◌, ◌==◌, if◌then◌else◌, int_le, nat_lt, nat_eq, not, List, length, drop, slice_index, Option, Some, None, option_map, option_and_then}
+use Rattle.std.specs.Str.{all_ascii_digits}
+use Rattle.std.specs.Str.Parse.{digits_value}
+
+-- the value of a text of decimal digits
+abbrev pub digits_of : List ℕ → Option ℕ
+digits_of text = if not (length text == 0) && all_ascii_digits text then Some (digits_value 10 text) else None
+
+-- the whole number that a text spells: decimal digits, with a `-` before them for one below zero
+unfoldable pub number_of : List ℕ → Option ℤ
+number_of text = if slice_index text 0 == 45 then option_map (λ n. neg_ℤ (pos n)) (digits_of (drop 1 text)) else option_map pos (digits_of text)
+
+-- a number, where it lies between these
+abbrev pub within : ℤ → ℤ → ℤ → Option ℤ
+within low high n = if int_le low n && int_le n high then Some n else None
+
+-- a number of 32 bits with a sign
+unfoldable pub i32_of : List ℕ → Option ℤ
+i32_of text = option_and_then (within (neg_ℤ (pos (2 ^ 31))) (pos (2 ^ 31 - 1))) (number_of text)

@@ -1,0 +1,12 @@
+ghost use Rattle.std.specs.Prelude.{◌≡◌};
+ghost use Rattle.vx_server.specs.Numbers.{i32_of};
+
+/// The number of 32 bits that a word spells: decimal digits, leading zeros among them, with an optional `-`.
+pub fn read_i32(word: &str) -> Option<i32>
+    ensures { result ≡ i32_of word.now }
+{
+    if word.starts_with('+') {
+        return None;
+    }
+    word.parse::<i32>().ok()
+}

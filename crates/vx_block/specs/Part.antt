@@ -1,4 +1,4 @@
-use Rattle.std.specs.Prelude.{ℕ, List, [], ◌++◌}
+use Rattle.std.specs.Prelude.{ℕ, bytes_eq, List, [], ◌∷◌, ◌++◌, find, Option}
 use Rattle.vx_block.specs.Kind.{kind_word}
 use Rattle.vx_block.specs.Cell.{kind_of}
 use Rattle.vx_block.specs.declared.cell.Cell.{Cell}
@@ -27,3 +27,11 @@ part_tail Bedrock = []
 -- the text of a part: the word of its kind, and a tail that tells how it is placed
 abbrev pub part_text : Part → List ℕ
 part_text p = kind_word (kind_of (part_cell p)) ++ part_tail p
+
+-- every part
+abbrev pub parts : List Part
+parts = Stone ∷ Dirt ∷ Planks ∷ Glass ∷ Obsidian ∷ Bedrock ∷ []
+
+-- the part that has this text
+unfoldable pub part_of : List ℕ → Option Part
+part_of text = find (λ p. bytes_eq (part_text p) text) parts

@@ -1,5 +1,5 @@
 ghost use Rattle.std.specs.Prelude.{◌≡◌, IfSome, Some};
-ghost use Rattle.vx_block.specs.Part.{part_cell, part_text};
+ghost use Rattle.vx_block.specs.Part.{part_cell, part_text, part_of};
 
 use crate::cell::Cell;
 use crate::cut::cut;
@@ -45,17 +45,26 @@ impl Part {
     pub fn read(text: &str) -> Option<Part>
         ensures found { IfSome result (λ p. part_text p ≡ text.now) }
         ensures only { (p : Part) → part_text p ≡ text.now → result ≡ Some p }
+        ensures named { result ≡ part_of text.now }
     {
-        let (word, tail) = cut(text);
-        match (Kind::read(word)?, tail) {
-            (Kind::Stone, None) => Some(Part::Stone),
-            (Kind::Dirt, None) => Some(Part::Dirt),
-            (Kind::Planks, None) => Some(Part::Planks),
-            (Kind::Glass, None) => Some(Part::Glass),
-            (Kind::Obsidian, None) => Some(Part::Obsidian),
-            (Kind::Bedrock, None) => Some(Part::Bedrock),
-            _ => None,
-        }
+        parse(text)
+    }
+}
+
+// The part that has this text.
+fn parse(text: &str) -> Option<Part>
+    ensures found { IfSome result (λ p. part_text p ≡ text.now) }
+    ensures only { (p : Part) → part_text p ≡ text.now → result ≡ Some p }
+{
+    let (word, tail) = cut(text);
+    match (Kind::read(word)?, tail) {
+        (Kind::Stone, None) => Some(Part::Stone),
+        (Kind::Dirt, None) => Some(Part::Dirt),
+        (Kind::Planks, None) => Some(Part::Planks),
+        (Kind::Glass, None) => Some(Part::Glass),
+        (Kind::Obsidian, None) => Some(Part::Obsidian),
+        (Kind::Bedrock, None) => Some(Part::Bedrock),
+        _ => None,
     }
 }
 

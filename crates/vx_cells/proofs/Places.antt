@@ -1,5 +1,5 @@
 -- Positions that a sector holds, and the places of their cells.
-use Rattle.std.proofs.Common.{◌≡◌, ℕ, ◌+◌, ◌*◌, ◌%◌, ◌<◌, ◌≢◌, Bool, true, false, Option, Some, None, nat_eq, if◌then◌else◌, unsigned_abs, refl, ap, sym, subst, arith}
+use Rattle.std.proofs.Common.{◌≡◌, ℕ, ◌+◌, ◌*◌, ◌%◌, ◌<◌, Bool, true, false, Option, Some, None, nat_eq, if◌then◌else◌, unsigned_abs, refl, ap, sym, subst, arith}
 use Rattle.std.specs.Option.{option_map_or}
 use Rattle.std.proofs.lemmas.Bool.{eqb-true}
 use Rattle.vx_geom.specs.declared.pos.Pos.{Pos}

@@ -1,4 +1,4 @@
-use Rattle.std.specs.Prelude.{◌≡◌, ℕ, Bool, true, false, nat_eq, List, length, replicate, slice_index_or, slice_set, Some}
+use Rattle.std.specs.Prelude.{◌≡◌, ℕ, Bool, false, nat_eq, List, length, replicate, slice_index_or, slice_set}
 use Rattle.std.specs.Option.{option_map_or}
 use Rattle.vx_block.specs.declared.cell.Cell.{Cell}
 use Rattle.vx_block.specs.declared.cell.Cell.TheVariants.{Air}

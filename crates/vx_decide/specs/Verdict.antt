@@ -3,8 +3,7 @@ use Rattle.vx_geom.specs.declared.pos.Pos.{Pos}
 use Rattle.vx_geom.specs.Outline.{is_in}
 use Rattle.vx_region.specs.Regions.{Regions, Entry, names}
 use Rattle.vx_region.specs.declared.region_no.RegionNo.{RegionNo}
-use Rattle.vx_region.specs.declared.subject.Subject.{Subject}
-use Rattle.vx_region.specs.declared.subject.Subject.TheVariants.{Player}
+use Rattle.vx_region.specs.Subjects.{Actor, Named}
 use Rattle.vx_decide.specs.declared.rule.Rule.{Rule}
 use Rattle.vx_decide.specs.declared.rule.Rule.TheVariants as rule
 use Rattle.vx_decide.specs.declared.verdict.Verdict.{Verdict}
@@ -15,16 +14,16 @@ use Rattle.vx_decide.specs.Least.{least}
 unfoldable pub contains : Pos → Entry → Bool
 contains p e = is_in e.1.shape p
 
--- the region names the subject as owner or as member
-unfoldable pub admits : Subject → Entry → Bool
-admits (Player name) e = names e.1.owners name.text.bytes || names e.1.members name.text.bytes
+-- the region names the player as owner or as member
+unfoldable pub admits : Actor → Entry → Bool
+admits (Named name) e = names e.1.owners name || names e.1.members name
 
 -- the region contains the place and does not admit the subject
-unfoldable pub is_failing : Subject → Pos → Entry → Bool
+unfoldable pub is_failing : Actor → Pos → Entry → Bool
 is_failing s p e = contains p e && not (admits s e)
 
 -- the least region that stands against the subject at the place
-unfoldable pub first_failing : Subject → Regions → Pos → Option ℕ
+unfoldable pub first_failing : Actor → Regions → Pos → Option ℕ
 first_failing s rs p = least (is_failing s p) rs.entries
 
 -- the least region that contains the place
@@ -42,5 +41,5 @@ by_membership None (Some home) = Permit (member_at home)
 by_membership None None = Permit rule.Default
 
 -- what the policy says to the subject at the place
-unfoldable pub verdict : Subject → Regions → Pos → Verdict
+unfoldable pub verdict : Actor → Regions → Pos → Verdict
 verdict s rs p = by_membership (first_failing s rs p) (first_home rs p)

@@ -1,4 +1,5 @@
 ghost use Rattle.std.specs.Prelude.{◌≡◌, ℕ, option_map};
+ghost use Rattle.vx_region.specs.Subjects.{actor_of};
 ghost use Rattle.vx_decide.specs.Verdict.{contains, admits, is_failing, first_failing, first_home};
 
 use crate::rule::Rule;
@@ -8,7 +9,7 @@ use vx_geom::Pos;
 use vx_region::{Name, Region, RegionNo, RegionSet, Subject};
 
 /// The policy of a set of regions, asked by walking them all.
-#[derive(Clone, Copy)]
+#[derive(Drop)]
 pub struct Plain<'a> {
     regions: &'a RegionSet,
 }
@@ -31,12 +32,13 @@ impl<'a> Plain<'a> {
 }
 
 impl Plain<'_> {
-    ghost use Rattle.vx_decide.specs.Verdict.{first_failing, first_home, verdict};
+    ghost use Rattle.vx_region.specs.Subjects.{actor_of};
+    ghost use Rattle.vx_decide.specs.Verdict.{verdict};
 
     /// Whether the subject may act at the place, and the rule that says so. It takes no memory.
     #[tactic(auto, unfolding(crate::specs::Verdict::verdict))]
     pub fn decide(&self, subject: &Subject, p: Pos) -> Verdict
-        ensures { result ≡ verdict subject.now self.now p }
+        ensures { result ≡ verdict (actor_of subject.now) self.now p }
     {
         match first_failing(self.regions, subject, p) {
             Some(at) => Verdict::Deny(Rule::Member { at }),
@@ -51,7 +53,7 @@ impl Plain<'_> {
 // The number of the least region that contains the place and does not admit the subject.
 #[tactic(auto, unfolding(crate::specs::Verdict::first_failing))]
 fn first_failing(regions: &RegionSet, subject: &Subject, p: Pos) -> Option<RegionNo>
-    ensures { option_map (λ n. n.0) result ≡ first_failing subject.now regions.now p }
+    ensures { option_map (λ n. n.0) result ≡ first_failing (actor_of subject.now) regions.now p }
 {
     for i in 0..regions.count() {
         let (number, region) = regions.nth(i);
@@ -79,7 +81,7 @@ fn first_home(regions: &RegionSet, p: Pos) -> Option<RegionNo>
 // Whether the region contains the place and does not admit the subject.
 #[tactic(auto, unfolding(crate::specs::Verdict::is_failing, crate::specs::Verdict::contains))]
 fn is_failing(subject: &Subject, p: Pos, region: &Region) -> bool
-    ensures { (n : ℕ) → result ≡ is_failing subject.now p (n, region.now) }
+    ensures { (n : ℕ) → result ≡ is_failing (actor_of subject.now) p (n, region.now) }
 {
     region.contains(p) && !admits(subject, region)
 }
@@ -87,7 +89,7 @@ fn is_failing(subject: &Subject, p: Pos, region: &Region) -> bool
 // Whether the region names the subject as owner or as member.
 #[tactic(auto, unfolding(crate::specs::Verdict::admits))]
 fn admits(subject: &Subject, region: &Region) -> bool
-    ensures { (n : ℕ) → result ≡ admits subject.now (n, region.now) }
+    ensures { (n : ℕ) → result ≡ admits (actor_of subject.now) (n, region.now) }
 {
     match subject {
         Subject::Player(name) => region.is_owner(name) || region.is_member(name),

@@ -117,16 +117,26 @@ sector_from v p k sizes low box =
     ap (λ b. if b then Some (sector_number v p) else None) inside ∙ ap Some number
 
 -- two positions of one sector have two places
-pub same_place : (v : Sizes) (p q : Pos) (k : ℕ) → AreSizes v → Held v k p → Held v k q → place_in_sector v p ≡ place_in_sector v q → p ≡ q
+pub same_place : (v : Sizes) (p q : Pos) (k : ℕ) → AreSizes v → Held v k p → Held v k q → place_in_sector v p ≡ place_in_sector v q
+    → p ≡ q
 unfolding place_in_sector
 same_place v p q k sizes held_p held_q same =
     let w = span v in
     let wide : 0 < w = omega arith in
-    let sectors = same_number v.sx (unsigned_abs p.x / w) (unsigned_abs p.z / w) (unsigned_abs q.x / w) (unsigned_abs q.z / w) held_p.in_row held_q.in_row (held_p.number ∙ sym held_q.number) in
-    let columns = same_number w (unsigned_abs p.x % w) (unsigned_abs p.z % w + w * unsigned_abs p.y) (unsigned_abs q.x % w) (unsigned_abs q.z % w + w * unsigned_abs q.y) (mod_below _ w wide) (mod_below _ w wide) same in
-    let rows = same_number w (unsigned_abs p.z % w) (unsigned_abs p.y) (unsigned_abs q.z % w) (unsigned_abs q.y) (mod_below _ w wide) (mod_below _ w wide) columns.1 in
-    let in_x = same_from_part w (unsigned_abs p.x) (unsigned_abs q.x) sectors.0 columns.0 in
-    let in_z = same_from_part w (unsigned_abs p.z) (unsigned_abs q.z) sectors.1 rows.0 in
+    let px = unsigned_abs p.x in
+    let py = unsigned_abs p.y in
+    let pz = unsigned_abs p.z in
+    let qx = unsigned_abs q.x in
+    let qy = unsigned_abs q.y in
+    let qz = unsigned_abs q.z in
+    let one_sector = held_p.number ∙ sym held_q.number in
+    let sectors = same_number v.sx (px / w) (pz / w) (qx / w) (qz / w) held_p.in_row held_q.in_row one_sector in
+    let p_rest = pz % w + w * py in
+    let q_rest = qz % w + w * qy in
+    let columns = same_number w (px % w) p_rest (qx % w) q_rest (mod_below px w wide) (mod_below qx w wide) same in
+    let rows = same_number w (pz % w) py (qz % w) qy (mod_below pz w wide) (mod_below qz w wide) columns.1 in
+    let in_x = same_from_part w px qx sectors.0 columns.0 in
+    let in_z = same_from_part w pz qz sectors.1 rows.0 in
     same_pos p q
     (held_p.inside.y_is ∙ ap pos rows.1 ∙ sym held_q.inside.y_is)
     (held_p.inside.z_is ∙ ap pos in_z ∙ sym held_q.inside.z_is)

@@ -1,6 +1,9 @@
 pub mod Neighbor
 pub mod Outline
+pub mod OutlineLaws
 pub mod Polygon
+pub mod SameOutline
 pub mod Sectors
 pub mod ShapeKind
 pub mod Sizes
+pub mod Written

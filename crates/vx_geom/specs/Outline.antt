@@ -1,10 +1,12 @@
-use Rattle.std.specs.Prelude.{ℤ, Bool, ◌&&◌, int_le}
+use Rattle.std.specs.Prelude.{ℕ, ℤ, Bool, ◌&&◌, int_le, nat_le, List, length}
 use Rattle.std.specs.Int.{int_min, int_max}
 use Rattle.vx_geom.specs.declared.pos.Pos.{Pos}
+use Rattle.vx_geom.specs.Polygon.{Column, in_polygon}
 
--- what a shape is: the least and the greatest corner of a cuboid
+-- what a shape is: the least and the greatest corner of a cuboid, or the points of a polygon with its lowest and its highest y
 pub data Outline : Type 0 where
   Cuboid : Pos → Pos → Outline
+  Polygon : List Column → ℤ → ℤ → Outline
 
 -- a ≤ c ≤ b
 abbrev pub is_amid : ℤ → ℤ → ℤ → Bool
@@ -21,6 +23,15 @@ in_cuboid a b p = in_columns a b p && is_amid a.y b.y p.y
 -- the position is in the shape
 unfoldable pub is_in : Outline → Pos → Bool
 is_in (Cuboid a b) p = in_cuboid a b p
+is_in (Polygon points low high) p = is_amid low high p.y && in_polygon points p
+
+-- a polygon has 3 to 64 points
+abbrev pub is_point_count : ℕ → Bool
+is_point_count n = nat_le 3 n && nat_le n 64
+
+-- these points, lowest and highest y make a polygon
+unfoldable pub is_polygon : List Column → ℤ → ℤ → Bool
+is_polygon points low high = is_point_count (length points) && int_le low high
 
 -- the corner with the lesser of each two coordinates
 unfoldable pub lower : Pos → Pos → Pos

@@ -1,4 +1,4 @@
-use Rattle.std.specs.Prelude.{ℕ, ℤ, pos, ◌-◌, ◌%◌, ◌-ℤ◌, ◌*ℤ◌, Bool, false, ◌&&◌, ◌||◌, ◌==◌, int_le, int_lt, List, [], ◌∷◌, length, Option, None, Some, count_by, nat_le}
+use Rattle.std.specs.Prelude.{ℤ, pos, ◌-◌, ◌%◌, ◌-ℤ◌, ◌*ℤ◌, Bool, ◌&&◌, ◌||◌, ◌==◌, int_le, int_lt, List, [], ◌∷◌, length, Option, None, Some, count_by}
 use Rattle.std.specs.List.{list_any, slice_get}
 use Rattle.std.specs.Ordering.{int_eq}
 use Rattle.std.specs.Int.{int_min, int_max}

@@ -67,8 +67,8 @@ impl Bounds {
         is_below(p.y, HEIGHT) && is_below(p.z, u32::from(self.sz) * self.span())
     }
 
-    #[tactic(auto, using(crate::proofs::Signed::signed), unfolding(crate::specs::Sizes::sector_of, crate::specs::Sizes::sector_number))]
     /// The number of the sector that holds the position, row by row from the north west; `None` outside the world.
+    #[tactic(auto, using(crate::proofs::Signed::signed), unfolding(crate::specs::Sizes::sector_of, crate::specs::Sizes::sector_number))]
     pub fn sector_of(&self, p: Pos) -> Option<u32>
         ensures { result ≡ sector_of self.now p }
     {
@@ -87,8 +87,8 @@ impl Bounds {
         self.span() * self.span() * HEIGHT
     }
 
-    #[tactic(auto, using(crate::proofs::Signed::signed), unfolding(crate::specs::Sizes::place_in_sector))]
     /// The place of a position among the cells of its sector.
+    #[tactic(auto, using(crate::proofs::Signed::signed), unfolding(crate::specs::Sizes::place_in_sector))]
     pub fn place_in_sector(&self, p: Pos) -> u32
         requires { is_inside self.now p ≡ true }
         ensures value { result ≡ place_in_sector self.now p }

@@ -1,6 +1,7 @@
 //! Positions, the bounds of a world and its division into sectors, and the shapes of regions.
 #![tactic(auto)]
 
+mod bad_shape;
 mod bounds;
 mod dir;
 mod laws;
@@ -9,6 +10,7 @@ mod pos;
 mod shape;
 mod shape_spec;
 
+pub use bad_shape::BadShape;
 pub use bounds::Bounds;
 pub use dir::Dir;
 pub use laws::{places_differ, sectors_divide};

@@ -72,9 +72,9 @@ fn is_between(a: i32, b: i32, c: i32) -> bool
 fn cross(a: &(i32, i32), b: &(i32, i32), p: &Pos) -> i128
     ensures { result ≡ cross a.now b.now p.now }
 {
-    let south = product(gap(a.0, b.0), gap(a.1, p.z));
-    let east = product(gap(a.1, b.1), gap(a.0, p.x));
-    south - east
+    let first = product(gap(a.0, b.0), gap(a.1, p.z));
+    let second = product(gap(a.1, b.1), gap(a.0, p.x));
+    difference(first, second)
 }
 
 fn gap(from: i32, to: i32) -> i64
@@ -95,4 +95,14 @@ fn product(a: i64, b: i64) -> i128
     ensures high { result ≤ℤ pos (2 ^ 64) }
 {
     i128::from(a) * i128::from(b)
+}
+
+fn difference(a: i128, b: i128) -> i128
+    requires a_low { neg_ℤ (pos (2 ^ 64)) ≤ℤ a }
+    requires a_high { a ≤ℤ pos (2 ^ 64) }
+    requires b_low { neg_ℤ (pos (2 ^ 64)) ≤ℤ b }
+    requires b_high { b ≤ℤ pos (2 ^ 64) }
+    ensures { result ≡ a -ℤ b }
+{
+    a - b
 }

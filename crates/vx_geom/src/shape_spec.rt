@@ -1,7 +1,66 @@
-use crate::pos::Pos;
+ghost use Rattle.std.specs.Prelude.{◌≡◌, IfOk};
+ghost use Rattle.std.specs.Result.{result_ok};
+ghost use Rattle.vx_geom.specs.Written.{written, outline_asked};
 
-/// A shape as an edit or a file names it: two corners of a cuboid, in any order.
+use crate::bad_shape::BadShape;
+use crate::pos::Pos;
+use crate::shape::Shape;
+use std::alloc::{AllocError, Global};
+
+/// A shape as an edit or a file names it, before anything is asked of it.
 #[derive(Debug, Drop)]
 pub enum ShapeSpec {
+    /// Two corners of a cuboid, in any order.
     Cuboid(Pos, Pos),
+    /// The points of a polygon, each an x and a z, with its lowest and its highest y.
+    Poly(Vec<(i32, i32)>, i32, i32),
+}
+
+impl ShapeSpec {
+    /// The shape that is specified. It takes no memory.
+    #[tactic(auto, unfolding(crate::specs::Written::outline_asked))]
+    pub fn shape(self) -> Result<Shape, BadShape>
+        ensures { result_ok result ≡ outline_asked (written self) }
+    {
+        match self {
+            ShapeSpec::Cuboid(a, b) => Ok(Shape::cuboid(a, b)),
+            ShapeSpec::Poly(points, low, high) => Shape::poly(points, low, high),
+        }
+    }
+
+    /// A copy of the specification. It takes memory for a polygon only.
+    pub fn try_clone(&self, alloc: Global) -> Result<ShapeSpec, AllocError>
+        ensures { IfOk result (λ copy. written copy ≡ written self.now) }
+    {
+        match self {
+            ShapeSpec::Cuboid(a, b) => Ok(ShapeSpec::Cuboid(*a, *b)),
+            ShapeSpec::Poly(points, low, high) => {
+                let points = Vec::from_slice(alloc, points)?;
+                Ok(ShapeSpec::Poly(points, *low, *high))
+            }
+        }
+    }
+}
+
+#[cfg(test)]
+mod tests {
+    use super::*;
+    use std::test::Fail;
+
+    #[test]
+    fn a_copy_makes_the_same_shape(rt: HostRuntime) -> Result<(), Fail> {
+        let cuboid = ShapeSpec::Cuboid(Pos::new(3, 1, 4), Pos::new(1, 5, 9));
+        let copy = cuboid.try_clone(rt.alloc())?.shape()?;
+        assert!(rt; copy == Shape::cuboid(Pos::new(1, 1, 4), Pos::new(3, 5, 9)));
+        assert!(rt; copy == cuboid.shape()?);
+        let polygon = ShapeSpec::Poly(
+            Vec::from_slice(rt.alloc(), &[(0, 0), (9, 0), (0, 9)])?,
+            2,
+            6,
+        );
+        let copy = polygon.try_clone(rt.alloc())?.shape()?;
+        assert!(rt; copy.contains(Pos::new(1, 2, 1)));
+        assert!(rt; copy == polygon.shape()?);
+        Ok(())
+    }
 }

@@ -1,8 +1,9 @@
 ghost use Rattle.std.specs.Prelude.{◌≡◌, Some, None, MatchResult};
 ghost use Rattle.vx_region.specs.Words.{read_id};
 
-use crate::word;
+use crate::word::{Alphabet, read_word};
 use arrayvec::ArrayString;
+use std::fmt;
 use thiserror::Error;
 
 /// The id of a region: 1 to 32 letters, digits, `_` or `-`, kept in lower case.
@@ -18,9 +19,14 @@ pub struct BadId;
 
 impl Id {
     /// The id that the text spells, letter case aside.
+    #[tactic(auto, unfolding(crate::specs::Words::read_id))]
     pub fn read(text: &str) -> Result<Id, BadId>
         ensures { MatchResult result (λ id. read_id text.now ≡ Some id.text.bytes) (λ _. read_id text.now ≡ None) }
     {
+        match read_word(text, Alphabet::Id) {
+            Some(text) => Ok(Id { text }),
+            None => Err(BadId),
+        }
     }
 
     /// The id in lower case.
@@ -28,5 +34,31 @@ impl Id {
         ensures { result.now ≡ self.now.text.bytes }
     {
         self.text.as_str()
+    }
+}
+
+impl fmt::Display for Id {
+    ghost output = { λ id. Some id.text.bytes };
+
+    fn fmt<W: fmt::Write>(&self, f: &mut fmt::Formatter<W>) -> fmt::Result {
+        f.pad(self.as_str())
+    }
+}
+
+#[cfg(test)]
+mod tests {
+    use super::*;
+    use std::test::Fail;
+
+    #[test]
+    fn reads_ids(rt: HostRuntime) -> Result<(), Fail> {
+        assert_eq!(rt; Id::read("Spawn-2_x")?.as_str(), "spawn-2_x");
+        assert!(rt; Id::read("abcdefghijklmnopqrstuvwxyz-_1234").is_ok());
+        for text in ["", "abcdefghijklmnopqrstuvwxyz-_12345", "a!b", "é"] {
+            assert_eq!(rt; Id::read(text), Err(BadId), "at {text:?}");
+        }
+        let text = format!(in rt.alloc(); "{} or {}", Id::read("A-1")?, BadId)?;
+        assert_eq!(rt; text.as_str(), "a-1 or bad id");
+        Ok(())
     }
 }

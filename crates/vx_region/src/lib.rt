@@ -2,6 +2,7 @@
 #![tactic(auto)]
 
 mod id;
+mod laws;
 mod name;
 mod region;
 mod region_no;
@@ -10,6 +11,7 @@ mod subject;
 mod word;
 
 pub use id::{BadId, Id};
+pub use laws::{definition_adds_one, each_has_its_number, member_is_added, owner_is_added};
 pub use name::{BadName, Name};
 pub use region::Region;
 pub use region_no::RegionNo;

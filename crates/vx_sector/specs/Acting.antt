@@ -1,17 +1,15 @@
-use Rattle.std.specs.Prelude.{ℕ, Bool, not, if◌then◌else◌, List, [], ◌∷◌, ◌++◌, Option, Some, None, Result, Ok, Err}
+use Rattle.std.specs.Prelude.{ℕ, Bool, true, false, not, if◌then◌else◌, List, [], ◌∷◌, ◌++◌, Option, Some, None, Result, Ok, Err}
 use Rattle.vx_geom.specs.declared.pos.Pos.{Pos}
 use Rattle.vx_block.specs.declared.cell.Cell.{Cell}
 use Rattle.vx_block.specs.declared.cell.Cell.TheVariants.{Air, Bedrock}
-use Rattle.vx_block.specs.Cells.{part_cell, is_same_cell}
+use Rattle.vx_block.specs.Part.{part_cell}
 use Rattle.vx_cells.specs.SectorCells.{SectorCells, holds, cell_at, with_cell}
-use Rattle.vx_region.specs.declared.subject.Subject.{Subject}
-use Rattle.vx_region.specs.declared.subject.Subject.TheVariants.{Player}
+use Rattle.vx_region.specs.Subjects.{Named}
 use Rattle.vx_decide.specs.declared.rule.Rule.{Rule}
 use Rattle.vx_decide.specs.declared.verdict.Verdict.{Verdict}
 use Rattle.vx_decide.specs.declared.verdict.Verdict.TheVariants.{Permit, Deny}
 use Rattle.vx_decide.specs.Verdict.{verdict}
-use Rattle.vx_sector.specs.SectorData.{SectorData}
-use Rattle.vx_sector.specs.declared.seat.Seat.{Seat}
+use Rattle.vx_sector.specs.SectorData.{SectorData, SeatData, EntryData}
 use Rattle.vx_sector.specs.declared.cmd.Cmd.{Cmd}
 use Rattle.vx_sector.specs.declared.cmd.Cmd.TheVariants.{Look, Place, Break}
 use Rattle.vx_sector.specs.declared.reply.Reply.{Reply}
@@ -40,26 +38,41 @@ rule_of (Permit rule) = rule
 rule_of (Deny rule) = rule
 
 -- what the policy says to the player of the seat at the place
-abbrev pub judged : SectorData → Seat → Pos → Verdict
-judged s seat p = verdict (Player seat.name) s.regions p
+abbrev pub judged : SectorData → SeatData → Pos → Verdict
+judged s seat p = verdict (Named seat.name) s.regions p
 
--- the cell is this one
-abbrev pub is_there : SectorData → Pos → Cell → Bool
-is_there s p cell = is_same_cell (cell_at s.cells p) cell
+-- nothing is there
+abbrev pub is_air : Cell → Bool
+is_air Air = true
+is_air _ = false
+
+-- what is there does not break
+abbrev pub is_bedrock : Cell → Bool
+is_bedrock Bedrock = true
+is_bedrock _ = false
+
+-- a value, unless something stands against it
+abbrev pub ok_unless : {X : Type 0} → Option Refusal → X → Result X Refusal
+ok_unless (Some refusal) x = Err refusal
+ok_unless None x = Ok x
+
+-- the rule that permits the player of the seat to act at the place, or the refusal
+unfoldable pub permitted : SectorData → SeatData → Pos → Result Rule Refusal
+permitted s seat p = if holds s.cells p then ok_unless (refuse_denied (judged s seat p)) (rule_of (judged s seat p)) else Err OutOfWorld
 
 -- what stands against a command, in the order in which it is looked for
-abbrev pub objections : SectorData → Seat → Cmd → List (Option Refusal)
+abbrev pub objections : SectorData → SeatData → Cmd → List (Option Refusal)
 objections s seat (Look p) = refuse_if (not (holds s.cells p)) OutOfWorld ∷ []
 objections s seat (Place p part) =
     refuse_if (not (holds s.cells p)) OutOfWorld
     ∷ refuse_denied (judged s seat p)
-    ∷ refuse_if (not (is_there s p Air)) Occupied
+    ∷ refuse_if (not (is_air (cell_at s.cells p))) Occupied
     ∷ []
 objections s seat (Break p) =
     refuse_if (not (holds s.cells p)) OutOfWorld
     ∷ refuse_denied (judged s seat p)
-    ∷ refuse_if (is_there s p Air) Nothing
-    ∷ refuse_if (is_there s p Bedrock) Unbreakable
+    ∷ refuse_if (is_air (cell_at s.cells p)) Nothing
+    ∷ refuse_if (is_bedrock (cell_at s.cells p)) Unbreakable
     ∷ []
 
 -- the first that is there
@@ -69,17 +82,13 @@ first_some (Some x ∷ os) = Some x
 first_some (None ∷ os) = first_some os
 
 -- the answer to a command that nothing stands against
-abbrev pub reply_of : SectorData → Seat → Cmd → Reply
+abbrev pub reply_of : SectorData → SeatData → Cmd → Reply
 reply_of s seat (Look p) = Seen (cell_at s.cells p)
 reply_of s seat (Place p part) = Done (rule_of (judged s seat p))
 reply_of s seat (Break p) = Done (rule_of (judged s seat p))
 
-abbrev pub ok_unless : Option Refusal → Reply → Result Reply Refusal
-ok_unless (Some refusal) reply = Err refusal
-ok_unless None reply = Ok reply
-
 -- the answer that the rules give
-unfoldable pub answer_of : SectorData → Seat → Cmd → Result Reply Refusal
+unfoldable pub answer_of : SectorData → SeatData → Cmd → Result Reply Refusal
 answer_of s seat cmd = ok_unless (first_some (objections s seat cmd)) (reply_of s seat cmd)
 
 -- the cells after a command that was carried out
@@ -88,14 +97,26 @@ cells_after c (Look p) = c
 cells_after c (Place p part) = with_cell c p (part_cell part)
 cells_after c (Break p) = with_cell c p Air
 
--- one more entry in the record
-abbrev pub recorded : SectorData → Seat → Cmd → Result Reply Refusal → SectorData
-recorded s seat cmd answer = record s { entries = s.entries ++ record { seat = seat; cmd = cmd; answer = answer } ∷ [] }
+-- an answer changes the cells where the command was carried out
+abbrev pub cells_by : SectorCells → Cmd → Result Reply Refusal → SectorCells
+cells_by c cmd (Ok reply) = cells_after c cmd
+cells_by c cmd (Err refusal) = c
 
--- the sector after a command and its answer: a command outside it, or one for which memory was wanting, leaves no trace;
--- any other is recorded, and changes the cells where it was carried out
-unfoldable pub sector_after : SectorData → Seat → Cmd → Result Reply Refusal → SectorData
-sector_after s seat cmd (Err OutOfWorld) = s
-sector_after s seat cmd (Err NoMemory) = s
-sector_after s seat cmd (Err refusal) = recorded s seat cmd (Err refusal)
-sector_after s seat cmd (Ok reply) = recorded (record s { cells = cells_after s.cells cmd }) seat cmd (Ok reply)
+-- the command with its answer at the end of the record, and what it does done
+abbrev pub recorded : SectorData → EntryData → SectorData
+recorded s entry = record s { cells = cells_by s.cells entry.cmd entry.answer; entries = s.entries ++ entry ∷ [] }
+
+-- a refusal leaves no trace where the position is not of the sector, or where memory was wanting
+abbrev pub leaves_trace : Refusal → Bool
+leaves_trace OutOfWorld = false
+leaves_trace NoMemory = false
+leaves_trace _ = true
+
+-- an answer is recorded, but for a refusal that leaves no trace
+abbrev pub is_recorded : Result Reply Refusal → Bool
+is_recorded (Ok reply) = true
+is_recorded (Err refusal) = leaves_trace refusal
+
+-- the sector after a command and its answer
+unfoldable pub sector_after : SectorData → SeatData → Cmd → Result Reply Refusal → SectorData
+sector_after s seat cmd answer = if is_recorded answer then recorded s (record { seat = seat; cmd = cmd; answer = answer }) else s

@@ -1,10 +1,33 @@
-use Rattle.std.specs.Prelude.{List}
+use Rattle.std.specs.Prelude.{ℕ, List, Result}
 use Rattle.vx_cells.specs.SectorCells.{SectorCells}
 use Rattle.vx_region.specs.Regions.{Regions}
+use Rattle.vx_sector.specs.declared.cmd.Cmd.{Cmd}
+use Rattle.vx_sector.specs.declared.reply.Reply.{Reply}
+use Rattle.vx_sector.specs.declared.refusal.Refusal.{Refusal}
+use Rattle.vx_sector.specs.declared.seat.Seat.{Seat}
 use Rattle.vx_sector.specs.declared.entry.Entry.{Entry}
+
+-- a seat: its number and its player's name
+pub record SeatData : Type 0 where
+  pub number : ℕ
+  pub name : List ℕ
+
+-- a recorded call: who made it, what it was, and what was answered
+pub record EntryData : Type 0 where
+  pub seat : SeatData
+  pub cmd : Cmd
+  pub answer : Result Reply Refusal
 
 -- a sector: its cells, the regions that judge its commands, and the record of its commands
 pub record SectorData : Type 0 where
   pub cells : SectorCells
   pub regions : Regions
-  pub entries : List Entry
+  pub entries : List EntryData
+
+-- what a seat is
+abbrev pub seat_of : Seat → SeatData
+seat_of seat = record { number = seat.number; name = seat.name.text.bytes }
+
+-- what an entry of the record says
+abbrev pub entry_of : Entry → EntryData
+entry_of entry = record { seat = seat_of entry.seat; cmd = entry.cmd; answer = entry.answer }

@@ -1,4 +1,4 @@
-ghost use Rattle.std.specs.Prelude.{◌≡◌, Some};
+ghost use Rattle.std.specs.Prelude.{Some};
 
 use std::error::Error;
 use std::fmt;
@@ -19,24 +19,6 @@ pub enum Refusal {
     Unbreakable,
     /// There is no memory for the record; nothing was done and nothing recorded.
     NoMemory,
-}
-
-impl Refusal {
-    ghost use Rattle.vx_sector.specs.Texts.{refusal_number, refusal_words};
-
-    /// The number of the refusal.
-    pub fn number(self) -> u8
-        ensures { result ≡ refusal_number self }
-    {
-        match self {
-            Refusal::OutOfWorld => 1,
-            Refusal::Denied(_) => 2,
-            Refusal::Occupied => 3,
-            Refusal::Nothing => 4,
-            Refusal::Unbreakable => 9,
-            Refusal::NoMemory => 14,
-        }
-    }
 }
 
 impl fmt::Display for Refusal {

@@ -1,4 +1,6 @@
-ghost use Rattle.std.specs.Prelude.{◌≡◌, ◌⊎◌, Err};
+ghost use Rattle.std.specs.Prelude.{◌≡◌, ◌⊎◌, true, is_ok, Err, IfErr, OnOk, OnErr};
+ghost use Rattle.vx_cells.specs.SectorCells.{holds};
+ghost use Rattle.vx_sector.specs.Acting.{place_of, cells_after, is_recorded, is_air, is_bedrock};
 
 use crate::cmd::Cmd;
 use crate::entry::Entry;
@@ -22,16 +24,18 @@ pub struct Sector {
 }
 
 impl Model for Sector {
-    ghost use Rattle.vx_sector.specs.SectorData.{SectorData};
+    ghost use Rattle.std.specs.Prelude.{map};
+    ghost use Rattle.vx_sector.specs.SectorData.{SectorData, entry_of};
 
     ghost Value = { SectorData };
 
-    ghost view = { λ a. record { cells = a.cells; regions = a.regions; entries = a.entries.items } };
+    ghost view = { λ a. record { cells = a.cells; regions = a.regions; entries = map entry_of a.entries.items } };
 }
 
 impl Sector {
-    ghost use Rattle.std.specs.Prelude.{[]};
-    ghost use Rattle.vx_sector.specs.Acting.{answer_of, sector_after};
+    ghost use Rattle.std.specs.Prelude.{[], map};
+    ghost use Rattle.vx_sector.specs.SectorData.{seat_of, entry_of};
+    ghost use Rattle.vx_sector.specs.Acting.{place_of, permitted, answer_of, recorded, sector_after};
 
     /// A sector with these cells, judged by these regions, and nothing recorded.
     pub fn new(alloc: Global, cells: Cells, regions: RegionSet) -> Sector
@@ -46,17 +50,119 @@ impl Sector {
 
     /// The record, oldest first.
     pub fn entries(&self) -> &[Entry]
-        ensures { result.now ≡ self.now.entries }
+        ensures { map entry_of result.now ≡ self.now.entries }
     {
         &self.entries
     }
 
+    #[tactic(auto, unfolding(crate::specs::Acting::sector_after))]
     /// Carries out a command and records it with its answer, or refuses it by the first cause that stands against it.
     /// A refusal leaves the cells as they were; one for a position outside the sector or for want of memory is not recorded.
     pub fn act(&mut self, seat: Seat, cmd: Cmd) -> Result<Reply, Refusal>
-        ensures answer { (result ≡ answer_of self.old seat cmd) ⊎ (result ≡ Err Refusal.NoMemory) }
-        ensures after { self.new ≡ sector_after self.old seat cmd result }
+        ensures answer { (result ≡ answer_of self.old (seat_of seat) cmd) ⊎ (result ≡ Err Refusal.NoMemory) }
+        ensures after { self.new ≡ sector_after self.old (seat_of seat) cmd result }
     {
-        todo
+        let answer = self.answer(&seat, &cmd);
+        if !is_recorded(&answer) {
+            return answer;
+        }
+        self.record(Entry { seat, cmd, answer })?;
+        answer
     }
+
+    // Does what the command does where it was carried out, and puts it at the end of the record.
+    fn record(&mut self, entry: Entry) -> Result<(), Refusal>
+        requires { is_ok entry.answer ≡ true → holds self.old.cells (place_of entry.cmd) ≡ true }
+        ensures ok { OnOk result (self.new ≡ recorded self.old (entry_of entry)) }
+        ensures err { OnErr result (self.new ≡ self.old) }
+        ensures memory { IfErr result (λ refusal. refusal ≡ Refusal.NoMemory) }
+    {
+        self.entries.reserve(1).map_err(|_| Refusal::NoMemory)?;
+        if entry.answer.is_ok() {
+            change(&mut self.cells, &entry.cmd);
+        }
+        self.entries.push_reserved(entry);
+        Ok(())
+    }
+
+    // The answer that the rules give.
+    #[tactic(auto, unfolding(crate::specs::Acting::answer_of, crate::specs::Acting::permitted))]
+    fn answer(&self, seat: &Seat, cmd: &Cmd) -> Result<Reply, Refusal>
+        ensures { result ≡ answer_of self.now (seat_of seat.now) cmd.now }
+    {
+        match cmd {
+            Cmd::Look(p) => {
+                if !self.cells.holds(*p) {
+                    return Err(Refusal::OutOfWorld);
+                }
+                Ok(Reply::Seen(self.cells.get(*p)))
+            }
+            Cmd::Place(p, _) => {
+                let rule = self.permitted(seat, *p)?;
+                if !is_air(self.cells.get(*p)) {
+                    return Err(Refusal::Occupied);
+                }
+                Ok(Reply::Done(rule))
+            }
+            Cmd::Break(p) => {
+                let rule = self.permitted(seat, *p)?;
+                let cell = self.cells.get(*p);
+                if is_air(cell) {
+                    return Err(Refusal::Nothing);
+                }
+                if is_bedrock(cell) {
+                    return Err(Refusal::Unbreakable);
+                }
+                Ok(Reply::Done(rule))
+            }
+        }
+    }
+
+    // The rule that permits the player of the seat to act at the place.
+    #[tactic(auto, unfolding(crate::specs::Acting::permitted))]
+    fn permitted(&self, seat: &Seat, p: Pos) -> Result<Rule, Refusal>
+        ensures rule { result ≡ permitted self.now (seat_of seat.now) p }
+        ensures held { OnOk result (holds self.now.cells p ≡ true) }
+    {
+        if !self.cells.holds(p) {
+            return Err(Refusal::OutOfWorld);
+        }
+        match Plain::new(&self.regions).decide(&Subject::Player(seat.name), p) {
+            Verdict::Permit(rule) => Ok(rule),
+            Verdict::Deny(rule) => Err(Refusal::Denied(rule)),
+        }
+    }
+}
+
+// What the command does to the cells.
+fn change(cells: &mut Cells, cmd: &Cmd)
+    requires { holds cells.old (place_of cmd.now) ≡ true }
+    ensures { cells.new ≡ cells_after cells.old cmd.now }
+{
+    match cmd {
+        Cmd::Look(_) => {}
+        Cmd::Place(p, part) => cells.set(*p, part.cell()),
+        Cmd::Break(p) => cells.set(*p, Cell::Air),
+    }
+}
+
+// Whether a command with this answer is recorded.
+fn is_recorded(answer: &Result<Reply, Refusal>) -> bool
+    ensures { result ≡ is_recorded answer.now }
+{
+    !matches!(answer, Err(Refusal::OutOfWorld | Refusal::NoMemory))
+}
+
+// Whether nothing is there.
+fn is_air(cell: Cell) -> bool
+    ensures { result ≡ is_air cell }
+{
+    matches!(cell, Cell::Air)
+}
+
+// Whether what is there does not break.
+fn is_bedrock(cell: Cell) -> bool
+    ensures { result ≡ is_bedrock cell }
+{
+    matches!(cell, Cell::Bedrock)
 }

@@ -1,2 +1,5 @@
+pub mod Lines
 pub mod Numbers
+pub mod Readings
+pub mod ScriptLines
 pub mod Words

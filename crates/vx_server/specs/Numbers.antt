@@ -1,4 +1,4 @@
-use Rattle.std.specs.Prelude.{ℕ, ℤ, pos, neg_ℤ, ◌+◌, ◌-◌, ◌*◌, ◌^◌, Bool, ◌&&◌, ◌==◌, if◌then◌else◌, int_le, nat_lt, nat_eq, not, List, length, drop, slice_index, Option, Some, None, option_map, option_and_then}
+use Rattle.std.specs.Prelude.{ℕ, ℤ, pos, negsuc, neg_ℤ, ◌-◌, ◌^◌, ◌&&◌, ◌==◌, if◌then◌else◌, int_le, nat_le, not, List, length, drop, slice_index, Option, Some, None, option_map, option_and_then}
 use Rattle.std.specs.Str.{all_ascii_digits}
 use Rattle.std.specs.Str.Parse.{digits_value}
 
@@ -17,3 +17,12 @@ within low high n = if int_le low n && int_le n high then Some n else None
 -- a number of 32 bits with a sign
 unfoldable pub i32_of : List ℕ → Option ℤ
 i32_of text = option_and_then (within (neg_ℤ (pos (2 ^ 31))) (pos (2 ^ 31 - 1))) (number_of text)
+
+-- a number, where it is not below 0 and at most this one
+abbrev pub natural_within : ℕ → ℤ → Option ℕ
+natural_within high (pos n) = if nat_le n high then Some n else None
+natural_within high (negsuc n) = None
+
+-- a number of 8 bits without a sign
+unfoldable pub u8_of : List ℕ → Option ℕ
+u8_of text = option_and_then (natural_within 255) (number_of text)

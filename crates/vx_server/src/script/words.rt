@@ -1,7 +1,6 @@
 ghost use Rattle.std.specs.Prelude.{◌≡◌, [], ◌∷◌, MatchOption};
 
 use std::marker::Model;
-use std::mem;
 
 /// The words of a line that are left to read. Words are separated by one or more spaces.
 #[derive(Drop)]
@@ -39,7 +38,8 @@ impl<'a> Words<'a> {
                 return Some(piece);
             }
         }
-        let last = mem::replace(&mut self.rest, "");
+        let last = self.rest;
+        self.rest = "";
         if last.is_empty() { None } else { Some(last) }
     }
 }

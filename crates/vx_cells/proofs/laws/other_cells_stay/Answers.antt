@@ -1,16 +1,5 @@
-use Rattle.std.proofs.lemmas.List.{get_or-set_other}
-use Rattle.vx_block.specs.declared.cell.Cell.TheVariants.{Air}
-use Rattle.vx_geom.specs.Sizes.{place_in_sector}
-use Rattle.vx_geom.proofs.SectorLemmas.{held_at, same_place}
-use Rattle.vx_cells.specs.SectorCells.{cell_at, with_cell}
-use Rattle.vx_cells.proofs.Places.{sector_at}
+use Rattle.vx_cells.proofs.CellLaws.{other_cells_stay}
 use Rattle.vx_cells.proofs.laws.other_cells_stay.Goals as goal
 
 pub returns : goal.returns
-unfolding cell_at with_cell
-returns c =
-    λ cells p q cell sizes held_p held_q differ.
-        let at_p = held_at cells.bounds p cells.sector sizes (sector_at cells p held_p) in
-        let at_q = held_at cells.bounds q cells.sector sizes (sector_at cells q held_q) in
-        get_or-set_other cells.cells (place_in_sector cells.bounds p) (place_in_sector cells.bounds q) cell Air
-        (λ same. differ (same_place cells.bounds q p cells.sector sizes at_q at_p same))
+returns c = other_cells_stay

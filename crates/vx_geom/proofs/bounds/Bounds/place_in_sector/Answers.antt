@@ -1,4 +1,4 @@
-use Rattle.std.proofs.Common.{◌<◌, arith}
+use Rattle.std.proofs.Common.{arith}
 use Rattle.std.proofs.lemmas.Int.{ints}
 use Rattle.vx_geom.proofs.SectorLemmas.{inside_at}
 use Rattle.vx_geom.proofs.bounds.Bounds.place_in_sector.Goals as goal

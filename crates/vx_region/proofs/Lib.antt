@@ -1,0 +1,4 @@
+pub mod Changes
+pub mod Lookups
+pub mod NameLemmas
+pub mod Numbers

@@ -1,0 +1,76 @@
+-- What a look-up by number finds, before and after a change.
+use Rattle.std.proofs.Common.{◌≡◌, ◌≢◌, ℕ, ◌<◌, Bool, true, false, cond, nat_eq, if◌then◌else◌, List, [], ◌∷◌, ◌++◌, find, Option, None, Some, IsSome, option_map, slice_get, MutBor, refl, ap, sym, ◌∙◌, subst}
+use Rattle.std.specs.Cmp.{nat_eq_equiv}
+use Rattle.std.specs.List.{AllByRecursion, IsDistinct}
+use Rattle.std.specs.Option.{option_copied_mut}
+use Rattle.std.specs.Map.{lookup, set_value, keys_of}
+use Rattle.std.proofs.lemmas.Map.Entries.{lookup_from_place}
+use Rattle.std.proofs.lemmas.Map.Keys.{IsDistinct-head, IsDistinct-tail}
+use Rattle.std.proofs.lemmas.Map.Steps.{set_value_same}
+use borrow.Author.Tests.{eqb-true}
+use Rattle.vx_region.specs.Regions.{RegionData, Entry, Regions, IsBelow, IsNumbered, region_at, changed_at}
+use Rattle.vx_region.proofs.Numbers.{find_above, distinct_numbers}
+
+-- a look-up as the map makes it is one as the definitions make it
+pub lookup_is : (n : ℕ) (es : List Entry) → lookup (nat_eq n) es ≡ option_map (λ e. e.1) (find (λ e. nat_eq n e.0) es)
+lookup_is n [] = refl
+lookup_is n (e ∷ es) = by (nat_eq n e.0) (lookup_is n es)
+  where
+    by : (b : Bool) → lookup (nat_eq n) es ≡ option_map (λ (d : Entry). d.1) (find (λ d. nat_eq n d.0) es)
+        → cond b (Some e.1) (lookup (nat_eq n) es) ≡ option_map (λ (d : Entry). d.1) (cond b (Some e) (find (λ d. nat_eq n d.0) es))
+    by true rest = refl
+    by false rest = rest
+
+-- the map finds nothing at a number above all
+pub lookup_above : (m n : ℕ) (es : List Entry) → IsBelow m es → m < n → lookup (nat_eq n) es ≡ None
+lookup_above m n es below high = lookup_is n es ∙ ap (option_map (λ (e : Entry). e.1)) (find_above m n es below high)
+
+-- a number that has a region is one that the map finds
+pub found_from_known : (n : ℕ) (rs : Regions) → IsSome (region_at rs n) → IsSome (lookup (nat_eq n) rs.entries)
+unfolding region_at
+found_from_known n rs known = rw (lookup_is n rs.entries) known
+
+-- a reference was found where what it refers to was
+pub some_reference : {X : Type 0} (o : Option (MutBor X)) → IsSome (option_copied_mut o) → IsSome o
+some_reference None there = there
+some_reference (Some x) there = refl
+
+-- the region at a place is the one of the number there
+pub region_at_place : (rs : Regions) (i n : ℕ) (r : RegionData) → IsNumbered rs → slice_get rs.entries i ≡ Some (n, r) → region_at rs n ≡ Some r
+unfolding region_at
+region_at_place rs i n r numbered there =
+    sym (lookup_is n rs.entries) ∙ lookup_from_place nat_eq_equiv rs.entries i n r (distinct_numbers 0 rs.entries numbered.ascending) there
+
+-- where no entry has the number, nothing changes
+changed_none : (change : RegionData → RegionData) (n : ℕ) (es : List Entry) → AllByRecursion (λ k. nat_eq n k ≡ false) (keys_of es) → changed_at change n es ≡ es
+changed_none change n [] none = refl
+changed_none change n (e ∷ es) none =
+    ap (λ b. (if b then (e.0, change e.1) else e) ∷ changed_at change n es) none.0 ∙ ap (λ ds. e ∷ ds) (changed_none change n es none.1)
+
+-- the changed region written over the one that the look-up found
+changed_by_write : (change : RegionData → RegionData) (n : ℕ) (es : List Entry) (r : RegionData) → IsDistinct nat_eq (keys_of es)
+    → lookup (nat_eq n) es ≡ Some r → set_value (nat_eq n) es (change r) ≡ changed_at change n es
+changed_by_write change n [] r distinct there = refl
+changed_by_write change n (e ∷ es) r distinct there =
+    by (nat_eq n e.0) refl (changed_by_write change n es r (IsDistinct-tail nat_eq e.0 (keys_of es) distinct))
+  where
+    by : (b : Bool) → nat_eq n e.0 ≡ b → (lookup (nat_eq n) es ≡ Some r → set_value (nat_eq n) es (change r) ≡ changed_at change n es)
+        → cond b ((e.0, change r) ∷ es) (e ∷ set_value (nat_eq n) es (change r)) ≡ (if b then (e.0, change e.1) else e) ∷ changed_at change n es
+    by true is rest =
+        let found : Some e.1 ≡ Some r = sym (ap (λ b. cond b (Some e.1) (lookup (nat_eq n) es)) is) ∙ there in
+        let same : e.1 ≡ r = cc in
+        let none = subst (λ k. AllByRecursion (λ d. nat_eq k d ≡ false) (keys_of es)) (sym (eqb-true n e.0 is)) (IsDistinct-head nat_eq e.0 (keys_of es) distinct) in
+        ap (λ d. (e.0, change d) ∷ es) (sym same) ∙ ap (λ ds. (e.0, change e.1) ∷ ds) (sym (changed_none change n es none))
+    by false is rest =
+        ap (λ ds. e ∷ ds) (rest (sym (ap (λ b. cond b (Some e.1) (lookup (nat_eq n) es)) is) ∙ there))
+
+-- the entries after the region that the look-up found was changed where it stands
+pub written_over : (change : RegionData → RegionData) (n : ℕ) (es fs : List Entry) (r w : RegionData) → IsDistinct nat_eq (keys_of es)
+    → lookup (nat_eq n) es ≡ Some r → fs ≡ set_value (nat_eq n) es w → w ≡ change r → fs ≡ changed_at change n es
+written_over change n es fs r w distinct there written same =
+    written ∙ ap (set_value (nat_eq n) es) same ∙ changed_by_write change n es r distinct there
+
+-- the same where it was left as it was
+pub written_back : (n : ℕ) (es fs : List Entry) (r w : RegionData) → lookup (nat_eq n) es ≡ Some r → fs ≡ set_value (nat_eq n) es w → w ≡ r → fs ≡ es
+written_back n es fs r w there written same =
+    written ∙ ap (set_value (nat_eq n) es) same ∙ set_value_same (nat_eq n) es r there

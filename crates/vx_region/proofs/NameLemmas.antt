@@ -1,0 +1,52 @@
+-- Names as the texts that clauses see.
+use Rattle.std.proofs.Common.{◌≡◌, ℕ, Bool, true, false, ◌||◌, if◌then◌else◌, List, [], ◌∷◌, ◌++◌, map, bytes_eq, inl, inr, refl, ap, sym, ◌∙◌, subst}
+use Rattle.std.proofs.Math.Bool.{or-false, or-true}
+use Rattle.std.proofs.lemmas.Bool.{or_cases}
+use Rattle.std.proofs.lemmas.List.Folds.{list_any-append}
+use Rattle.std.proofs.lemmas.Slice.Eq.{bytes_eq-Decides}
+use Rattle.std.specs.List.{list_any}
+use Rattle.indexmap.specs.IndexSet.{insert_key}
+use Rattle.vx_region.specs.declared.name.Name.{Name}
+use Rattle.vx_region.specs.Regions.{names, with_name}
+use Rattle.vx_region.specs.Laws.{NamesOneMore}
+use Rattle.vx_region.specs.Texts.{texts}
+
+-- two names are the same where their texts are
+abbrev same_name : Name → Name → Bool
+same_name a b = bytes_eq a.text.bytes b.text.bytes
+
+-- a name is among others where its text is among theirs
+pub names_texts : (ns : List Name) (n : Name) → names (texts ns) n.text.bytes ≡ list_any (λ k. bytes_eq n.text.bytes k.text.bytes) ns
+names_texts [] n = refl
+names_texts (k ∷ ns) n = ap (λ b. bytes_eq n.text.bytes k.text.bytes || b) (names_texts ns n)
+
+texts_push : (ns : List Name) (n : Name) → texts (ns ++ n ∷ []) ≡ texts ns ++ n.text.bytes ∷ []
+texts_push [] n = refl
+texts_push (k ∷ ns) n = ap (λ ts. k.text.bytes ∷ ts) (texts_push ns n)
+
+-- the texts after a name is put among others
+pub texts_insert_key : (ns : List Name) (n : Name) → texts (insert_key same_name ns n) ≡ with_name (texts ns) n.text.bytes
+texts_insert_key ns n =
+    by (list_any (same_name n) ns) ∙ ap (λ b. if b then texts ns else texts ns ++ n.text.bytes ∷ []) (sym (names_texts ns n))
+  where
+    by : (b : Bool) → texts (if b then ns else ns ++ n ∷ []) ≡ (if b then texts ns else texts ns ++ n.text.bytes ∷ [])
+    by true = refl
+    by false = texts_push ns n
+
+-- a name put among others adds that one and no other
+pub names_one_more : (ts : List (List ℕ)) (name : List ℕ) → NamesOneMore ts name (with_name ts name)
+names_one_more ts name = by (names ts name) refl
+  where
+    by : (b : Bool) → names ts name ≡ b → NamesOneMore ts name (if b then ts else ts ++ name ∷ [])
+    by true there other = (λ h. inl h, λ s. elim s [ inl h ↦ h | inr same ↦ subst (λ t. names ts t ≡ true) (sym same) there ])
+    by false free other =
+        let all = list_any-append (bytes_eq other) ts (name ∷ []) in (
+          λ h. elim (or_cases (names ts other) (names (name ∷ []) other) (sym all ∙ h)) [
+            | inl was ↦ inl was
+            | inr is ↦ inr ((bytes_eq-Decides other name).0 (sym (or-false (bytes_eq other name)) ∙ is))
+          ],
+          λ s. elim s [
+            | inl h ↦ all ∙ ap (λ b. b || names (name ∷ []) other) h
+            | inr same ↦ all ∙ ap (λ b. names ts other || (b || false)) ((bytes_eq-Decides other name).1 same) ∙ or-true (names ts other)
+          ],
+        )

@@ -1,0 +1,26 @@
+ghost use Rattle.vx_region.specs.Laws.{EachHasItsNumber, DefinedIsFresh, DefinitionKeepsOthers, DefinedIsFound, DefinitionKeepsIds, OwnerIsAdded, OwnerKeepsOthers, MemberIsAdded, MemberKeepsOthers};
+
+/// The region at a place in order of number is the region of the number there.
+pub fn each_has_its_number()
+    ensures { EachHasItsNumber }
+{}
+
+/// A definition adds one region, under a new number and a free id, and changes no other.
+pub fn definition_adds_one()
+    ensures fresh { DefinedIsFresh }
+    ensures others { DefinitionKeepsOthers }
+    ensures found { DefinedIsFound }
+    ensures ids { DefinitionKeepsIds }
+{}
+
+/// Naming an owner adds that one owner to that one region.
+pub fn owner_is_added()
+    ensures added { OwnerIsAdded }
+    ensures others { OwnerKeepsOthers }
+{}
+
+/// Naming a member adds that one member to that one region.
+pub fn member_is_added()
+    ensures added { MemberIsAdded }
+    ensures others { MemberKeepsOthers }
+{}

@@ -1,0 +1,67 @@
+ghost use Rattle.std.specs.Prelude.{◌≡◌, Some, None, MatchResult};
+ghost use Rattle.vx_region.specs.Words.{read_name};
+
+use crate::word::{Alphabet, read_word};
+use arrayvec::ArrayString;
+use std::fmt;
+use thiserror::Error;
+
+/// The name of a player: 1 to 16 letters, digits or `_`, kept in lower case.
+#[derive(Clone, Copy, Debug, PartialEq, Eq, Hash)]
+pub struct Name {
+    text: ArrayString<16>,
+}
+
+/// The text spells no name.
+#[derive(Clone, Copy, Debug, PartialEq, Eq, Error)]
+#[error("bad name")]
+pub struct BadName;
+
+impl Name {
+    /// The name that the text spells, letter case aside.
+    #[tactic(auto, unfolding(crate::specs::Words::read_name))]
+    pub fn read(text: &str) -> Result<Name, BadName>
+        ensures { MatchResult result (λ name. read_name text.now ≡ Some name.text.bytes) (λ _. read_name text.now ≡ None) }
+    {
+        match read_word(text, Alphabet::Name) {
+            Some(text) => Ok(Name { text }),
+            None => Err(BadName),
+        }
+    }
+
+    /// The name in lower case.
+    pub fn as_str(&self) -> &str
+        ensures { result.now ≡ self.now.text.bytes }
+    {
+        self.text.as_str()
+    }
+}
+
+impl fmt::Display for Name {
+    ghost output = { λ name. Some name.text.bytes };
+
+    fn fmt<W: fmt::Write>(&self, f: &mut fmt::Formatter<W>) -> fmt::Result {
+        f.pad(self.as_str())
+    }
+}
+
+#[cfg(test)]
+mod tests {
+    use super::*;
+    use std::test::Fail;
+
+    #[test]
+    fn reads_names(rt: HostRuntime) -> Result<(), Fail> {
+        assert_eq!(rt; Name::read("Ann")?.as_str(), "ann");
+        assert_eq!(rt;
+            Name::read("ABCDEFGHIJ_12345")?.as_str(),
+            "abcdefghij_12345"
+        );
+        for text in ["", "abcdefghij_123456", "no-name", "a b", "é"] {
+            assert_eq!(rt; Name::read(text), Err(BadName), "at {text:?}");
+        }
+        let text = format!(in rt.alloc(); "{} or {}", Name::read("Bob")?, BadName)?;
+        assert_eq!(rt; text.as_str(), "bob or bad name");
+        Ok(())
+    }
+}

@@ -1,0 +1,90 @@
+ghost use Rattle.std.specs.Prelude.{◌≡◌, OnOk, OnErr};
+ghost use Rattle.vx_geom.specs.Outline.{is_in};
+ghost use Rattle.vx_region.specs.Regions.{names, with_name, fresh_region};
+
+use crate::id::Id;
+use crate::name::Name;
+use indexmap::IndexSet;
+use std::alloc::{AllocError, Global};
+use std::marker::Model;
+use vx_geom::{Pos, Shape};
+
+/// A region: where it lies, and who its owners and its members are.
+#[derive(Debug, Drop)]
+pub struct Region {
+    id: Id,
+    shape: Shape,
+    owners: IndexSet<Name>,
+    members: IndexSet<Name>,
+}
+
+impl Model for Region {
+    ghost use Rattle.vx_region.specs.Regions.{RegionData};
+    ghost use Rattle.vx_region.specs.Texts.{texts};
+
+    ghost Value = { RegionData };
+
+    ghost view = { λ a. record { id = a.id.text.bytes; shape = a.shape; owners = texts a.owners.keys; members = texts a.members.keys } };
+}
+
+impl Region {
+    /// A region that nobody owns.
+    pub(crate) fn new(alloc: Global, id: Id, shape: Shape) -> Region
+        ensures { result ≡ fresh_region id.text.bytes shape }
+    {
+        Region {
+            id,
+            shape,
+            owners: IndexSet::new(alloc),
+            members: IndexSet::new(alloc),
+        }
+    }
+
+    /// The id that it was defined with.
+    pub fn id(&self) -> &Id
+        ensures { result.now.text.bytes ≡ self.now.id }
+    {
+        &self.id
+    }
+
+    /// Whether the position is in the region.
+    pub fn contains(&self, p: Pos) -> bool
+        ensures { result ≡ is_in self.now.shape p }
+    {
+        self.shape.contains(p)
+    }
+
+    /// Whether this player is named as an owner.
+    #[tactic(auto, using(crate::proofs::NameLemmas::names_texts))]
+    pub fn is_owner(&self, name: &Name) -> bool
+        ensures { result ≡ names self.now.owners name.now.text.bytes }
+    {
+        self.owners.contains(name)
+    }
+
+    /// Whether this player is named as a member.
+    #[tactic(auto, using(crate::proofs::NameLemmas::names_texts))]
+    pub fn is_member(&self, name: &Name) -> bool
+        ensures { result ≡ names self.now.members name.now.text.bytes }
+    {
+        self.members.contains(name)
+    }
+
+    /// Names an owner; one that is named already stays named once.
+    pub(crate) fn add_owner(&mut self, name: Name) -> Result<(), AllocError>
+        ensures ok { OnOk result (self.new ≡ record self.old { owners = with_name self.old.owners name.text.bytes }) }
+        ensures err { OnErr result (self.new ≡ self.old) }
+    {
+        let _added = self.owners.insert(name)?;
+        Ok(())
+    }
+
+    /// Names a member; one that is named already stays named once.
+    pub(crate) fn add_member(&mut self, name: Name) -> Result<(), AllocError>
+        ensures ok { OnOk result (self.new ≡ record self.old { members = with_name self.old.members name.text.bytes }) }
+        ensures err { OnErr result (self.new ≡ self.old) }
+    {
+        let _added = self.members.insert(name)?;
+        Ok(())
+    }
+}

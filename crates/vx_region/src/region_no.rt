@@ -1,0 +1,3 @@
+/// The number of a region. The first region that is defined has number 1, each further one the next number.
+#[derive(Clone, Copy, Debug, PartialEq, Eq, PartialOrd, Ord, Hash)]
+pub struct RegionNo(pub u32);

@@ -1,0 +1,7 @@
+use crate::name::Name;
+
+/// Who acts.
+#[derive(Clone, Copy, Debug, PartialEq, Eq)]
+pub enum Subject {
+    Player(Name),
+}

@@ -1,0 +1,4 @@
+pub mod Cuts
+pub mod Feeds
+pub mod Spelled
+pub mod Taking

@@ -1,0 +1,17 @@
+use thiserror::Error;
+
+/// Why a run ended before its script did. docs/FORMATS.md has the table of numbers, words and statuses.
+#[derive(Clone, Copy, Debug, PartialEq, Eq, Error)]
+pub enum Fault {
+    #[error("fault 14 memory")]
+    NoMemory,
+    #[error("fault 29 players")]
+    TooManyPlayers,
+    /// The line of this number, counted from 1, is none of the lines that may stand there.
+    #[error("fault 40 line {0}")]
+    Syntax(u32),
+    #[error("fault 42 read")]
+    ReadFailed,
+    #[error("fault 43 write")]
+    WriteFailed,
+}

@@ -1,0 +1,19 @@
+use vx_block::Part;
+use vx_geom::{Bounds, Pos};
+use vx_region::Name;
+use vx_sector::Cmd;
+
+/// What a line of a script says. docs/FORMATS.md has the table of the lines.
+#[derive(Clone, Copy, Debug)]
+pub enum Line {
+    /// A blank line or a comment.
+    Skipped,
+    /// The size of the world.
+    World(Bounds),
+    /// A player, who gets the next seat.
+    Player(Name),
+    /// A cell of the world as it opens.
+    Set(Pos, Part),
+    /// A command of the player of that name.
+    As(Name, Cmd),
+}

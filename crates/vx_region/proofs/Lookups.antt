@@ -1,5 +1,5 @@
 -- What a look-up by number finds, before and after a change.
-use Rattle.std.proofs.Common.{◌≡◌, ◌≢◌, ℕ, ◌<◌, Bool, true, false, cond, nat_eq, if◌then◌else◌, List, [], ◌∷◌, ◌++◌, find, Option, None, Some, IsSome, option_map, slice_get, MutBor, refl, ap, sym, ◌∙◌, subst}
+use Rattle.std.proofs.Common.{◌≡◌, ℕ, ◌<◌, Bool, true, false, cond, nat_eq, if◌then◌else◌, List, [], ◌∷◌, find, Option, None, Some, IsSome, option_map, slice_get, MutBor, refl, ap, sym, ◌∙◌, subst}
 use Rattle.std.specs.Cmp.{nat_eq_equiv}
 use Rattle.std.specs.List.{AllByRecursion, IsDistinct}
 use Rattle.std.specs.Option.{option_copied_mut}
@@ -10,6 +10,9 @@ use Rattle.std.proofs.lemmas.Map.Steps.{set_value_same}
 use borrow.Author.Tests.{eqb-true}
 use Rattle.vx_region.specs.Regions.{RegionData, Entry, Regions, IsBelow, IsNumbered, region_at, changed_at}
 use Rattle.vx_region.proofs.Numbers.{find_above, distinct_numbers}
+
+abbrev regions : ℕ → List Entry → Regions
+regions last es = record { last = last; entries = es }
 
 -- a look-up as the map makes it is one as the definitions make it
 pub lookup_is : (n : ℕ) (es : List Entry) → lookup (nat_eq n) es ≡ option_map (λ e. e.1) (find (λ e. nat_eq n e.0) es)
@@ -25,15 +28,16 @@ lookup_is n (e ∷ es) = by (nat_eq n e.0) (lookup_is n es)
 pub lookup_above : (m n : ℕ) (es : List Entry) → IsBelow m es → m < n → lookup (nat_eq n) es ≡ None
 lookup_above m n es below high = lookup_is n es ∙ ap (option_map (λ (e : Entry). e.1)) (find_above m n es below high)
 
--- a number that has a region is one that the map finds
-pub found_from_known : (n : ℕ) (rs : Regions) → IsSome (region_at rs n) → IsSome (lookup (nat_eq n) rs.entries)
-unfolding region_at
-found_from_known n rs known = rw (lookup_is n rs.entries) known
-
 -- a reference was found where what it refers to was
-pub some_reference : {X : Type 0} (o : Option (MutBor X)) → IsSome (option_copied_mut o) → IsSome o
+some_reference : {X : Type 0} (o : Option (MutBor X)) → IsSome (option_copied_mut o) → IsSome o
 some_reference None there = there
 some_reference (Some x) there = refl
+
+-- the map lends the region of a number that has one
+pub lent_from_known : (n last : ℕ) (es : List Entry) (lent : Option (MutBor RegionData)) → IsSome (region_at (regions last es) n)
+    → option_copied_mut lent ≡ lookup (nat_eq n) es → IsSome lent
+unfolding region_at
+lent_from_known n last es lent known found = some_reference lent (rw (found, lookup_is n es) known)
 
 -- the region at a place is the one of the number there
 pub region_at_place : (rs : Regions) (i n : ℕ) (r : RegionData) → IsNumbered rs → slice_get rs.entries i ≡ Some (n, r) → region_at rs n ≡ Some r
@@ -64,13 +68,15 @@ changed_by_write change n (e ∷ es) r distinct there =
     by false is rest =
         ap (λ ds. e ∷ ds) (rest (sym (ap (λ b. cond b (Some e.1) (lookup (nat_eq n) es)) is) ∙ there))
 
--- the entries after the region that the look-up found was changed where it stands
-pub written_over : (change : RegionData → RegionData) (n : ℕ) (es fs : List Entry) (r w : RegionData) → IsDistinct nat_eq (keys_of es)
-    → lookup (nat_eq n) es ≡ Some r → fs ≡ set_value (nat_eq n) es w → w ≡ change r → fs ≡ changed_at change n es
-written_over change n es fs r w distinct there written same =
-    written ∙ ap (set_value (nat_eq n) es) same ∙ changed_by_write change n es r distinct there
+-- the regions after the one that the map lent was changed
+pub written_over : (change : RegionData → RegionData) (n last : ℕ) (es fs : List Entry) (lent : Option (MutBor RegionData)) (r : MutBor RegionData) (w : RegionData)
+    → IsDistinct nat_eq (keys_of es) → option_copied_mut lent ≡ lookup (nat_eq n) es → lent ≡ Some r → fs ≡ set_value (nat_eq n) es w → w ≡ change r.now
+    → regions last fs ≡ regions last (changed_at change n es)
+written_over change n last es fs lent r w distinct found is written same =
+    ap (regions last) (written ∙ ap (set_value (nat_eq n) es) same ∙ changed_by_write change n es r.now distinct (sym found ∙ ap option_copied_mut is))
 
--- the same where it was left as it was
-pub written_back : (n : ℕ) (es fs : List Entry) (r w : RegionData) → lookup (nat_eq n) es ≡ Some r → fs ≡ set_value (nat_eq n) es w → w ≡ r → fs ≡ es
-written_back n es fs r w there written same =
-    written ∙ ap (set_value (nat_eq n) es) same ∙ set_value_same (nat_eq n) es r there
+-- and after it was left as it was
+pub written_back : (n last : ℕ) (es fs : List Entry) (lent : Option (MutBor RegionData)) (r : MutBor RegionData) (w : RegionData)
+    → option_copied_mut lent ≡ lookup (nat_eq n) es → lent ≡ Some r → fs ≡ set_value (nat_eq n) es w → w ≡ r.now → regions last fs ≡ regions last es
+written_back n last es fs lent r w found is written same =
+    ap (regions last) (written ∙ ap (set_value (nat_eq n) es) same ∙ set_value_same (nat_eq n) es r.now (sym found ∙ ap option_copied_mut is))

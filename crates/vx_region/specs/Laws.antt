@@ -1,4 +1,4 @@
-use Rattle.std.specs.Prelude.{ℕ, ◌≡◌, ◌≢◌, ◌+◌, ◌⊎◌, ◌↔◌, IsTrue, IsSomeAnd, List, Option, Some, None, slice_get}
+use Rattle.std.specs.Prelude.{ℕ, ◌≡◌, ◌≢◌, ◌+◌, ◌⊎◌, ◌↔◌, IsTrue, IsSomeAnd, List, Some, None, slice_get}
 use Rattle.vx_geom.specs.Outline.{Outline}
 use Rattle.vx_region.specs.Regions.{RegionData, Regions, IsNumbered, region_at, number_of, names, fresh_region, with_region, with_owner, with_member}
 

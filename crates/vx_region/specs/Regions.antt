@@ -1,4 +1,4 @@
-use Rattle.std.specs.Prelude.{ℕ, ◌+◌, ◌<◌, ◌≤◌, Bool, ◌||◌, if◌then◌else◌, nat_eq, bytes_eq, List, [], ◌∷◌, ◌++◌, map, find, Option, Some, None, option_map}
+use Rattle.std.specs.Prelude.{ℕ, ◌+◌, ◌<◌, ◌≤◌, Bool, if◌then◌else◌, nat_eq, bytes_eq, List, [], ◌∷◌, ◌++◌, map, find, Option, option_map}
 use Rattle.std.specs.List.{list_any}
 use Rattle.vx_geom.specs.Outline.{Outline}
 

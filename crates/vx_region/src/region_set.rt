@@ -122,49 +122,44 @@ mod tests {
 
     #[test]
     fn regions_are_defined_and_found(rt: HostRuntime) -> Result<(), Fail> {
-        let mut set = RegionSet::new(rt.alloc());
-        assert_eq!(rt; (set.count(), set.last()), (0, 0));
-        let spawn = Id::read("Spawn-2_x")?;
-        let farm = Id::read("farm")?;
-        let low = Pos::new(0, 0, 0);
+        let (spawn, farm) = (Id::read("spawn")?, Id::read("Farm")?);
+        let place = Pos::new(1, 1, 1);
 
+        let mut set = RegionSet::new(rt.alloc());
         assert_eq!(rt; set.find(&spawn), None);
-        let first = set.define(rt.alloc(), spawn, Shape::cuboid(low, Pos::new(9, 9, 9)))?;
+        let first = set.define(rt.alloc(), spawn, Shape::cuboid(place, place))?;
         assert_eq!(rt; set.find(&farm), None);
         assert_eq!(rt; set.last(), 1);
-        let second = set.define(rt.alloc(), farm, Shape::cuboid(low, low))?;
-        assert_eq!(rt; (first, second), (RegionNo(1), RegionNo(2)));
-        assert_eq!(rt; (set.count(), set.last()), (2, 2));
-        assert_eq!(rt; set.find(&farm), Some(second));
-        assert_eq!(rt; set.find(&Id::read("FARM")?), Some(second));
-        assert!(rt; set.get(RegionNo(0)).is_none() && set.get(RegionNo(3)).is_none());
+        let second = set.define(rt.alloc(), farm, Shape::cuboid(place, place))?;
 
-        let (number, region) = set.nth(0);
-        assert_eq!(rt; number, first);
-        assert_eq!(rt; region.id().as_str(), "spawn-2_x");
-        assert!(rt; region.contains(Pos::new(9, 0, 9)) && !region.contains(Pos::new(10, 0, 9)));
+        assert_eq!(rt; [first.0, second.0], [1, 2]);
+        assert_eq!(rt; [set.count(), set.last()], [2, 2]);
+        assert_eq!(rt; set.find(&farm), Some(second));
+        assert!(rt; set.get(RegionNo(0)).is_none() && set.get(RegionNo(3)).is_none());
         Ok(())
     }
 
     #[test]
     fn owners_and_members_are_named(rt: HostRuntime) -> Result<(), Fail> {
-        let mut set = RegionSet::new(rt.alloc());
-        let farm = Id::read("farm")?;
+        let farm = Id::read("Farm")?;
         let (ann, bob) = (Name::read("Ann")?, Name::read("bob")?);
-        let place = Pos::new(1, 1, 1);
+        let shape = Shape::cuboid(Pos::new(0, 0, 0), Pos::new(9, 9, 9));
 
+        let mut set = RegionSet::new(rt.alloc());
         assert_eq!(rt; set.find(&farm), None);
-        let number = set.define(rt.alloc(), farm, Shape::cuboid(place, place))?;
-        assert!(rt; set.get(number).is_some());
-        set.add_owner(number, ann)?;
+        let number = set.define(rt.alloc(), farm, shape)?;
         assert!(rt; set.get(number).is_some());
         set.add_owner(number, ann)?;
         assert!(rt; set.get(number).is_some());
         set.add_member(number, bob)?;
 
-        let region = set.get(number).expect(&rt, "it was defined");
-        assert!(rt; region.is_owner(&Name::read("aNN")?) && !region.is_owner(&bob));
+        assert_eq!(rt; set.count(), 1);
+        let (first, region) = set.nth(0);
+        assert_eq!(rt; first, number);
+        assert_eq!(rt; region.id().as_str(), "farm");
+        assert!(rt; region.is_owner(&ann) && !region.is_owner(&bob));
         assert!(rt; region.is_member(&bob) && !region.is_member(&ann));
+        assert!(rt; region.contains(Pos::new(9, 0, 9)) && !region.contains(Pos::new(10, 0, 9)));
         Ok(())
     }
 }

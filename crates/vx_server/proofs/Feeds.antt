@@ -26,8 +26,8 @@ cut_at bytes i at =
     let within : i < length bytes = omega (arith, found.1) in
     let feed : get_or bytes i 0 ≡ line_feed = subst (λ n. get_or bytes n 0 ≡ line_feed) found.1 (eqb-true _ _ (passes_at_first is_feed bytes 0 passes)) in
     let before : (k d : ℕ) → k < length (take i bytes) → is_feed (get_or (take i bytes) k d) ≡ false = λ k d small.
-        let below : k < i = omega (arith, length-take-le i bytes (omega arith)) in
-        subst (λ b. is_feed b ≡ false) (sym (get_or-take i bytes k d below)) (fails_before_first is_feed bytes k d (omega (arith, found.1)))
+    let below : k < i = omega (arith, length-take-le i bytes (omega arith)) in
+    subst (λ b. is_feed b ≡ false) (sym (get_or-take i bytes k d below)) (fails_before_first is_feed bytes k d (omega (arith, found.1)))
     in
     let rest : drop i bytes ≡ line_feed ∷ drop (i + 1) bytes = rw add-one (drop-cons bytes i 0 within ∙ ap (λ b. b ∷ drop (suc i) bytes) feed) in
     (within, recursion_from_All (λ b. is_feed b ≡ false) (take i bytes) before, sym (take-append-drop i bytes) ∙ ap (λ ys. take i bytes ++ ys) rest)
@@ -46,9 +46,9 @@ cut_in buffer at end i fits found =
     let short : i < end - at = omega (arith, cut.0, length-take-le (end - at) (drop at buffer) (omega (arith, length-drop at buffer))) in
     let sum : (i + 1) + (end - (at + (i + 1))) ≡ end - at = omega arith in
     let moved : drop (i + 1) (slice_range buffer at end) ≡ slice_range buffer (at + (i + 1)) end =
-        ap (λ n. drop (i + 1) (take n (drop at buffer))) (sym sum)
-        ∙ drop-take (i + 1) (end - (at + (i + 1))) (drop at buffer)
-        ∙ ap (take (end - (at + (i + 1)))) (drop-drop (i + 1) at buffer)
+    ap (λ n. drop (i + 1) (take n (drop at buffer))) (sym sum)
+    ∙ drop-take (i + 1) (end - (at + (i + 1))) (drop at buffer)
+    ∙ ap (take (end - (at + (i + 1)))) (drop-drop (i + 1) at buffer)
     in
     (cut.1, cut.2 ∙ ap (λ rest. take i (slice_range buffer at end) ++ line_feed ∷ rest) moved)
 

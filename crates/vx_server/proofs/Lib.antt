@@ -1,4 +1,7 @@
 pub mod Cuts
 pub mod Feeds
+pub mod Going
+pub mod Printables
+pub mod Runs
 pub mod Spelled
 pub mod Taking

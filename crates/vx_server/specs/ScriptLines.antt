@@ -26,9 +26,13 @@ said (line.Player name) = Player name.text.bytes
 said (line.Set p part) = Set p part
 said (line.As name cmd) = Act name.text.bytes cmd
 
--- the sizes of a world of one sector, of 1 or 2 chunks each way
+-- a ≤ n ≤ b
+abbrev pub is_amid : ℕ → ℕ → ℕ → Bool
+is_amid a b n = nat_le a n && nat_le n b
+
+-- the sizes of a world: 1 to 8 sectors each way, of 1 or 2 chunks each way
 abbrev pub sizes_of : ℕ → ℕ → ℕ → Option Sizes
-sizes_of sx sz s = if (sx == 1 && sz == 1) && (nat_le 1 s && nat_le s 2) then Some (record { sx = sx; sz = sz; s = s }) else None
+sizes_of sx sz s = if (is_amid 1 8 sx && is_amid 1 8 sz) && is_amid 1 2 s then Some (record { sx = sx; sz = sz; s = s }) else None
 
 -- `world SX SZ S`
 unfoldable pub world_line : Rest → Option Said

@@ -2,11 +2,16 @@
 
 mod arguments;
 mod fault;
+mod header;
 mod input;
 mod line;
 mod lines;
+mod names;
 mod number;
+mod play;
 mod reading;
+mod run;
 mod words;
 
 pub use fault::Fault;
+pub use run::run;

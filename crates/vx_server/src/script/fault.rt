@@ -1,3 +1,6 @@
+ghost use Rattle.std.specs.Prelude.{◌≡◌};
+ghost use Rattle.vx_server.specs.Statuses.{status_of};
+
 use thiserror::Error;
 
 /// Why a run ended before its script did. docs/FORMATS.md has the table of numbers, words and statuses.
@@ -14,4 +17,16 @@ pub enum Fault {
     ReadFailed,
     #[error("fault 43 write")]
     WriteFailed,
+}
+
+impl Fault {
+    /// The status that the program ends with: 2 for want of memory, else 1.
+    pub fn status(self) -> u8
+        ensures { result ≡ status_of self }
+    {
+        match self {
+            Fault::NoMemory => 2,
+            Fault::TooManyPlayers | Fault::Syntax(_) | Fault::ReadFailed | Fault::WriteFailed => 1,
+        }
+    }
 }

@@ -3,7 +3,7 @@ ghost use Rattle.std.specs.Io.KnownBytes.{Consumes, IsAtEnd};
 ghost use Rattle.vx_server.specs.Lines.{line_feed, TakesPiece};
 
 use crate::script::fault::Fault;
-use std::alloc::{AllocError, Global};
+use std::alloc::Global;
 use std::io::{ErrorKind, Read};
 use std::marker::Model;
 
@@ -39,11 +39,13 @@ impl Model for Input {
 
 impl Input {
     /// Nothing read yet.
-    pub fn new(alloc: Global) -> Result<Input, AllocError>
-        ensures { IfOk result (λ input. input ≡ []) }
+    pub fn new(alloc: Global) -> Result<Input, Fault>
+        ensures ok { IfOk result (λ input. input ≡ []) }
+        ensures err { IfErr result (λ fault. fault ≡ Fault.NoMemory) }
     {
+        let buffer = vec![in alloc; 0; BUFFER_BYTES].map_err(|_| Fault::NoMemory)?;
         Ok(Input {
-            buffer: vec![in alloc; 0; BUFFER_BYTES]?,
+            buffer,
             at: 0,
             end: 0,
             bytes: 0,
@@ -59,7 +61,9 @@ impl Input {
         ensures end { IfOk result (λ more. more ≡ false → (self.new ≡ []) × IsAtEnd (R.remaining reader.new)) }
         ensures err { IfErr result (λ fault. fault ≡ Fault.ReadFailed) }
     {
-        let room = SCRIPT_BYTES.saturating_sub(self.bytes).clamp(1, BUFFER_BYTES);
+        let room = SCRIPT_BYTES
+            .saturating_sub(self.bytes)
+            .clamp(1, BUFFER_BYTES);
         let count = read_some(reader, &mut self.buffer, room, &mut self.reads)?;
         self.at = 0;
         self.end = count;

@@ -1,10 +1,10 @@
-ghost use Rattle.std.specs.Prelude.{◌≡◌, ◌+◌, ◌≤◌, ℕ, [], true, false, Ok, Err, IfOk};
+ghost use Rattle.std.specs.Prelude.{◌≡◌, ◌+◌, ◌≤◌, ℕ, [], true, false, Ok, Err, IfOk, IfErr};
 ghost use Rattle.std.specs.Io.KnownBytes.{Keeps, IsAtEnd, prepend_known};
 ghost use Rattle.vx_server.specs.declared.script.lines.TheConstants.{LINES};
 
 use crate::script::fault::Fault;
 use crate::script::input::{Input, SCRIPT_BYTES};
-use std::alloc::{AllocError, Global};
+use std::alloc::Global;
 use std::io::{Read, Write};
 
 /// How many bytes a line may have, its line feed not counted.
@@ -26,8 +26,9 @@ impl Lines {
     ghost use Rattle.vx_server.specs.Lines.{TakesLine, IsNextLong};
 
     /// No line read yet.
-    pub fn new(alloc: Global) -> Result<Lines, AllocError>
-        ensures { IfOk result (λ lines. (lines.input ≡ []) × (lines.number ≡ 0)) }
+    pub fn new(alloc: Global) -> Result<Lines, Fault>
+        ensures ok { IfOk result (λ lines. (lines.input ≡ []) × (lines.number ≡ 0)) }
+        ensures err { IfErr result (λ fault. fault ≡ Fault.NoMemory) }
     {
         Ok(Lines {
             input: Input::new(alloc)?,
@@ -37,11 +38,7 @@ impl Lines {
     }
 
     /// Reads the next line; `Ok(false)` where there is none. All that was written goes out before more input is asked for.
-    pub fn next<R: Read, W: Write>(
-        &mut self,
-        reader: &mut R,
-        writer: &mut W,
-    ) -> Result<bool, Fault>
+    pub fn next<R: Read, W: Write>(&mut self, reader: &mut R, writer: &mut W) -> Result<bool, Fault>
         ensures line { result ≡ Ok true → TakesLine
             (prepend_known self.old.input (R.remaining reader.old))
             (prepend_known self.new.input (R.remaining reader.new)) self.new.line.items }

@@ -20,7 +20,9 @@ pub fn read_line(text: &[u8]) -> Option<Line>
     if is_comment(text) {
         return Some(Line::Skipped);
     }
-    let text = str::from_utf8(text).ok()?;
+    let Ok(text) = str::from_utf8(text) else {
+        return None;
+    };
     line_in(&mut Words::new(text))
 }
 
@@ -69,7 +71,7 @@ fn world_line(words: &mut Words) -> Option<Line>
     let sx = byte(words)?;
     let sz = byte(words)?;
     let s = byte(words)?;
-    let bounds = one_sector(sx, sz, s)?;
+    let bounds = bounds_of(sx, sz, s)?;
     at_end(words, Line::World(bounds))
 }
 
@@ -137,12 +139,8 @@ fn break_of(words: &mut Words) -> Option<Cmd>
     at_end(words, Cmd::Break(p))
 }
 
-// The bounds of a world of one sector; other sizes are not there yet.
-fn one_sector(sx: u8, sz: u8, s: u8) -> Option<Bounds>
+fn bounds_of(sx: u8, sz: u8, s: u8) -> Option<Bounds>
     ensures { result ≡ sizes_of sx sz s }
 {
-    if sx != 1 || sz != 1 {
-        return None;
-    }
     Bounds::new(sx, sz, s)
 }

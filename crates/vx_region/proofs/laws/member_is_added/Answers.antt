@@ -1,4 +1,4 @@
-use Rattle.std.proofs.Common.{IsSomeAnd, Some, option_map, ap, sym, ◌∙◌, subst, refl}
+use Rattle.std.proofs.Common.{IsSomeAnd, option_map, ap, sym, ◌∙◌, subst, refl}
 use Rattle.vx_region.specs.Laws.{GainsMember}
 use Rattle.vx_region.specs.Regions.{RegionData, with_name, with_member}
 use Rattle.vx_region.proofs.Changes.{region_changed, region_elsewhere}

@@ -16,8 +16,7 @@ returns-in_ok-append-in-None-clause-ok c =
     let i = c.self.inside in
     let same = c.deref.ensures.value in
     let none : position is_feed (slice_range i.buffer.items i.at i.end) ≡ None = rw (← same) (sym c.in-None.ensures) in
-    let nothing : i.end - i.end ≡ 0 = omega arith in
-    (
+    let nothing : i.end - i.end ≡ 0 = omega arith in (
       slice_range i.buffer.items i.at i.end,
       (uncut _ none, sym c.self.view_is, ap (λ n. take n (drop i.end i.buffer.items)) nothing),
       rw same at c.in_ok-append-in-None.ensures.ok,

@@ -25,6 +25,6 @@ returns-then-not-branch-clause-line g c =
     let taken = subst (λ found. TakesPiece found c.pieces.self.input t.0 c.take_line.new.self) c.if-found.false t.1 in
     let end = c.in_ok-fill.ensures.end c.if-not-branch.true in
     λ same.
-        let filled : not c.is_empty.result ≡ true = cc in
-        let some : 0 < length (c.pieces.self.line.items ++ t.0) = omega (arith, filled_is _ _ c.is_empty.ensures filled, c.take_line.new.line.ok.0, ap length t.2) in
-        rw t.2 (last_taken _ _ _ c.pieces.self.line.items c.pieces.self.input t.0 c.fill.new.self c.pieces.invariant.piece c.pieces.invariant.known (taken.0, taken.1, refl) c.in_ok-fill.ensures.bytes end.0 end.1 some)
+    let filled : not c.is_empty.result ≡ true = cc in
+    let some : 0 < length (c.pieces.self.line.items ++ t.0) = omega (arith, filled_is _ _ c.is_empty.ensures filled, c.take_line.new.line.ok.0, ap length t.2) in
+    rw t.2 (last_taken _ _ _ c.pieces.self.line.items c.pieces.self.input t.0 c.fill.new.self c.pieces.invariant.piece c.pieces.invariant.known (taken.0, taken.1, refl) c.in_ok-fill.ensures.bytes end.0 end.1 some)

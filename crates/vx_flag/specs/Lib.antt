@@ -1,0 +1,4 @@
+pub mod Action
+pub mod Flag
+pub mod Group
+pub mod State

@@ -1,0 +1,7 @@
+/// What a subject is to a region (docs/RULES.md).
+#[derive(Clone, Copy, Debug, PartialEq, Eq, Hash)]
+pub enum Association {
+    Owner,
+    Member,
+    Stranger,
+}

@@ -1,0 +1,107 @@
+ghost use Rattle.std.specs.Prelude.{◌≡◌, IfSome, Some};
+ghost use Rattle.vx_flag.specs.Flag.{flag_text, flag_of};
+
+use std::fmt;
+
+/// What a region can allow or deny. How a flag decides on an action is in docs/RULES.md.
+#[derive(Clone, Copy, Debug, PartialEq, Eq, Hash)]
+pub enum Flag {
+    /// Decides on each action whose own flag is not set.
+    Build,
+    BlockBreak,
+    BlockPlace,
+    /// Turning levers. Its text is `use`.
+    Usage,
+    /// Reaching into chests.
+    ChestAccess,
+    /// A region that allows it, and does not set `Build`, has no say about building.
+    Passthrough,
+    /// The moves of pistons.
+    Pistons,
+}
+
+impl Flag {
+    /// The text of this flag (docs/FORMATS.md).
+    pub fn text(self) -> &'static str
+        ensures { result.now ≡ flag_text self }
+    {
+        match self {
+            Flag::Build => "build",
+            Flag::BlockBreak => "block-break",
+            Flag::BlockPlace => "block-place",
+            Flag::Usage => "use",
+            Flag::ChestAccess => "chest-access",
+            Flag::Passthrough => "passthrough",
+            Flag::Pistons => "pistons",
+        }
+    }
+
+    /// The flag that has this text, letter for letter.
+    #[tactic(auto, unfolding(crate::specs::Flag::flag_of))]
+    pub fn read(text: &str) -> Option<Flag>
+        ensures found { IfSome result (λ f. flag_text f ≡ text.now) }
+        ensures only { (f : Flag) → flag_text f ≡ text.now → result ≡ Some f }
+        ensures named { result ≡ flag_of text.now }
+    {
+        match text {
+            "build" => Some(Flag::Build),
+            "block-break" => Some(Flag::BlockBreak),
+            "block-place" => Some(Flag::BlockPlace),
+            "use" => Some(Flag::Usage),
+            "chest-access" => Some(Flag::ChestAccess),
+            "passthrough" => Some(Flag::Passthrough),
+            "pistons" => Some(Flag::Pistons),
+            _ => None,
+        }
+    }
+}
+
+impl fmt::Display for Flag {
+    ghost output = { λ f. Some (flag_text f) };
+
+    fn fmt<W: fmt::Write>(&self, f: &mut fmt::Formatter<W>) -> fmt::Result {
+        f.pad(self.text())
+    }
+}
+
+#[cfg(test)]
+mod tests {
+    use super::*;
+    use std::test::Fail;
+
+    #[test]
+    fn each_flag_has_its_text(rt: HostRuntime) -> Result<(), Fail> {
+        for (flag, text) in [
+            (Flag::Build, "build"),
+            (Flag::BlockBreak, "block-break"),
+            (Flag::BlockPlace, "block-place"),
+            (Flag::Usage, "use"),
+            (Flag::ChestAccess, "chest-access"),
+            (Flag::Passthrough, "passthrough"),
+            (Flag::Pistons, "pistons"),
+        ] {
+            assert_eq!(rt; flag.text(), text);
+            assert_eq!(rt; Flag::read(text), Some(flag), "{text}");
+            let line = format!(in rt.alloc(); "set {flag}")?;
+            assert_eq!(rt; line.strip_prefix("set "), Some(text));
+        }
+        Ok(())
+    }
+
+    #[test]
+    fn no_other_text_is_read(rt: HostRuntime) {
+        for text in [
+            "",
+            "Build",
+            "build ",
+            " use",
+            "usage",
+            "block",
+            "block_break",
+            "piston",
+            "allow",
+        ] {
+            assert_eq!(rt; Flag::read(text), None, "{text}");
+        }
+    }
+}

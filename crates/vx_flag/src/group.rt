@@ -1,0 +1,110 @@
+ghost use Rattle.std.specs.Prelude.{◌≡◌, IfSome, Some};
+ghost use Rattle.vx_flag.specs.Group.{group_text, group_of, fits};
+
+use crate::association::Association;
+use std::fmt;
+
+/// Whom a region's setting of a flag is for.
+#[derive(Clone, Copy, Debug, PartialEq, Eq, Hash)]
+pub enum Group {
+    All,
+    Members,
+    Owners,
+    Nonmembers,
+    Nonowners,
+}
+
+impl Group {
+    /// The text of this group (docs/FORMATS.md).
+    pub fn text(self) -> &'static str
+        ensures { result.now ≡ group_text self }
+    {
+        match self {
+            Group::All => "all",
+            Group::Members => "members",
+            Group::Owners => "owners",
+            Group::Nonmembers => "nonmembers",
+            Group::Nonowners => "nonowners",
+        }
+    }
+
+    /// The group that has this text, letter for letter.
+    #[tactic(auto, unfolding(crate::specs::Group::group_of))]
+    pub fn read(text: &str) -> Option<Group>
+        ensures found { IfSome result (λ g. group_text g ≡ text.now) }
+        ensures only { (g : Group) → group_text g ≡ text.now → result ≡ Some g }
+        ensures named { result ≡ group_of text.now }
+    {
+        match text {
+            "all" => Some(Group::All),
+            "members" => Some(Group::Members),
+            "owners" => Some(Group::Owners),
+            "nonmembers" => Some(Group::Nonmembers),
+            "nonowners" => Some(Group::Nonowners),
+            _ => None,
+        }
+    }
+}
+
+impl fmt::Display for Group {
+    ghost output = { λ g. Some (group_text g) };
+
+    fn fmt<W: fmt::Write>(&self, f: &mut fmt::Formatter<W>) -> fmt::Result {
+        f.pad(self.text())
+    }
+}
+
+/// Whether a subject of this association belongs to the group.
+pub fn fits(group: Group, association: Association) -> bool
+    ensures { result ≡ fits group association }
+{
+    match group {
+        Group::All => true,
+        Group::Members => matches!(association, Association::Owner | Association::Member),
+        Group::Owners => matches!(association, Association::Owner),
+        Group::Nonmembers => matches!(association, Association::Stranger),
+        Group::Nonowners => matches!(association, Association::Member | Association::Stranger),
+    }
+}
+
+#[cfg(test)]
+mod tests {
+    use super::*;
+    use std::test::Fail;
+
+    #[test]
+    fn each_group_has_its_text(rt: HostRuntime) -> Result<(), Fail> {
+        for (group, text) in [
+            (Group::All, "all"),
+            (Group::Members, "members"),
+            (Group::Owners, "owners"),
+            (Group::Nonmembers, "nonmembers"),
+            (Group::Nonowners, "nonowners"),
+        ] {
+            assert_eq!(rt; group.text(), text);
+            assert_eq!(rt; Group::read(text), Some(group), "{text}");
+        }
+        for text in ["", "All", "member", "non-members", "nonowners ", "allow"] {
+            assert_eq!(rt; Group::read(text), None, "{text}");
+        }
+        let line = format!(in rt.alloc(); "for {}", Group::Nonmembers)?;
+        assert_eq!(rt; line.as_str(), "for nonmembers");
+        Ok(())
+    }
+
+    #[test]
+    fn each_group_fits_its_own(rt: HostRuntime) {
+        for (group, want) in [
+            (Group::All, [true, true, true]),
+            (Group::Members, [true, true, false]),
+            (Group::Owners, [true, false, false]),
+            (Group::Nonmembers, [false, false, true]),
+            (Group::Nonowners, [false, true, true]),
+        ] {
+            let owner = fits(group, Association::Owner);
+            let member = fits(group, Association::Member);
+            let stranger = fits(group, Association::Stranger);
+            assert_eq!(rt; [owner, member, stranger], want, "{group}");
+        }
+    }
+}

@@ -1,0 +1,41 @@
+ghost use Rattle.std.specs.Prelude.{◌≡◌, ◌↔◌, ℕ, List, Some, Bool, true, not};
+ghost use Rattle.vx_flag.specs.Flag.{flag_text, flag_of};
+ghost use Rattle.vx_flag.specs.Group.{group_text, group_of, fits};
+ghost use Rattle.vx_flag.specs.State.{state_text, state_of, strictest};
+ghost use Rattle.vx_flag.specs.declared.association.Association.{Association};
+ghost use Rattle.vx_flag.specs.declared.flag.Flag.{Flag};
+ghost use Rattle.vx_flag.specs.declared.group.Group.{Group};
+ghost use Rattle.vx_flag.specs.declared.group.Group.TheVariants.{All, Members, Owners, Nonmembers, Nonowners};
+ghost use Rattle.vx_flag.specs.declared.state.State.{State};
+ghost use Rattle.vx_flag.specs.declared.state.State.TheVariants.{Allow, Deny};
+
+/// However many states are combined, in whatever order, one denial denies and allowing adds nothing.
+pub fn states_combine()
+    ensures commutative { (a b : State) → strictest a b ≡ strictest b a }
+    ensures associative { (a b c : State) → strictest (strictest a b) c ≡ strictest a (strictest b c) }
+    ensures idempotent { (a : State) → strictest a a ≡ a }
+    ensures deny { (a : State) → strictest Deny a ≡ Deny }
+    ensures allow { (a : State) → strictest Allow a ≡ a }
+{}
+
+/// `all` fits everyone. Everyone fits just one of `members` and `nonmembers`, and just one of `owners`
+/// and `nonowners`.
+pub fn groups_complement()
+    ensures all { (a : Association) → fits All a ≡ true }
+    ensures members { (a : Association) → fits Nonmembers a ≡ not (fits Members a) }
+    ensures owners { (a : Association) → fits Nonowners a ≡ not (fits Owners a) }
+{}
+
+/// No two flags have one text, no two states, and no two groups.
+pub fn one_text_each()
+    ensures flags { (a b : Flag) → flag_text a ≡ flag_text b → a ≡ b }
+    ensures states { (a b : State) → state_text a ≡ state_text b → a ≡ b }
+    ensures groups { (a b : Group) → group_text a ≡ group_text b → a ≡ b }
+{}
+
+/// What a text is read as is the one thing that has this text.
+pub fn texts_are_read()
+    ensures flags { (t : List ℕ) (f : Flag) → (flag_of t ≡ Some f) ↔ (flag_text f ≡ t) }
+    ensures states { (t : List ℕ) (s : State) → (state_of t ≡ Some s) ↔ (state_text s ≡ t) }
+    ensures groups { (t : List ℕ) (g : Group) → (group_of t ≡ Some g) ↔ (group_text g ≡ t) }
+{}

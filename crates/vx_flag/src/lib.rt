@@ -1,0 +1,16 @@
+//! The words of the written policy of regions: flags, states, groups, associations and actions.
+#![tactic(auto)]
+
+mod action;
+mod association;
+mod flag;
+mod group;
+mod laws;
+mod state;
+
+pub use action::Action;
+pub use association::Association;
+pub use flag::Flag;
+pub use group::{Group, fits};
+pub use laws::{groups_complement, one_text_each, states_combine, texts_are_read};
+pub use state::{State, strictest};

@@ -1,0 +1,87 @@
+ghost use Rattle.std.specs.Prelude.{◌≡◌, IfSome, Some};
+ghost use Rattle.vx_flag.specs.State.{state_text, state_of, strictest};
+
+use std::fmt;
+
+/// What a region sets a flag to.
+#[derive(Clone, Copy, Debug, PartialEq, Eq, Hash)]
+pub enum State {
+    Allow,
+    Deny,
+}
+
+impl State {
+    /// The text of this state (docs/FORMATS.md).
+    pub fn text(self) -> &'static str
+        ensures { result.now ≡ state_text self }
+    {
+        match self {
+            State::Allow => "allow",
+            State::Deny => "deny",
+        }
+    }
+
+    /// The state that has this text, letter for letter.
+    #[tactic(auto, unfolding(crate::specs::State::state_of))]
+    pub fn read(text: &str) -> Option<State>
+        ensures found { IfSome result (λ s. state_text s ≡ text.now) }
+        ensures only { (s : State) → state_text s ≡ text.now → result ≡ Some s }
+        ensures named { result ≡ state_of text.now }
+    {
+        match text {
+            "allow" => Some(State::Allow),
+            "deny" => Some(State::Deny),
+            _ => None,
+        }
+    }
+}
+
+impl fmt::Display for State {
+    ghost output = { λ s. Some (state_text s) };
+
+    fn fmt<W: fmt::Write>(&self, f: &mut fmt::Formatter<W>) -> fmt::Result {
+        f.pad(self.text())
+    }
+}
+
+/// Deny where one of the two denies, else allow.
+pub fn strictest(a: State, b: State) -> State
+    ensures { result ≡ strictest a b }
+{
+    match (a, b) {
+        (State::Allow, State::Allow) => State::Allow,
+        _ => State::Deny,
+    }
+}
+
+#[cfg(test)]
+mod tests {
+    use super::*;
+    use std::test::Fail;
+
+    #[test]
+    fn each_state_has_its_text(rt: HostRuntime) -> Result<(), Fail> {
+        for (state, text) in [(State::Allow, "allow"), (State::Deny, "deny")] {
+            assert_eq!(rt; state.text(), text);
+            assert_eq!(rt; State::read(text), Some(state), "{text}");
+        }
+        for text in ["", "Allow", "deny ", "denied", "all"] {
+            assert_eq!(rt; State::read(text), None, "{text}");
+        }
+        let line = format!(in rt.alloc(); "{} or {}", State::Allow, State::Deny)?;
+        assert_eq!(rt; line.as_str(), "allow or deny");
+        Ok(())
+    }
+
+    #[test]
+    fn one_denial_denies(rt: HostRuntime) {
+        for (a, b, want) in [
+            (State::Allow, State::Allow, State::Allow),
+            (State::Allow, State::Deny, State::Deny),
+            (State::Deny, State::Allow, State::Deny),
+            (State::Deny, State::Deny, State::Deny),
+        ] {
+            assert_eq!(rt; strictest(a, b), want, "{a} and {b}");
+        }
+    }
+}

@@ -15,3 +15,6 @@ mod words;
 
 pub use fault::Fault;
 pub use run::run;
+
+#[cfg(test)]
+mod tests;

@@ -371,3 +371,18 @@ fn each_reply_goes_out_before_more_is_asked_for(rt: HostRuntime) {
     // Before the reads of bytes 0, 16, 32, 48, of the end, and at the end of the run.
     assert_eq!(rt; output.flushed.as_slice(), [0, 0, 0, 9, 18, 39].as_slice());
 }
+
+#[test]
+fn each_fault_has_its_words_and_its_status(rt: HostRuntime) -> Result<(), Fail> {
+    for (fault, words, status) in [
+        (Fault::NoMemory, "fault 14 memory", 2),
+        (Fault::TooManyPlayers, "fault 29 players", 1),
+        (Fault::Syntax(4), "fault 40 line 4", 1),
+        (Fault::ReadFailed, "fault 42 read", 1),
+        (Fault::WriteFailed, "fault 43 write", 1),
+    ] {
+        assert_eq!(rt; fault.to_string(rt.alloc())?.as_str(), words);
+        assert_eq!(rt; fault.status(), status, "{words}");
+    }
+    Ok(())
+}

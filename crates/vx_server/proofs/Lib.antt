@@ -1,4 +1,5 @@
 pub mod Cuts
+pub mod Faults
 pub mod Feeds
 pub mod Going
 pub mod Printables

@@ -1,3 +1,4 @@
+pub mod FirstFault
 pub mod Known
 pub mod Lines
 pub mod Numbers

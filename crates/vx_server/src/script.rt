@@ -4,6 +4,7 @@ mod arguments;
 mod fault;
 mod header;
 mod input;
+pub mod laws;
 mod line;
 mod lines;
 mod names;

@@ -2,7 +2,7 @@
 use Rattle.std.proofs.Common.{◌≡◌, ℕ, Bool, true, false, not, Option, Some, None, refl, ap}
 use Rattle.std.proofs.lemmas.Bool.{and_parts}
 use Rattle.vx_region.specs.declared.region_no.RegionNo.{RegionNo}
-use Rattle.vx_decide.specs.declared.verdict.Verdict.TheVariants.{Permit, Deny}
+use Rattle.vx_decide.specs.declared.verdict.Verdict.TheVariants.{Deny}
 use Rattle.vx_decide.specs.Verdict.{contains, admits, is_failing, first_failing, first_home, member_at, by_membership, verdict}
 use Rattle.vx_decide.specs.Laws.{DenialIsGrounded}
 use Rattle.vx_decide.proofs.Leasts.{least_is}

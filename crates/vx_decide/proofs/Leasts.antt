@@ -1,5 +1,5 @@
 -- The least number of a member, found from the front of regions in order of their numbers.
-use Rattle.std.proofs.Common.{◌≡◌, ℕ, zero, suc, ◌+◌, ◌<◌, Bool, true, false, nat_lt, if◌then◌else◌, min, List, [], ◌∷◌, drop, slice_get, Option, Some, None, Contains, ◌⊎◌, inl, inr, refl, ap, sym, ◌∙◌, subst, arith, length}
+use Rattle.std.proofs.Common.{◌≡◌, ℕ, zero, suc, ◌+◌, ◌<◌, Bool, true, false, nat_lt, if◌then◌else◌, List, [], ◌∷◌, drop, slice_get, Option, Some, None, Contains, ◌⊎◌, inl, inr, refl, ap, sym, ◌∙◌, subst, arith}
 use Rattle.std.proofs.lemmas.Bool.{ltb-true, ltb-false}
 use Rattle.std.proofs.lemmas.List.Elements.{Contains-append_right, Contains-append_left}
 use Rattle.vx_geom.proofs.Lists.{drop_at}
@@ -64,8 +64,10 @@ least_is members (e ∷ es) n found = by (members e) refl found (least_is member
   where
     here : members e ≡ true → e.0 ≡ n → (r : RegionData) × Contains (e ∷ es) (n, r) × (members (n, r) ≡ true)
     here passes same = subst (λ k. (r : RegionData) × Contains (e ∷ es) (k, r) × (members (k, r) ≡ true)) same (e.1, Contains-append_left (e ∷ []) es e (0, omega arith, refl), passes)
+
     further : (least members es ≡ Some n → (r : RegionData) × Contains es (n, r) × (members (n, r) ≡ true)) → least members es ≡ Some n → (r : RegionData) × Contains (e ∷ es) (n, r) × (members (n, r) ≡ true)
     further rest at = let found = rest at in (found.0, Contains-append_right (e ∷ []) es (n, found.0) found.1, found.2)
+
     by : (b : Bool) → members e ≡ b → (if b then Some (lesser e.0 (least members es)) else least members es) ≡ Some n
         → (least members es ≡ Some n → (r : RegionData) × Contains es (n, r) × (members (n, r) ≡ true)) → (r : RegionData) × Contains (e ∷ es) (n, r) × (members (n, r) ≡ true)
     by true passes at rest = let same : lesser e.0 (least members es) ≡ n = cc in elim (picked e.0 (least members es) n same) [ inl first ↦ here passes first | inr later ↦ further rest later ]

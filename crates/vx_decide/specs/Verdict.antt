@@ -1,8 +1,7 @@
-use Rattle.std.specs.Prelude.{ℕ, Bool, not, ◌&&◌, ◌||◌, List, Option, Some, None}
+use Rattle.std.specs.Prelude.{ℕ, Bool, not, ◌&&◌, ◌||◌, Option, Some, None}
 use Rattle.vx_geom.specs.declared.pos.Pos.{Pos}
 use Rattle.vx_geom.specs.Outline.{is_in}
 use Rattle.vx_region.specs.Regions.{Regions, Entry, names}
-use Rattle.vx_region.specs.declared.region_no.RegionNo.{RegionNo}
 use Rattle.vx_region.specs.Subjects.{Actor, Named}
 use Rattle.vx_decide.specs.declared.rule.Rule.{Rule}
 use Rattle.vx_decide.specs.declared.rule.Rule.TheVariants as rule

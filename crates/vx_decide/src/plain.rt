@@ -95,3 +95,79 @@ fn admits(subject: &Subject, region: &Region) -> bool
         Subject::Player(name) => region.is_owner(name) || region.is_member(name),
     }
 }
+
+#[cfg(test)]
+mod tests {
+    use super::*;
+    use std::alloc::Global;
+    use std::process::Abort;
+    use std::test::Fail;
+    use vx_geom::Shape;
+    use vx_region::Id;
+
+    #[test]
+    fn owners_and_members_may_act_and_others_may_not(rt: HostRuntime) -> Result<(), Fail> {
+        let mut set = RegionSet::new(rt.alloc());
+        let home = defined(&rt, &mut set, "home", "ann")?;
+        assert!(rt; set.get(home).is_some());
+        set.add_member(home, Name::read("cyd")?)?;
+
+        let rule = Rule::Member { at: RegionNo(1) };
+        for (name, x, y, verdict) in [
+            ("ann", 5, 1, Verdict::Permit(rule)),
+            ("cyd", 5, 1, Verdict::Permit(rule)),
+            ("bob", 5, 1, Verdict::Deny(rule)),
+            ("bob", 5, 63, Verdict::Deny(rule)),
+            ("bob", 5, 64, Verdict::Permit(Rule::Default)),
+            ("bob", 6, 1, Verdict::Permit(Rule::Default)),
+            ("ann", 6, 1, Verdict::Permit(Rule::Default)),
+        ] {
+            let subject = Subject::Player(Name::read(name)?);
+            let decided = Plain::new(&set).decide(&subject, Pos::new(x, y, 5));
+            assert_eq!(rt; decided, verdict, "{name} at {x} {y}");
+        }
+        Ok(())
+    }
+
+    #[test]
+    fn each_region_over_a_place_is_asked(rt: HostRuntime) -> Result<(), Fail> {
+        let mut set = RegionSet::new(rt.alloc());
+        let first = defined(&rt, &mut set, "home", "ann")?;
+        let second = defined(&rt, &mut set, "mine", "bob")?;
+        assert!(rt; set.get(first).is_some());
+        set.add_member(first, Name::read("cyd")?)?;
+        assert!(rt; set.get(second).is_some());
+        set.add_member(second, Name::read("cyd")?)?;
+
+        let first = Rule::Member { at: RegionNo(1) };
+        let second = Rule::Member { at: RegionNo(2) };
+        for (name, verdict) in [
+            ("ann", Verdict::Deny(second)),
+            ("bob", Verdict::Deny(first)),
+            ("dan", Verdict::Deny(first)),
+            ("cyd", Verdict::Permit(first)),
+        ] {
+            let subject = Subject::Player(Name::read(name)?);
+            let decided = Plain::new(&set).decide(&subject, Pos::new(5, 1, 5));
+            assert_eq!(rt; decided, verdict, "{name}");
+        }
+        Ok(())
+    }
+
+    // A region of all that lies above and below one position of the ground, with one owner.
+    fn defined(
+        rt: &(impl Abort + Alloc<A = Global>),
+        set: &mut RegionSet,
+        id: &str,
+        owner: &str,
+    ) -> Result<RegionNo, Fail> {
+        let id = Id::read(id)?;
+        let column = Shape::cuboid(Pos::new(5, 0, 5), Pos::new(5, 63, 5));
+        assert_eq!(rt; set.find(&id), None);
+        assert!(rt; set.last() < 2);
+        let number = set.define(rt.alloc(), id, column)?;
+        assert!(rt; set.get(number).is_some());
+        set.add_owner(number, Name::read(owner)?)?;
+        Ok(number)
+    }
+}

@@ -25,3 +25,26 @@ impl fmt::Display for Rule {
         }
     }
 }
+
+#[cfg(test)]
+mod tests {
+    use super::*;
+    use std::test::Fail;
+
+    #[test]
+    fn each_rule_has_its_words(rt: HostRuntime) -> Result<(), Fail> {
+        for (rule, words) in [
+            (Rule::Member { at: RegionNo(1) }, "member at 1"),
+            (
+                Rule::Member {
+                    at: RegionNo(4_294_967_295),
+                },
+                "member at 4294967295",
+            ),
+            (Rule::Default, "default"),
+        ] {
+            assert_eq!(rt; format!(in rt.alloc(); "{rule}")?.as_str(), words);
+        }
+        Ok(())
+    }
+}

@@ -12,7 +12,7 @@ use Rattle.vx_sector.specs.declared.cmd.Cmd.TheVariants.{Look, Place, Break}
 use Rattle.vx_sector.specs.declared.reply.Reply.{Reply}
 use Rattle.vx_sector.specs.declared.refusal.Refusal.{Refusal}
 use Rattle.vx_sector.specs.declared.refusal.Refusal.TheVariants.{OutOfWorld}
-use Rattle.vx_sector.specs.Acting.{place_of, ok_unless, refuse_if, first_some, answer_of, cells_by, is_recorded, leaves_trace, sector_after}
+use Rattle.vx_sector.specs.Acting.{place_of, ok_unless, refuse_if, first_some, answer_of, cells_by, leaves_trace, sector_after}
 use Rattle.vx_sector.specs.Laws.{OneCellChanges, RefusalLeavesCells}
 
 first_fails : (b : Bool) (rest : List (Option Refusal)) (x : Reply) → is_ok (ok_unless (first_some (refuse_if (not b) OutOfWorld ∷ rest)) x) ≡ true → b ≡ true

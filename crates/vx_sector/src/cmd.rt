@@ -25,3 +25,16 @@ impl Cmd {
         }
     }
 }
+
+#[cfg(test)]
+mod tests {
+    use super::*;
+
+    #[test]
+    fn each_command_speaks_of_its_position(rt: HostRuntime) {
+        let p = Pos::new(1, 2, 3);
+        for cmd in [Cmd::Look(p), Cmd::Place(p, Part::Stone), Cmd::Break(p)] {
+            assert_eq!(rt; cmd.place(), p, "{cmd:?}");
+        }
+    }
+}

@@ -39,3 +39,25 @@ impl fmt::Display for Refusal {
 }
 
 impl Error for Refusal {}
+
+#[cfg(test)]
+mod tests {
+    use super::*;
+    use std::test::Fail;
+    use vx_region::RegionNo;
+
+    #[test]
+    fn each_refusal_has_its_number_and_words(rt: HostRuntime) -> Result<(), Fail> {
+        let rule = Rule::Member { at: RegionNo(1) };
+        for (refusal, words) in [
+            (Refusal::OutOfWorld, "refused 1 out of world"),
+            (Refusal::Denied(rule), "refused 2 member at 1"),
+            (Refusal::Occupied, "refused 3 occupied"),
+            (Refusal::Nothing, "refused 4 nothing"),
+            (Refusal::Unbreakable, "refused 9 unbreakable"),
+        ] {
+            assert_eq!(rt; format!(in rt.alloc(); "{refusal}")?.as_str(), words);
+        }
+        Ok(())
+    }
+}

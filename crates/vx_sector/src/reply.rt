@@ -25,3 +25,26 @@ impl fmt::Display for Reply {
         }
     }
 }
+
+#[cfg(test)]
+mod tests {
+    use super::*;
+    use std::test::Fail;
+    use vx_region::RegionNo;
+
+    #[test]
+    fn each_reply_has_its_words(rt: HostRuntime) -> Result<(), Fail> {
+        for (reply, words) in [
+            (Reply::Seen(Cell::Stone), "seen stone"),
+            (Reply::Seen(Cell::Air), "seen air"),
+            (Reply::Done(Rule::Default), "ok default"),
+            (
+                Reply::Done(Rule::Member { at: RegionNo(1) }),
+                "ok member at 1",
+            ),
+        ] {
+            assert_eq!(rt; format!(in rt.alloc(); "{reply}")?.as_str(), words);
+        }
+        Ok(())
+    }
+}

@@ -1,6 +1,6 @@
 use Rattle.std.proofs.Common.{sym, ◌∙◌}
 use Rattle.vx_region.specs.Subjects.{actor_of}
-use Rattle.vx_decide.specs.Verdict.{first_failing, first_home, is_failing, contains}
+use Rattle.vx_decide.specs.Verdict.{first_failing, is_failing}
 use Rattle.vx_decide.proofs.Leasts.{least_next, least_here}
 use Rattle.vx_decide.proofs.plain.first_failing.Goals as goal
 

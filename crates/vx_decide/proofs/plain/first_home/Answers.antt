@@ -1,5 +1,5 @@
 use Rattle.std.proofs.Common.{sym, ◌∙◌}
-use Rattle.vx_decide.specs.Verdict.{first_failing, first_home, is_failing, contains}
+use Rattle.vx_decide.specs.Verdict.{first_home, contains}
 use Rattle.vx_decide.proofs.Leasts.{least_next, least_here}
 use Rattle.vx_decide.proofs.plain.first_home.Goals as goal
 

@@ -60,6 +60,9 @@ impl Sector {
     #[tactic(auto, unfolding(crate::specs::Acting::sector_after))]
     pub fn act(&mut self, seat: Seat, cmd: Cmd) -> Result<Reply, Refusal>
         ensures answer { (result ≡ answer_of self.old (seat_of seat) cmd) ⊎ (result ≡ Err Refusal.NoMemory) }
+        // Memory is wanted only for a record.
+        ensures memory { (result ≡ answer_of self.old (seat_of seat) cmd)
+            ⊎ (is_recorded (answer_of self.old (seat_of seat) cmd) ≡ true) }
         ensures after { self.new ≡ sector_after self.old (seat_of seat) cmd result }
     {
         let answer = self.answer(&seat, &cmd);

@@ -1,5 +1,5 @@
 -- Where a list of bytes is cut at its first line feed.
-use Rattle.std.proofs.Common.{◌≡◌, ℕ, suc, ◌+◌, ◌-◌, ◌<◌, ◌≤◌, Bool, true, false, cond, ◌==◌, if◌then◌else◌, nat_lt, List, [], ◌∷◌, ◌++◌, length, take, drop, get_or, slice_range, position, Option, Some, None, refl, ap, sym, ◌∙◌, subst, arith, add-one, length-drop, drop-cons}
+use Rattle.std.proofs.Common.{◌≡◌, ℕ, suc, ◌+◌, ◌-◌, ◌<◌, ◌≤◌, Bool, true, false, cond, ◌==◌, if◌then◌else◌, nat_lt, List, [], ◌∷◌, ◌++◌, length, take, drop, get_or, slice_range, position, Some, None, refl, ap, sym, ◌∙◌, subst, arith, add-one, length-drop, drop-cons}
 use Rattle.std.specs.List.{position_or_len, onto_first}
 use Rattle.std.proofs.lemmas.List.{take-append-drop, drop-take, drop-drop, length-take-le, get_or-take}
 use Rattle.std.proofs.lemmas.List.Elements.{recursion_from_All}

@@ -1,4 +1,4 @@
-use Rattle.std.specs.Prelude.{ℕ, ◌+◌, Bool, true, false, not, ◌&&◌, ◌==◌, nat_lt, bytes_eq, codes, decimal, if◌then◌else◌, List, [], ◌∷◌, ◌++◌, length, Option, Some, None, option_map, is_some, Result, Ok, Err}
+use Rattle.std.specs.Prelude.{ℕ, ◌+◌, Bool, not, ◌&&◌, ◌==◌, nat_lt, bytes_eq, codes, decimal, if◌then◌else◌, List, [], ◌∷◌, ◌++◌, length, Option, Some, None, option_map, is_some, Result, Ok, Err}
 use Rattle.vx_block.specs.Part.{part_cell}
 use Rattle.vx_geom.specs.Sizes.{sector_count}
 use Rattle.vx_cells.specs.SectorCells.{SectorCells, only_air, holds, with_cell}

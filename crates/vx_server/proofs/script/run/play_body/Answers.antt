@@ -5,8 +5,8 @@ use Rattle.std.proofs.lemmas.Result.{err_from_is_err_and, on_ok_weaker}
 use Rattle.vx_server.specs.declared.script.fault.Fault.TheVariants.{Syntax}
 use Rattle.vx_server.specs.Lines.{lines_of}
 use Rattle.vx_server.specs.Transcript.{body_run, done_text, most_bytes, prepend}
-use Rattle.vx_server.proofs.Going.{goes_on, goes_out, goes_long, goes_to_end}
-use Rattle.vx_server.proofs.Runs.{body_long, body_step, body_stop, prepend-prepend}
+use Rattle.vx_server.proofs.Going.{goes_on, goes_long, goes_to_end}
+use Rattle.vx_server.proofs.Runs.{body_long, body_step, prepend-prepend}
 use Rattle.vx_server.proofs.script.run.play_body.Goals as goal
 
 pub returns-in_err-next-clause-syntax : goal.returns-in_err-next-clause-syntax

@@ -1,12 +1,11 @@
-use Rattle.std.proofs.Common.{◌≡◌, ℕ, ◌+◌, ◌++◌, List, Some, Result, Ok, Err, ap, sym, ◌∙◌}
+use Rattle.std.proofs.Common.{◌≡◌, ℕ, ◌++◌, List, Ok, Err, ap, sym, ◌∙◌}
 use Rattle.std.specs.Io.KnownBytes.{Appends}
 use Rattle.std.proofs.KnownBytes.{Appends-trans}
 use Rattle.std.proofs.lemmas.Result.{err_from_is_err_and, on_ok_weaker}
-use Rattle.vx_server.specs.declared.script.fault.Fault.{Fault}
 use Rattle.vx_server.specs.declared.script.fault.Fault.TheVariants.{Syntax}
 use Rattle.vx_server.specs.Lines.{lines_of}
 use Rattle.vx_server.specs.ScriptLines.{said}
-use Rattle.vx_server.specs.Transcript.{Play, and_play, begun, body_run, body_turn, prepend, run_from}
+use Rattle.vx_server.specs.Transcript.{prepend, run_from}
 use Rattle.vx_server.proofs.Going.{if_known, of_known}
 use Rattle.vx_server.proofs.Runs.{run_begun}
 use Rattle.vx_server.proofs.script.run.play_on.Goals as goal

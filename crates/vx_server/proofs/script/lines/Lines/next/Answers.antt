@@ -1,4 +1,4 @@
-use Rattle.std.proofs.Common.{◌≡◌, ◌<◌, ◌++◌, length, true, false, not, refl, ap, subst, arith}
+use Rattle.std.proofs.Common.{◌≡◌, ◌<◌, ◌++◌, length, true, not, refl, ap, subst, arith}
 use Rattle.vx_server.specs.Lines.{TakesPiece}
 use Rattle.vx_server.specs.declared.script.lines.TheConstants.{LINE_BYTES}
 use Rattle.vx_server.proofs.Taking.{line_taken, line_long, last_taken, filled_is}

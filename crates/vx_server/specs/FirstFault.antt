@@ -5,7 +5,7 @@ use Rattle.vx_server.specs.declared.script.fault.Fault.TheVariants.{Syntax}
 use Rattle.vx_server.specs.Lines.{lines_of}
 use Rattle.vx_server.specs.Transcript.{no_opening, header_run, transcript}
 
--- line k of these lines, the first of which has number n, is the one at which the run of them faults, and the lines before it run
+-- line k of these lines, the first of which has number n, is the one at which the run of them faults; no line before it is faulty
 pub record IsFirstFault (run : List (List ℕ) → Result (List ℕ) Fault) (n : ℕ) (lines : List (List ℕ)) (k : ℕ) : Type 0 where
   pub before : List (List ℕ)
   pub faulty : List ℕ

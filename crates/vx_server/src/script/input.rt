@@ -1,4 +1,4 @@
-ghost use Rattle.std.specs.Prelude.{◌≡◌, ◌<◌, ◌≤◌, false, [], ◌++◌, List, ℕ, length, take, position, ◌==◌, IfOk, IfErr, OnOk};
+ghost use Rattle.std.specs.Prelude.{◌≡◌, ◌<◌, ◌≤◌, false, not, [], ◌++◌, List, ℕ, length, take, position, ◌==◌, IfOk, IfErr, OnOk};
 ghost use Rattle.std.specs.Io.KnownBytes.{Consumes, IsAtEnd};
 ghost use Rattle.vx_server.specs.Lines.{line_feed, TakesPiece};
 
@@ -58,6 +58,7 @@ impl Input {
     pub fn fill<R: Read>(&mut self, reader: &mut R) -> Result<bool, Fault>
         requires { self.old ≡ [] }
         ensures bytes { IfOk result (λ more. Consumes (R.remaining reader.old) (R.remaining reader.new) self.new) }
+        ensures some { IfOk result (λ more. more ≡ not (length self.new == 0)) }
         ensures end { IfOk result (λ more. more ≡ false → (self.new ≡ []) × IsAtEnd (R.remaining reader.new)) }
         ensures err { IfErr result (λ fault. fault ≡ Fault.ReadFailed) }
     {

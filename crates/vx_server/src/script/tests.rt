@@ -260,6 +260,43 @@ fn lines_have_a_limit(rt: HostRuntime) -> Result<(), Fail> {
     Ok(())
 }
 
+/// Gives so many line feeds, and then ends.
+#[derive(Drop)]
+struct Feeds {
+    left: usize,
+}
+
+impl Read for Feeds {
+    fn read(&mut self, buf: &mut [u8]) -> io::Result<usize> {
+        let count = self.left.min(buf.len());
+        for b in buf.iter_mut() {
+            *b = b'\n';
+        }
+        self.left -= count;
+        Ok(count)
+    }
+}
+
+#[test]
+fn a_script_has_a_limit(rt: HostRuntime) {
+    let alloc = rt.alloc();
+    let mut output = paper(alloc);
+    let got = run(
+        alloc,
+        &mut Feeds { left: 16_777_216 },
+        &mut output,
+        RegionSet::new(alloc),
+    );
+    assert_eq!(rt; got, Ok(()));
+    let got = run(
+        alloc,
+        &mut Feeds { left: 16_777_217 },
+        &mut output,
+        RegionSet::new(alloc),
+    );
+    assert_eq!(rt; got, Err(Fault::ReadFailed));
+}
+
 #[test]
 fn a_reader_without_end_ends(rt: HostRuntime) {
     let alloc = rt.alloc();

@@ -1,8 +1,9 @@
-use Rattle.std.specs.Prelude.{ℕ, Bool, false, ◌&&◌, ◌==◌, not, nat_le, bytes_eq, codes, if◌then◌else◌, List, [], ◌∷◌, Option, Some, None}
+use Rattle.std.specs.Prelude.{ℕ, Bool, false, ◌&&◌, ◌==◌, not, bytes_eq, codes, if◌then◌else◌, List, [], ◌∷◌, Option, Some, None}
 use Rattle.std.specs.List.{list_all}
 use Rattle.vx_block.specs.declared.part.Part.{Part}
 use Rattle.vx_geom.specs.declared.pos.Pos.{Pos}
 use Rattle.vx_geom.specs.Sizes.{Sizes}
+use Rattle.vx_region.specs.Words.{is_amid}
 use Rattle.vx_sector.specs.declared.cmd.Cmd.{Cmd}
 use Rattle.vx_sector.specs.declared.cmd.Cmd.TheVariants.{Look, Place, Break}
 use Rattle.vx_server.specs.Words.{words_of}
@@ -26,13 +27,9 @@ said (line.Player name) = Player name.text.bytes
 said (line.Set p part) = Set p part
 said (line.As name cmd) = Act name.text.bytes cmd
 
--- a ≤ n ≤ b
-abbrev pub is_amid : ℕ → ℕ → ℕ → Bool
-is_amid a b n = nat_le a n && nat_le n b
-
 -- the sizes of a world: 1 to 8 sectors each way, of 1 or 2 chunks each way
 abbrev pub sizes_of : ℕ → ℕ → ℕ → Option Sizes
-sizes_of sx sz s = if (is_amid 1 8 sx && is_amid 1 8 sz) && is_amid 1 2 s then Some (record { sx = sx; sz = sz; s = s }) else None
+sizes_of sx sz s = if (is_amid 1 sx 8 && is_amid 1 sz 8) && is_amid 1 s 2 then Some (record { sx = sx; sz = sz; s = s }) else None
 
 -- `world SX SZ S`
 unfoldable pub world_line : Rest → Option Said
@@ -107,7 +104,7 @@ line_in (first ∷ words) = line_by first words
 
 -- a byte that may stand in a line
 abbrev pub is_printable : ℕ → Bool
-is_printable b = nat_le 32 b && nat_le b 126
+is_printable b = is_amid 32 b 126
 
 -- the line is a comment
 abbrev pub is_comment : List ℕ → Bool

@@ -1,4 +1,5 @@
 pub mod Action
 pub mod Flag
 pub mod Group
+pub mod Settings
 pub mod State

@@ -1,11 +1,14 @@
-ghost use Rattle.std.specs.Prelude.{◌≡◌, ◌↔◌, ℕ, List, Some, Bool, true, not};
+ghost use Rattle.std.specs.Prelude.{◌≡◌, ◌≢◌, ◌↔◌, ℕ, List, Option, Some, Bool, true, not};
 ghost use Rattle.vx_flag.specs.Flag.{flag_text, flag_of};
 ghost use Rattle.vx_flag.specs.Group.{group_text, group_of, fits};
+ghost use Rattle.vx_flag.specs.Settings.{setting_of, with_setting};
 ghost use Rattle.vx_flag.specs.State.{state_text, state_of, strictest};
 ghost use Rattle.vx_flag.specs.declared.association.Association.{Association};
 ghost use Rattle.vx_flag.specs.declared.flag.Flag.{Flag};
 ghost use Rattle.vx_flag.specs.declared.group.Group.{Group};
 ghost use Rattle.vx_flag.specs.declared.group.Group.TheVariants.{All, Members, Owners, Nonmembers, Nonowners};
+ghost use Rattle.vx_flag.specs.declared.setting.Setting.{Setting};
+ghost use Rattle.vx_flag.specs.declared.settings.Settings.{Settings};
 ghost use Rattle.vx_flag.specs.declared.state.State.{State};
 ghost use Rattle.vx_flag.specs.declared.state.State.TheVariants.{Allow, Deny};
 
@@ -38,4 +41,10 @@ pub fn texts_are_read()
     ensures flags { (t : List ℕ) (f : Flag) → (flag_of t ≡ Some f) ↔ (flag_text f ≡ t) }
     ensures states { (t : List ℕ) (s : State) → (state_of t ≡ Some s) ↔ (state_text s ≡ t) }
     ensures groups { (t : List ℕ) (g : Group) → (group_of t ≡ Some g) ↔ (group_text g ≡ t) }
+{}
+
+/// A change to one flag sets or clears that flag, and leaves every other as it was.
+pub fn one_flag_changes()
+    ensures changed { (s : Settings) (f : Flag) (o : Option Setting) → setting_of (with_setting s f o) f ≡ o }
+    ensures others { (s : Settings) (f g : Flag) (o : Option Setting) → f ≢ g → setting_of (with_setting s f o) g ≡ setting_of s g }
 {}

@@ -6,7 +6,8 @@ use Rattle.std.proofs.lemmas.Slice.Eq.{bytes_eq-Decides}
 use Rattle.std.proofs.lemmas.List.Folds.{find-append}
 use borrow.Author.Tests.{eqb-true}
 use Rattle.vx_geom.specs.Outline.{Outline}
-use Rattle.vx_region.specs.Regions.{RegionData, Entry, Regions, IsNumbered, region_at, number_of, fresh_region, with_region, changed_at}
+use Rattle.vx_region.specs.Forest.{IsNumbered}
+use Rattle.vx_region.specs.Regions.{RegionData, Entry, Regions, region_at, number_of, is_global_id, fresh_region, with_region, changed, changed_at}
 use Rattle.vx_region.proofs.Numbers.{find_above}
 
 -- what a search finds after one more entry
@@ -69,11 +70,11 @@ found_elsewhere change n m (e ∷ es) other = by (nat_eq n e.0) refl (found_else
     by false is rest = both (nat_eq m e.0) rest
 
 -- the region of a number after a change at that number, and at another
-pub region_changed : (change : RegionData → RegionData) (n : ℕ) (rs : Regions) → region_at (record rs { entries = changed_at change n rs.entries }) n ≡ option_map change (region_at rs n)
+pub region_changed : (change : RegionData → RegionData) (n : ℕ) (rs : Regions) → region_at (changed change n rs) n ≡ option_map change (region_at rs n)
 unfolding region_at
 region_changed change n rs = found_changed change n rs.entries
 
-pub region_elsewhere : (change : RegionData → RegionData) (n m : ℕ) (rs : Regions) → m ≢ n → region_at (record rs { entries = changed_at change n rs.entries }) m ≡ region_at rs m
+pub region_elsewhere : (change : RegionData → RegionData) (n m : ℕ) (rs : Regions) → m ≢ n → region_at (changed change n rs) m ≡ region_at rs m
 unfolding region_at
 region_elsewhere change n m rs other = found_elsewhere change n m rs.entries other
 
@@ -89,14 +90,27 @@ unfolding region_at with_region
 region_kept rs id shape n other =
     ap (option_map (λ (e : Entry). e.1)) (find_before (λ e. nat_eq n e.0) rs.entries (rs.last + 1, fresh_region id shape) (ne_eqb n (rs.last + 1) other))
 
+-- an id that has no number is not that of the world at large
+not_global : (id : List ℕ) (o : Option ℕ) → (if is_global_id id then Some 0 else o) ≡ None → is_global_id id ≡ false
+not_global id o none = by (is_global_id id) none
+  where
+    by : (b : Bool) → (if b then Some 0 else o) ≡ None → b ≡ false
+    by true some = cc
+    by false none = refl
+
 pub number_defined : (rs : Regions) (id : List ℕ) (shape : Outline) → number_of rs id ≡ None → number_of (with_region rs id shape) id ≡ Some (rs.last + 1)
 unfolding number_of with_region
 number_defined rs id shape free =
-    ap (option_map (λ (e : Entry). e.0)) (find_last (λ e. bytes_eq id e.1.id) rs.entries (rs.last + 1, fresh_region id shape)
-    (none_from_map (λ e. e.0) _ free) ((bytes_eq-Decides id id).1 refl))
+    let local = not_global id _ free in
+    let none : option_map (λ (e : Entry). e.0) (find (λ e. bytes_eq id e.1.id) rs.entries) ≡ None =
+    sym (ap (λ b. if b then Some 0 else option_map (λ (e : Entry). e.0) (find (λ e. bytes_eq id e.1.id) rs.entries)) local) ∙ free in
+    ap (λ b. if b then Some 0 else option_map (λ (e : Entry). e.0) (find (λ e. bytes_eq id e.1.id) (rs.entries ++ (rs.last + 1, fresh_region id shape) ∷ []))) local
+    ∙ ap (option_map (λ (e : Entry). e.0)) (find_last (λ e. bytes_eq id e.1.id) rs.entries (rs.last + 1, fresh_region id shape)
+    (none_from_map (λ e. e.0) _ none) ((bytes_eq-Decides id id).1 refl))
 
 pub number_kept : (rs : Regions) (id other : List ℕ) (shape : Outline) → other ≢ id → number_of (with_region rs id shape) other ≡ number_of rs other
 unfolding number_of with_region
 number_kept rs id other shape apart =
-    ap (option_map (λ (e : Entry). e.0)) (find_before (λ e. bytes_eq other e.1.id) rs.entries (rs.last + 1, fresh_region id shape)
+    ap (λ o. if is_global_id other then Some 0 else option_map (λ (e : Entry). e.0) o)
+    (find_before (λ e. bytes_eq other e.1.id) rs.entries (rs.last + 1, fresh_region id shape)
     (not_true (bytes_eq other id) (λ same. apart ((bytes_eq-Decides other id).0 same))))

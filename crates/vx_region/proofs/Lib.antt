@@ -1,4 +1,6 @@
 pub mod Changes
+pub mod Forests
 pub mod Lookups
 pub mod NameLemmas
 pub mod Numbers
+pub mod Walks

@@ -8,11 +8,9 @@ use Rattle.std.proofs.lemmas.Map.Entries.{lookup_from_place}
 use Rattle.std.proofs.lemmas.Map.Keys.{IsDistinct-head, IsDistinct-tail}
 use Rattle.std.proofs.lemmas.Map.Steps.{set_value_same}
 use borrow.Author.Tests.{eqb-true}
-use Rattle.vx_region.specs.Regions.{RegionData, Entry, Regions, IsBelow, IsNumbered, region_at, changed_at}
+use Rattle.vx_region.specs.Forest.{IsBelow, IsNumbered}
+use Rattle.vx_region.specs.Regions.{RegionData, Entry, Regions, region_at, changed, changed_at}
 use Rattle.vx_region.proofs.Numbers.{find_above, distinct_numbers}
-
-abbrev regions : ℕ → List Entry → Regions
-regions last es = record { last = last; entries = es }
 
 -- a look-up as the map makes it is one as the definitions make it
 pub lookup_is : (n : ℕ) (es : List Entry) → lookup (nat_eq n) es ≡ option_map (λ e. e.1) (find (λ e. nat_eq n e.0) es)
@@ -34,10 +32,10 @@ some_reference None there = there
 some_reference (Some x) there = refl
 
 -- the map lends the region of a number that has one
-pub lent_from_known : (n last : ℕ) (es : List Entry) (lent : Option (MutBor RegionData)) → IsSome (region_at (regions last es) n)
-    → option_copied_mut lent ≡ lookup (nat_eq n) es → IsSome lent
+pub lent_from_known : (n : ℕ) (rs : Regions) (lent : Option (MutBor RegionData)) → IsSome (region_at rs n)
+    → option_copied_mut lent ≡ lookup (nat_eq n) rs.entries → IsSome lent
 unfolding region_at
-lent_from_known n last es lent known found = some_reference lent (rw (found, lookup_is n es) known)
+lent_from_known n rs lent known found = some_reference lent (rw (found, lookup_is n rs.entries) known)
 
 -- the region at a place is the one of the number there
 pub region_at_place : (rs : Regions) (i n : ℕ) (r : RegionData) → IsNumbered rs → slice_get rs.entries i ≡ Some (n, r) → region_at rs n ≡ Some r
@@ -68,15 +66,22 @@ changed_by_write change n (e ∷ es) r distinct there =
     by false is rest =
         ap (λ ds. e ∷ ds) (rest (sym (ap (λ b. cond b (Some e.1) (lookup (nat_eq n) es)) is) ∙ there))
 
+-- the region that the map lent is the one of the number
+lent_is : (n : ℕ) (rs : Regions) (lent : Option (MutBor RegionData)) (r : MutBor RegionData)
+    → option_copied_mut lent ≡ lookup (nat_eq n) rs.entries → lent ≡ Some r → lookup (nat_eq n) rs.entries ≡ Some r.now
+lent_is n rs lent r found is = sym found ∙ ap option_copied_mut is
+
 -- the regions after the one that the map lent was changed
-pub written_over : (change : RegionData → RegionData) (n last : ℕ) (es fs : List Entry) (lent : Option (MutBor RegionData)) (r : MutBor RegionData) (w : RegionData)
-    → IsDistinct nat_eq (keys_of es) → option_copied_mut lent ≡ lookup (nat_eq n) es → lent ≡ Some r → fs ≡ set_value (nat_eq n) es w → w ≡ change r.now
-    → regions last fs ≡ regions last (changed_at change n es)
-written_over change n last es fs lent r w distinct found is written same =
-    ap (regions last) (written ∙ ap (set_value (nat_eq n) es) same ∙ changed_by_write change n es r.now distinct (sym found ∙ ap option_copied_mut is))
+pub written_over : (change : RegionData → RegionData) (n : ℕ) (rs : Regions) (fs : List Entry) (lent : Option (MutBor RegionData)) (r : MutBor RegionData) (w : RegionData)
+    → IsDistinct nat_eq (keys_of rs.entries) → option_copied_mut lent ≡ lookup (nat_eq n) rs.entries → lent ≡ Some r → fs ≡ set_value (nat_eq n) rs.entries w
+    → w ≡ change r.now → record rs { entries = fs } ≡ changed change n rs
+written_over change n rs fs lent r w distinct found is written same =
+    ap (λ es. record rs { entries = es })
+    (written ∙ ap (set_value (nat_eq n) rs.entries) same ∙ changed_by_write change n rs.entries r.now distinct (lent_is n rs lent r found is))
 
 -- and after it was left as it was
-pub written_back : (n last : ℕ) (es fs : List Entry) (lent : Option (MutBor RegionData)) (r : MutBor RegionData) (w : RegionData)
-    → option_copied_mut lent ≡ lookup (nat_eq n) es → lent ≡ Some r → fs ≡ set_value (nat_eq n) es w → w ≡ r.now → regions last fs ≡ regions last es
-written_back n last es fs lent r w found is written same =
-    ap (regions last) (written ∙ ap (set_value (nat_eq n) es) same ∙ set_value_same (nat_eq n) es r.now (sym found ∙ ap option_copied_mut is))
+pub written_back : (n : ℕ) (rs : Regions) (fs : List Entry) (lent : Option (MutBor RegionData)) (r : MutBor RegionData) (w : RegionData)
+    → option_copied_mut lent ≡ lookup (nat_eq n) rs.entries → lent ≡ Some r → fs ≡ set_value (nat_eq n) rs.entries w → w ≡ r.now → record rs { entries = fs } ≡ rs
+written_back n rs fs lent r w found is written same =
+    ap (λ es. record rs { entries = es })
+    (written ∙ ap (set_value (nat_eq n) rs.entries) same ∙ set_value_same (nat_eq n) rs.entries r.now (lent_is n rs lent r found is))

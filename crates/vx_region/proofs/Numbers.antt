@@ -4,7 +4,8 @@ use Rattle.std.specs.List.{AllByRecursion, IsDistinct}
 use Rattle.std.specs.Map.{set_value, keys_of}
 use Rattle.std.proofs.lemmas.Bool.{ne_eqb}
 use borrow.Author.Tests.{eqb-true}
-use Rattle.vx_region.specs.Regions.{RegionData, Entry, IsAscending, IsBelow, IsNumbered}
+use Rattle.vx_region.specs.Regions.{RegionData, Entry, Regions}
+use Rattle.vx_region.specs.Forest.{IsAscending, IsBelow, IsNumbered}
 
 -- there are at most as many numbers above n and up to m as lie between them
 pub count_below : (n m : ℕ) (es : List Entry) → IsAscending n es → IsBelow m es → length es ≤ m - n
@@ -20,11 +21,10 @@ pub below_push : (m : ℕ) (es : List Entry) (e : Entry) → IsBelow m es → m 
 below_push m [] e below high = (omega arith, tt)
 below_push m (d ∷ es) e below high = (omega arith, below_push m es e below.1 high)
 
-pub numbered_push : (last : ℕ) (es : List Entry) (e : Entry) → IsNumbered (record { last = last; entries = es }) → last < e.0
-    → IsNumbered (record { last = e.0; entries = es ++ e ∷ [] })
-numbered_push last es e numbered high = record {
-  ascending = ascending_push 0 last es e numbered.ascending numbered.given zero-le high;
-  given = below_push last es e numbered.given high;
+pub numbered_push : (rs : Regions) (e : Entry) → IsNumbered rs → rs.last < e.0 → IsNumbered (record rs { last = e.0; entries = rs.entries ++ e ∷ [] })
+numbered_push rs e numbered high = record {
+  ascending = ascending_push 0 rs.last rs.entries e numbered.ascending numbered.given zero-le high;
+  given = below_push rs.last rs.entries e numbered.given high;
 }
 
 -- a number above all has no region
@@ -82,9 +82,8 @@ below_written test m (e ∷ es) w below = by (test e.0) (below_written test m es
     by true rest = below
     by false rest = (below.0, rest)
 
-pub numbered_written : (test : ℕ → Bool) (last : ℕ) (es : List Entry) (w : RegionData) → IsNumbered (record { last = last; entries = es })
-    → IsNumbered (record { last = last; entries = set_value test es w })
-numbered_written test last es w numbered = record {
-  ascending = ascending_written test 0 es w numbered.ascending;
-  given = below_written test last es w numbered.given;
+pub numbered_written : (test : ℕ → Bool) (rs : Regions) (w : RegionData) → IsNumbered rs → IsNumbered (record rs { entries = set_value test rs.entries w })
+numbered_written test rs w numbered = record {
+  ascending = ascending_written test 0 rs.entries w numbered.ascending;
+  given = below_written test rs.last rs.entries w numbered.given;
 }

@@ -1,6 +1,7 @@
 use Rattle.std.specs.Prelude.{ℕ, ◌≡◌, ◌≢◌, ◌+◌, ◌⊎◌, ◌↔◌, IsTrue, IsSomeAnd, List, Some, None, slice_get}
 use Rattle.vx_geom.specs.Outline.{Outline}
-use Rattle.vx_region.specs.Regions.{RegionData, Regions, IsNumbered, region_at, number_of, names, fresh_region, with_region, with_owner, with_member}
+use Rattle.vx_region.specs.Forest.{IsNumbered}
+use Rattle.vx_region.specs.Regions.{RegionData, Regions, region_at, number_of, names, fresh_region, with_region, with_owner, with_member}
 
 -- a number that stands at a place is the number of the region there
 abbrev pub EachHasItsNumber : Type 0
@@ -30,15 +31,21 @@ NamesOneMore old name new = (other : List ℕ) → IsTrue (names new other) ↔ 
 pub record GainsOwner (name : List ℕ) (old new : RegionData) : Type 0 where
   pub id : new.id ≡ old.id
   pub shape : new.shape ≡ old.shape
+  pub priority : new.priority ≡ old.priority
+  pub parent : new.parent ≡ old.parent
   pub owners : NamesOneMore old.owners name new.owners
   pub members : new.members ≡ old.members
+  pub settings : new.settings ≡ old.settings
 
 -- a region has one more member and is as before otherwise
 pub record GainsMember (name : List ℕ) (old new : RegionData) : Type 0 where
   pub id : new.id ≡ old.id
   pub shape : new.shape ≡ old.shape
+  pub priority : new.priority ≡ old.priority
+  pub parent : new.parent ≡ old.parent
   pub owners : new.owners ≡ old.owners
   pub members : NamesOneMore old.members name new.members
+  pub settings : new.settings ≡ old.settings
 
 abbrev pub OwnerIsAdded : Type 0
 OwnerIsAdded = (rs : Regions) (n : ℕ) (name : List ℕ) (old : RegionData) → region_at rs n ≡ Some old → IsSomeAnd (region_at (with_owner rs n name) n) (GainsOwner name old)

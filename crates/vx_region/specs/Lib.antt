@@ -1,4 +1,7 @@
 pub mod Alphabet
+pub mod Ancestry
+pub mod Association
+pub mod Forest
 pub mod Laws
 pub mod Regions
 pub mod Subjects

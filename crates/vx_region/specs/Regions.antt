@@ -1,34 +1,59 @@
-use Rattle.std.specs.Prelude.{ℕ, ◌+◌, ◌<◌, ◌≤◌, Bool, if◌then◌else◌, nat_eq, bytes_eq, List, [], ◌∷◌, ◌++◌, map, find, Option, option_map}
+use Rattle.std.specs.Prelude.{ℕ, ℤ, pos, ◌+◌, Bool, if◌then◌else◌, nat_eq, bytes_eq, codes, List, [], ◌∷◌, ◌++◌, map, filter, not, find, Option, Some, None, option_map}
 use Rattle.std.specs.List.{list_any}
+use Rattle.std.specs.Option.{option_and_then}
 use Rattle.vx_geom.specs.Outline.{Outline}
+use Rattle.vx_flag.specs.declared.flag.Flag.{Flag}
+use Rattle.vx_flag.specs.declared.setting.Setting.{Setting}
+use Rattle.vx_flag.specs.declared.settings.Settings.{Settings}
+use Rattle.vx_flag.specs.Settings.{no_settings, setting_of, with_setting}
 
--- what a region is: its id, its shape, and the names of its owners and its members
+-- what a region is
 pub record RegionData : Type 0 where
   pub id : List ℕ
   pub shape : Outline
+  pub priority : ℤ
+  pub parent : Option ℕ
   pub owners : List (List ℕ)
   pub members : List (List ℕ)
+  pub settings : Settings
 
 -- a region with its number
 abbrev pub Entry : Type 0
 Entry = ℕ × RegionData
 
--- the regions of a world in order of definition, and the last number that was ever given
+-- the regions of a world in order of definition, the last number that was ever given, and the flags of the world at large
 pub record Regions : Type 0 where
   pub last : ℕ
   pub entries : List Entry
+  pub global : Settings
 
 -- there is no region yet
 abbrev pub no_regions : Regions
-no_regions = record { last = 0; entries = [] }
+no_regions = record { last = 0; entries = []; global = no_settings }
 
 -- the region of a number
 unfoldable pub region_at : Regions → ℕ → Option RegionData
 region_at rs n = option_map (λ e. e.1) (find (λ e. nat_eq n e.0) rs.entries)
 
--- the number of the region with this id
+-- the id of the world at large
+abbrev pub global_id : List ℕ
+global_id = codes "__global__"
+
+-- the id is that of the world at large
+unfoldable pub is_global_id : List ℕ → Bool
+is_global_id id = bytes_eq id global_id
+
+-- the number of the region with this id, 0 for the world at large
 unfoldable pub number_of : Regions → List ℕ → Option ℕ
-number_of rs id = option_map (λ e. e.0) (find (λ e. bytes_eq id e.1.id) rs.entries)
+number_of rs id = if is_global_id id then Some 0 else option_map (λ e. e.0) (find (λ e. bytes_eq id e.1.id) rs.entries)
+
+-- the parent of the region of a number
+unfoldable pub parent_of : Regions → ℕ → Option ℕ
+parent_of rs n = option_and_then (λ r. r.parent) (region_at rs n)
+
+-- what is set for a flag in the region of a number, or in the world at large for 0
+unfoldable pub setting_at : Regions → ℕ → Flag → Option Setting
+setting_at rs n f = if nat_eq n 0 then setting_of rs.global f else option_and_then (λ r. setting_of r.settings f) (region_at rs n)
 
 -- the name is among these
 abbrev pub names : List (List ℕ) → List ℕ → Bool
@@ -38,37 +63,56 @@ names texts text = list_any (bytes_eq text) texts
 abbrev pub with_name : List (List ℕ) → List ℕ → List (List ℕ)
 with_name texts text = if names texts text then texts else texts ++ text ∷ []
 
+-- these without the name
+abbrev pub without_name : List (List ℕ) → List ℕ → List (List ℕ)
+without_name texts text = filter (λ t. not (bytes_eq text t)) texts
+
 -- a region as it is when it is defined
 abbrev pub fresh_region : List ℕ → Outline → RegionData
-fresh_region id shape = record { id = id; shape = shape; owners = []; members = [] }
+fresh_region id shape = record { id = id; shape = shape; priority = pos 0; parent = None; owners = []; members = []; settings = no_settings }
 
 -- one more region, under the number one above all that were ever given
 unfoldable pub with_region : Regions → List ℕ → Outline → Regions
-with_region rs id shape = record { last = rs.last + 1; entries = rs.entries ++ (rs.last + 1, fresh_region id shape) ∷ [] }
+with_region rs id shape = record rs { last = rs.last + 1; entries = rs.entries ++ (rs.last + 1, fresh_region id shape) ∷ [] }
+
+-- all but the region of that number
+unfoldable pub without_region : Regions → ℕ → Regions
+without_region rs n = record rs { entries = filter (λ e. not (nat_eq n e.0)) rs.entries }
 
 -- the region of that number changed, and no other
 abbrev pub changed_at : (RegionData → RegionData) → ℕ → List Entry → List Entry
 changed_at change n entries = map (λ e. if nat_eq n e.0 then (e.0, change e.1) else e) entries
 
--- one more owner of the region
+abbrev pub changed : (RegionData → RegionData) → ℕ → Regions → Regions
+changed change n rs = record rs { entries = changed_at change n rs.entries }
+
+-- another shape
+unfoldable pub with_shape : Regions → ℕ → Outline → Regions
+with_shape rs n shape = changed (λ r. record r { shape = shape }) n rs
+
+-- another priority
+unfoldable pub with_priority : Regions → ℕ → ℤ → Regions
+with_priority rs n priority = changed (λ r. record r { priority = priority }) n rs
+
+-- another parent, or none
+unfoldable pub with_parent : Regions → ℕ → Option ℕ → Regions
+with_parent rs n parent = changed (λ r. record r { parent = parent }) n rs
+
+-- one more owner, or one less
 unfoldable pub with_owner : Regions → ℕ → List ℕ → Regions
-with_owner rs n name = record rs { entries = changed_at (λ r. record r { owners = with_name r.owners name }) n rs.entries }
+with_owner rs n name = changed (λ r. record r { owners = with_name r.owners name }) n rs
 
--- one more member of the region
+unfoldable pub without_owner : Regions → ℕ → List ℕ → Regions
+without_owner rs n name = changed (λ r. record r { owners = without_name r.owners name }) n rs
+
+-- one more member, or one less
 unfoldable pub with_member : Regions → ℕ → List ℕ → Regions
-with_member rs n name = record rs { entries = changed_at (λ r. record r { members = with_name r.members name }) n rs.entries }
+with_member rs n name = changed (λ r. record r { members = with_name r.members name }) n rs
 
--- numbers ascend, each above n
-abbrev pub IsAscending : ℕ → List Entry → Type 0
-IsAscending n [] = Unit {0}
-IsAscending n (e ∷ es) = (n < e.0) × IsAscending e.0 es
+unfoldable pub without_member : Regions → ℕ → List ℕ → Regions
+without_member rs n name = changed (λ r. record r { members = without_name r.members name }) n rs
 
--- no number is above n
-abbrev pub IsBelow : ℕ → List Entry → Type 0
-IsBelow n [] = Unit {0}
-IsBelow n (e ∷ es) = (e.0 ≤ n) × IsBelow n es
-
--- the regions stand in order of their numbers, which are from 1 to the last one given
-pub record IsNumbered (rs : Regions) : Type 0 where
-  pub ascending : IsAscending 0 rs.entries
-  pub given : IsBelow rs.last rs.entries
+-- a flag set or left unset, in the region of a number, or in the world at large for 0
+unfoldable pub with_flag : Regions → ℕ → Flag → Option Setting → Regions
+with_flag rs n f o =
+    if nat_eq n 0 then record rs { global = with_setting rs.global f o } else changed (λ r. record r { settings = with_setting r.settings f o }) n rs

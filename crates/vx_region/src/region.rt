@@ -1,30 +1,45 @@
-ghost use Rattle.std.specs.Prelude.{◌≡◌, OnOk, OnErr};
+ghost use Rattle.std.specs.Prelude.{◌≡◌, option_map, OnOk, OnErr};
+ghost use Rattle.vx_flag.specs.Settings.{setting_of};
 ghost use Rattle.vx_geom.specs.Outline.{is_in};
 ghost use Rattle.vx_region.specs.Regions.{names, with_name, fresh_region};
 
 use crate::id::Id;
 use crate::name::Name;
+use crate::region_no::RegionNo;
 use indexmap::IndexSet;
 use std::alloc::{AllocError, Global};
 use std::marker::Model;
+use vx_flag::{Flag, Setting, Settings};
 use vx_geom::{Pos, Shape};
 
-/// A region: where it lies, and who its owners and its members are.
+/// A region: where it lies, what goes before it, who its owners and its members are, and what it sets for each flag.
 #[derive(Debug, Drop)]
 pub struct Region {
     id: Id,
     shape: Shape,
+    priority: i32,
+    parent: Option<RegionNo>,
     owners: IndexSet<Name>,
     members: IndexSet<Name>,
+    settings: Settings,
 }
 
 impl Model for Region {
+    ghost use Rattle.std.specs.Prelude.{option_map};
     ghost use Rattle.vx_region.specs.Regions.{RegionData};
     ghost use Rattle.vx_region.specs.Texts.{texts};
 
     ghost Value = { RegionData };
 
-    ghost view = { λ a. record { id = a.id.text.bytes; shape = a.shape; owners = texts a.owners.keys; members = texts a.members.keys } };
+    ghost view = { λ a. record {
+      id = a.id.text.bytes;
+      shape = a.shape;
+      priority = a.priority;
+      parent = option_map (λ n. n.0) a.parent;
+      owners = texts a.owners.keys;
+      members = texts a.members.keys;
+      settings = a.settings;
+    } };
 }
 
 impl Region {
@@ -35,8 +50,11 @@ impl Region {
         Region {
             id,
             shape,
+            priority: 0,
+            parent: None,
             owners: IndexSet::new(alloc),
             members: IndexSet::new(alloc),
+            settings: Settings::new(),
         }
     }
 
@@ -52,6 +70,27 @@ impl Region {
         ensures { result ≡ is_in self.now.shape p }
     {
         self.shape.contains(p)
+    }
+
+    /// The priority, 0 at first. Of the regions at a place those of highest priority decide.
+    pub fn priority(&self) -> i32
+        ensures { result ≡ self.now.priority }
+    {
+        self.priority
+    }
+
+    /// The region that it inherits from.
+    pub fn parent(&self) -> Option<RegionNo>
+        ensures { option_map (λ n. n.0) result ≡ self.now.parent }
+    {
+        self.parent
+    }
+
+    /// What it sets for the flag itself.
+    pub fn setting(&self, flag: Flag) -> Option<Setting>
+        ensures { result ≡ setting_of self.now.settings flag }
+    {
+        self.settings.get(flag)
     }
 
     /// Whether this player is named as an owner.
@@ -74,6 +113,7 @@ impl Region {
     pub(crate) fn add_owner(&mut self, name: Name) -> Result<(), AllocError>
         ensures ok { OnOk result (self.new ≡ record self.old { owners = with_name self.old.owners name.text.bytes }) }
         ensures err { OnErr result (self.new ≡ self.old) }
+        ensures parent { self.new.parent ≡ self.old.parent }
     {
         let _added = self.owners.insert(name)?;
         Ok(())
@@ -83,6 +123,7 @@ impl Region {
     pub(crate) fn add_member(&mut self, name: Name) -> Result<(), AllocError>
         ensures ok { OnOk result (self.new ≡ record self.old { members = with_name self.old.members name.text.bytes }) }
         ensures err { OnErr result (self.new ≡ self.old) }
+        ensures parent { self.new.parent ≡ self.old.parent }
     {
         let _added = self.members.insert(name)?;
         Ok(())

@@ -1,30 +1,40 @@
+ghost use Rattle.std.specs.List.{list_any};
 ghost use Rattle.std.specs.Prelude.{◌≡◌, ◌+◌, ◌-◌, ◌^◌, ◌<◌, length, slice_get, option_map, option_copied, None, Some, IsSome, IfOk, OnOk, OnErr};
-ghost use Rattle.vx_region.specs.Regions.{IsNumbered, no_regions, region_at, number_of, with_region, with_owner, with_member};
+ghost use Rattle.vx_region.specs.Ancestry.{ancestors, is_under, is_above};
+ghost use Rattle.vx_region.specs.Association.{owns, belongs, player_association, machine_association, association};
+ghost use Rattle.vx_region.specs.Forest.{IsForest};
+ghost use Rattle.vx_region.specs.Regions.{no_regions, region_at, number_of, parent_of, setting_at, is_global_id, with_region, with_owner, with_member};
+ghost use Rattle.vx_region.specs.Subjects.{actor_of};
 
 use crate::id::Id;
 use crate::name::Name;
 use crate::region::Region;
 use crate::region_no::RegionNo;
+use crate::subject::Subject;
 use indexmap::IndexMap;
 use std::alloc::{AllocError, Global};
 use std::marker::Model;
-use vx_geom::Shape;
+use vx_flag::{Association, Flag, Setting, Settings};
+use vx_geom::{Pos, Shape};
 
-/// The regions of a world, in order of their numbers. A number is never given twice.
+/// The regions of a world, in order of their numbers, and the flags of the world at large, which is `__global__` and has
+/// number 0. A number is never given twice.
 #[derive(Debug, Drop)]
 pub struct RegionSet {
     last: u32,
     regions: IndexMap<u32, Region>,
+    global: Settings,
 }
 
 impl Model for RegionSet {
-    ghost use Rattle.vx_region.specs.Regions.{Regions, IsNumbered};
+    ghost use Rattle.vx_region.specs.Regions.{Regions};
+    ghost use Rattle.vx_region.specs.Forest.{IsForest};
 
     ghost Value = { Regions };
 
-    ghost view = { λ a. record { last = a.last; entries = a.regions.entries } };
+    ghost view = { λ a. record { last = a.last; entries = a.regions.entries; global = a.global } };
 
-    ghost invariant = { λ a. IsNumbered (record { last = a.last; entries = a.regions.entries }) };
+    ghost invariant = { λ a. IsForest (record { last = a.last; entries = a.regions.entries; global = a.global }) };
 }
 
 impl RegionSet {
@@ -35,13 +45,14 @@ impl RegionSet {
         RegionSet {
             last: 0,
             regions: IndexMap::new(alloc),
+            global: Settings::new(),
         }
     }
 
-    /// How many regions there are.
+    /// How many regions there are, `__global__` not counted.
     pub fn count(&self) -> u32
         ensures value { result ≡ length self.now.entries }
-        ensures valid { IsNumbered self.now }
+        ensures valid { IsForest self.now }
     {
         let count = self.regions.len();
         prove!(count <= self.last as usize);
@@ -71,14 +82,154 @@ impl RegionSet {
         (RegionNo(*number), region)
     }
 
-    /// The number of the region with that id.
+    /// The number of the region with that id, 0 for `__global__`.
     pub fn find(&self, id: &Id) -> Option<RegionNo>
         ensures { option_map (λ n. n.0) result ≡ number_of self.now id.now.text.bytes }
     {
+        if is_global_id(id) {
+            return Some(RegionNo(0));
+        }
         self.regions
             .iter()
             .find(|(_, region)| id == region.id())
             .map(|(number, _)| RegionNo(*number))
+    }
+
+    /// The parent of the region of that number.
+    #[tactic(auto, unfolding(crate::specs::Regions::parent_of))]
+    pub fn parent(&self, number: RegionNo) -> Option<RegionNo>
+        ensures { option_map (λ n. n.0) result ≡ parent_of self.now number.0 }
+    {
+        self.get(number)?.parent()
+    }
+
+    /// What the region of that number sets for the flag itself, or the world at large for number 0.
+    #[tactic(auto, unfolding(crate::specs::Regions::setting_at))]
+    pub fn setting(&self, number: RegionNo, flag: Flag) -> Option<Setting>
+        ensures { result ≡ setting_at self.now number.0 flag }
+    {
+        if number.0 == 0 {
+            return self.global.get(flag);
+        }
+        self.get(number)?.setting(flag)
+    }
+
+    /// Whether `ancestor` is the region itself, its parent, its parent's parent, and so on.
+    #[tactic(auto, unfolding(crate::specs::Ancestry::is_under))]
+    pub fn under(&self, number: RegionNo, ancestor: RegionNo) -> bool
+        ensures { result ≡ is_under self.now number.0 ancestor.0 }
+    {
+        let mut at = number;
+        for _ in 0..u64::from(self.last()) + 1 {
+            if ancestor == at {
+                return true;
+            }
+            match self.parent(at) {
+                Some(parent) => at = parent,
+                None => return false,
+            }
+        }
+        false
+    }
+
+    /// Whether `upper` is the region's parent, its parent's parent, and so on.
+    #[tactic(auto, unfolding(crate::specs::Ancestry::is_above, crate::specs::Ancestry::is_under))]
+    pub fn is_above(&self, upper: RegionNo, region: &Region) -> bool
+        ensures { result ≡ is_above self.now upper.0 region.now }
+    {
+        match region.parent() {
+            Some(parent) => self.under(parent, upper),
+            None => false,
+        }
+    }
+
+    /// What the subject is to the region of that number: for a player by the names of the whole ancestry, for a machine by
+    /// where it stands. Everyone is a stranger to `__global__`.
+    #[tactic(auto, unfolding(crate::specs::Association::association))]
+    pub fn association(&self, subject: &Subject, number: RegionNo) -> Association
+        ensures { result ≡ association self.now (actor_of subject.now) number.0 }
+    {
+        match subject {
+            Subject::Player(name) => self.player_association(name, number),
+            Subject::Machine(place) => self.machine_association(place, number),
+        }
+    }
+
+    #[tactic(auto, unfolding(crate::specs::Association::player_association))]
+    fn player_association(&self, name: &Name, number: RegionNo) -> Association
+        ensures { result ≡ player_association self.now name.now.text.bytes number.0 }
+    {
+        if self.is_owner_along(name, number) {
+            return Association::Owner;
+        }
+        if self.is_member_along(name, number) {
+            return Association::Member;
+        }
+        Association::Stranger
+    }
+
+    // Whether some region of the ancestry names the player as owner.
+    fn is_owner_along(&self, name: &Name, number: RegionNo) -> bool
+        ensures { result ≡ list_any (owns self.now name.now.text.bytes) (ancestors self.now number.0) }
+    {
+        let mut at = number;
+        for _ in 0..u64::from(self.last()) + 1 {
+            if self.owns(name, at) {
+                return true;
+            }
+            match self.parent(at) {
+                Some(parent) => at = parent,
+                None => return false,
+            }
+        }
+        false
+    }
+
+    // Whether some region of the ancestry names the player as member.
+    fn is_member_along(&self, name: &Name, number: RegionNo) -> bool
+        ensures { result ≡ list_any (belongs self.now name.now.text.bytes) (ancestors self.now number.0) }
+    {
+        let mut at = number;
+        for _ in 0..u64::from(self.last()) + 1 {
+            if self.belongs(name, at) {
+                return true;
+            }
+            match self.parent(at) {
+                Some(parent) => at = parent,
+                None => return false,
+            }
+        }
+        false
+    }
+
+    #[tactic(auto, unfolding(crate::specs::Association::owns))]
+    fn owns(&self, name: &Name, number: RegionNo) -> bool
+        ensures { result ≡ owns self.now name.now.text.bytes number.0 }
+    {
+        match self.get(number) {
+            Some(region) => region.is_owner(name),
+            None => false,
+        }
+    }
+
+    #[tactic(auto, unfolding(crate::specs::Association::belongs))]
+    fn belongs(&self, name: &Name, number: RegionNo) -> bool
+        ensures { result ≡ belongs self.now name.now.text.bytes number.0 }
+    {
+        match self.get(number) {
+            Some(region) => region.is_member(name),
+            None => false,
+        }
+    }
+
+    #[tactic(auto, unfolding(crate::specs::Association::machine_association, crate::specs::Association::holds_place))]
+    fn machine_association(&self, place: &Pos, number: RegionNo) -> Association
+        ensures { result ≡ machine_association self.now place.now number.0 }
+    {
+        match self.get(number) {
+            Some(region) if region.contains(*place) => Association::Owner,
+            _ => Association::Stranger,
+        }
     }
 
     /// Defines a region that nobody owns yet and answers its number.
@@ -114,11 +265,18 @@ impl RegionSet {
     }
 }
 
+// Whether the id is that of the world at large.
+#[tactic(auto, unfolding(crate::specs::Regions::is_global_id))]
+fn is_global_id(id: &Id) -> bool
+    ensures { result ≡ is_global_id id.now.text.bytes }
+{
+    id.as_str() == "__global__"
+}
+
 #[cfg(test)]
 mod tests {
     use super::*;
     use std::test::Fail;
-    use vx_geom::Pos;
 
     #[test]
     fn regions_are_defined_and_found(rt: HostRuntime) -> Result<(), Fail> {

@@ -1,7 +1,9 @@
 use crate::name::Name;
+use vx_geom::Pos;
 
-/// Who acts.
+/// Who acts: a player, or a machine by the place where it stands.
 #[derive(Clone, Copy, Debug, PartialEq, Eq)]
 pub enum Subject {
     Player(Name),
+    Machine(Pos),
 }

@@ -12,6 +12,9 @@ returns-clause-added c rs n name old there =
     subst (λ r. IsSomeAnd r (GainsMember name old)) (sym (region_changed change n rs ∙ ap (option_map change) there)) (record {
       id = refl;
       shape = refl;
+      priority = refl;
+      parent = refl;
+      settings = refl;
       members = names_one_more old.members name;
       owners = refl;
     })

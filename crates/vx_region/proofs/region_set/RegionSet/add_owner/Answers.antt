@@ -1,32 +1,30 @@
-use Rattle.std.proofs.Common.{nat_eq}
 use Rattle.std.proofs.lemmas.Result.{on_ok_weaker, on_err_weaker}
 use Rattle.vx_region.specs.Regions.{with_name, with_owner}
+use Rattle.vx_region.specs.contracts.region_set.RegionSet.{the_view}
+use Rattle.vx_region.proofs.Forests.{forest_written}
 use Rattle.vx_region.proofs.Lookups.{lent_from_known, written_over, written_back}
-use Rattle.vx_region.proofs.Numbers.{numbered_written}
 use Rattle.vx_region.proofs.region_set.RegionSet.add_owner.Goals as goal
 
 pub unwrap-requires : goal.unwrap-requires
-unwrap-requires c =
-    lent_from_known c.args.number.0 c.self.inside.last c.self.inside.regions.entries c.get_mut.result
-    (rw c.self.view_is c.requires) c.get_mut.ensures.value
+unwrap-requires c = lent_from_known c.args.number.0 (the_view c.self.inside) c.get_mut.result (rw c.self.view_is c.requires) c.get_mut.ensures.value
 
 pub invariant_of-self : goal.invariant_of-self
 invariant_of-self c =
-    rw (c.get_mut.follows.holds c.add_owner.new.self).0
-    (numbered_written (nat_eq c.args.number.0) c.self.inside.last c.self.inside.regions.entries c.add_owner.new.self c.self.invariant)
+    forest_written c.args.number.0 (the_view c.self.inside) _ c.get_mut.result c.unwrap.result c.add_owner.new.self
+    c.get_mut.ensures.value c.unwrap.ensures (c.get_mut.follows.holds c.add_owner.new.self).0 c.add_owner.ensures.parent c.self.invariant
 
 pub returns-clause-ok : goal.returns-clause-ok
 unfolding with_owner
 returns-clause-ok c =
     rw (← c.self.view_is) (on_ok_weaker c.add_owner.result
-    (written_over (λ r. record r { owners = with_name r.owners c.args.name.text.bytes }) c.args.number.0 c.self.inside.last
-    c.self.inside.regions.entries _ c.get_mut.result c.unwrap.result c.add_owner.new.self
+    (written_over (λ r. record r { owners = with_name r.owners c.args.name.text.bytes }) c.args.number.0 (the_view c.self.inside)
+    _ c.get_mut.result c.unwrap.result c.add_owner.new.self
     c.get_mut.ensures.unique c.get_mut.ensures.value c.unwrap.ensures (c.get_mut.follows.holds c.add_owner.new.self).0)
     c.add_owner.ensures.ok)
 
 pub returns-clause-err : goal.returns-clause-err
 returns-clause-err c =
     rw (← c.self.view_is) (on_err_weaker c.add_owner.result
-    (written_back c.args.number.0 c.self.inside.last c.self.inside.regions.entries _ c.get_mut.result c.unwrap.result c.add_owner.new.self
+    (written_back c.args.number.0 (the_view c.self.inside) _ c.get_mut.result c.unwrap.result c.add_owner.new.self
     c.get_mut.ensures.value c.unwrap.ensures (c.get_mut.follows.holds c.add_owner.new.self).0)
     c.add_owner.ensures.err)

@@ -1,0 +1,10 @@
+use Rattle.std.proofs.Common.{◌≡◌, ◌-◌}
+use Rattle.std.specs.List.{list_any}
+use Rattle.vx_region.specs.Ancestry.{chain, ancestors}
+use Rattle.vx_region.specs.Association.{belongs}
+use Rattle.vx_region.proofs.region_set.RegionSet.is_member_along.Given as goal
+
+-- whether such a region comes is still to be seen
+abbrev pub invariant-loop : goal.invariant-loop
+invariant-loop l =
+    list_any (belongs l.self l.name.text.bytes) (chain (l.end - l.counter) l.self l.at.0) ≡ list_any (belongs l.self l.name.text.bytes) (ancestors l.self l.fn.number.0)

@@ -3,8 +3,9 @@ use Rattle.std.proofs.Common.{◌≡◌, ℕ, zero, suc, ◌+◌, ◌<◌, Bool,
 use Rattle.std.proofs.lemmas.Bool.{ltb-true, ltb-false}
 use Rattle.std.proofs.lemmas.List.Elements.{Contains-append_right, Contains-append_left}
 use Rattle.vx_geom.proofs.Lists.{drop_at}
-use Rattle.vx_region.specs.Regions.{Entry, RegionData, IsAscending}
-use Rattle.vx_decide.specs.Least.{Members, lesser, least}
+use Rattle.vx_region.specs.Regions.{Entry, RegionData}
+use Rattle.vx_region.specs.Forest.{IsAscending}
+use Rattle.vx_decide.specs.RegionGroups.{Members, lesser, least}
 
 -- a region that is no member can be passed over
 pub least_next : (members : Members) (es : List Entry) (i : ℕ) (e : Entry) → slice_get es i ≡ Some e → members e ≡ false

@@ -1,2 +1,3 @@
-pub mod Denials
+pub mod Highest
 pub mod Leasts
+pub mod Nearest

@@ -1,4 +1,8 @@
-pub mod Laws
-pub mod Least
+pub mod Asked
+pub mod Build
+pub mod Effective
+pub mod Query
+pub mod RegionGroups
 pub mod Texts
+pub mod Tops
 pub mod Verdict

@@ -1,44 +1,24 @@
-use Rattle.std.specs.Prelude.{ℕ, Bool, not, ◌&&◌, ◌||◌, Option, Some, None}
+use Rattle.vx_flag.specs.declared.action.Action.{Action}
+use Rattle.vx_flag.specs.declared.flag.Flag.{Flag}
+use Rattle.vx_flag.specs.Action.{flag_of_action}
 use Rattle.vx_geom.specs.declared.pos.Pos.{Pos}
-use Rattle.vx_geom.specs.Outline.{is_in}
-use Rattle.vx_region.specs.Regions.{Regions, Entry, names}
-use Rattle.vx_region.specs.Subjects.{Actor, Named}
-use Rattle.vx_decide.specs.declared.rule.Rule.{Rule}
+use Rattle.vx_region.specs.Regions.{Regions}
+use Rattle.vx_region.specs.Subjects.{Actor}
+use Rattle.vx_decide.specs.declared.answer.Answer.{Answer}
 use Rattle.vx_decide.specs.declared.rule.Rule.TheVariants as rule
 use Rattle.vx_decide.specs.declared.verdict.Verdict.{Verdict}
-use Rattle.vx_decide.specs.declared.verdict.Verdict.TheVariants.{Permit, Deny}
-use Rattle.vx_decide.specs.Least.{least}
+use Rattle.vx_decide.specs.Asked.{Asked}
+use Rattle.vx_decide.specs.Query.{query}
+use Rattle.vx_decide.specs.Build.{ruled, by_answer, build}
 
--- the region contains the place
-unfoldable pub contains : Pos → Entry → Bool
-contains p e = is_in e.1.shape p
+-- an answer on an action's own flag as a verdict
+abbrev pub by_flag : Flag → Answer → Verdict
+by_flag f answer = ruled answer.value.state (rule.Flag answer.at answer.value.from f)
 
--- the region names the player as owner or as member
-unfoldable pub admits : Actor → Entry → Bool
-admits (Named name) e = names e.1.owners name || names e.1.members name
+-- by the flag, and where that is not set by building
+unfoldable pub decided_by : Flag → Asked → Verdict
+decided_by f a = by_answer (by_flag f) (query f a) (build a)
 
--- the region contains the place and does not admit the subject
-unfoldable pub is_failing : Actor → Pos → Entry → Bool
-is_failing s p e = contains p e && not (admits s e)
-
--- the least region that stands against the subject at the place
-unfoldable pub first_failing : Actor → Regions → Pos → Option ℕ
-first_failing s rs p = least (is_failing s p) rs.entries
-
--- the least region that contains the place
-unfoldable pub first_home : Regions → Pos → Option ℕ
-first_home rs p = least (contains p) rs.entries
-
--- membership in the region of that number
-abbrev pub member_at : ℕ → Rule
-member_at n = rule.Member (record { 0 = n })
-
--- denied by the first region that fails, else permitted by the first that contains the place, else by default
-abbrev pub by_membership : Option ℕ → Option ℕ → Verdict
-by_membership (Some failing) _ = Deny (member_at failing)
-by_membership None (Some home) = Permit (member_at home)
-by_membership None None = Permit rule.Default
-
--- what the policy says to the subject at the place
-unfoldable pub verdict : Actor → Regions → Pos → Verdict
-verdict s rs p = by_membership (first_failing s rs p) (first_home rs p)
+-- what the policy says to the actor on an action at a place: by the action's own flag, and where that is not set by building
+unfoldable pub verdict : Regions → Actor → Action → Pos → Verdict
+verdict rs s action p = decided_by (flag_of_action action) (record { regions = rs; actor = s; place = p })

@@ -1,12 +1,19 @@
 //! Decides what a subject may do at a place, and names the rule that decides.
 #![tactic(auto)]
 
-mod laws;
+mod answer;
+mod building;
+mod decide;
+mod effective;
+mod inquiry;
 mod plain;
+mod query;
+mod question;
 mod rule;
+mod value;
 mod verdict;
 
-pub use laws::denial_is_grounded;
+pub use decide::Decide;
 pub use plain::Plain;
 pub use rule::Rule;
 pub use verdict::Verdict;

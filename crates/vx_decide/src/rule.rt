@@ -1,12 +1,28 @@
 ghost use Rattle.std.specs.Prelude.{Some};
 
 use std::fmt;
+use vx_flag::Flag;
 use vx_region::RegionNo;
 
-/// The rule that decides: the membership of a region, by its number, or none of them.
+/// The rule that decides, by the numbers of regions; number 0 is the world at large, `__global__`.
 #[derive(Clone, Copy, Debug, PartialEq, Eq)]
 pub enum Rule {
-    Member { at: RegionNo },
+    /// The action's own flag, which decides at one region and is set in that or in one of its ancestors.
+    Flag {
+        at: RegionNo,
+        from: RegionNo,
+        flag: Flag,
+    },
+    /// The flag `build`, where the action's own flag is not set.
+    Build {
+        at: RegionNo,
+        from: RegionNo,
+    },
+    /// Membership in a region, or the lack of it.
+    Member {
+        at: RegionNo,
+    },
+    /// Nothing stands against it.
     Default,
 }
 
@@ -17,6 +33,14 @@ impl fmt::Display for Rule {
 
     fn fmt<W: fmt::Write>(&self, f: &mut fmt::Formatter<W>) -> fmt::Result {
         match self {
+            Rule::Flag { at, from, flag } => {
+                let (at, from) = (at.0, from.0);
+                write!(f, "flag {flag} at {at} from {from}")
+            }
+            Rule::Build { at, from } => {
+                let (at, from) = (at.0, from.0);
+                write!(f, "build at {at} from {from}")
+            }
             Rule::Member { at } => {
                 let number = at.0;
                 write!(f, "member at {number}")
@@ -33,14 +57,25 @@ mod tests {
 
     #[test]
     fn each_rule_has_its_words(rt: HostRuntime) -> Result<(), Fail> {
+        let (first, last) = (RegionNo(1), RegionNo(4_294_967_295));
         for (rule, words) in [
-            (Rule::Member { at: RegionNo(1) }, "member at 1"),
             (
-                Rule::Member {
-                    at: RegionNo(4_294_967_295),
+                Rule::Flag {
+                    at: RegionNo(2),
+                    from: first,
+                    flag: Flag::Usage,
                 },
-                "member at 4294967295",
+                "flag use at 2 from 1",
             ),
+            (
+                Rule::Build {
+                    at: last,
+                    from: RegionNo(0),
+                },
+                "build at 4294967295 from 0",
+            ),
+            (Rule::Member { at: first }, "member at 1"),
+            (Rule::Member { at: last }, "member at 4294967295"),
             (Rule::Default, "default"),
         ] {
             assert_eq!(rt; format!(in rt.alloc(); "{rule}")?.as_str(), words);

@@ -1,0 +1,12 @@
+use Rattle.std.proofs.Common.{◌≡◌, ◌-◌}
+use Rattle.vx_region.specs.Ancestry.{chain}
+use Rattle.vx_region.specs.Association.{association}
+use Rattle.vx_region.specs.Subjects.{actor_of}
+use Rattle.vx_decide.specs.Effective.{value_at, first_of, effective}
+use Rattle.vx_decide.proofs.effective.effective.Given as goal
+
+-- no region so far answers
+abbrev pub invariant-loop : goal.invariant-loop
+invariant-loop l =
+    first_of (value_at l.regions l.flag (association l.regions (actor_of l.subject) l.number.0)) (chain (l.end - l.counter) l.regions l.at.0)
+    ≡ effective l.regions (actor_of l.subject) l.flag l.number.0

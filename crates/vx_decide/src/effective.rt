@@ -1,0 +1,82 @@
+ghost use Rattle.std.specs.Prelude.{◌≡◌, is_some};
+ghost use Rattle.vx_flag.specs.declared.association.Association.{Association};
+ghost use Rattle.vx_region.specs.Association.{association};
+ghost use Rattle.vx_region.specs.Subjects.{actor_of};
+ghost use Rattle.vx_decide.specs.Effective.{value_at, effective, has_value, is_allow, is_deny};
+
+use crate::value::Value;
+use vx_flag::{Flag, State, fits};
+use vx_region::{RegionNo, RegionSet, Subject};
+
+/// The value of the flag for the subject at the region of that number: the one of the nearest region of its ancestry that sets
+/// the flag for a group that the subject is of, as the subject is to the region where the question began.
+pub fn effective(
+    regions: &RegionSet,
+    subject: &Subject,
+    flag: Flag,
+    number: RegionNo,
+) -> Option<Value>
+    ensures { result ≡ effective regions.now (actor_of subject.now) flag number.0 }
+{
+    let mut at = number;
+    for _ in 0..u64::from(regions.last()) + 1 {
+        let value = value_at(regions, subject, flag, number, at);
+        if value.is_some() {
+            return value;
+        }
+        match regions.parent(at) {
+            Some(parent) => at = parent,
+            None => return None,
+        }
+    }
+    None
+}
+
+/// Whether the flag has a value for the subject at the region of that number.
+#[tactic(auto, unfolding(crate::specs::Effective::has_value))]
+pub fn has_value(regions: &RegionSet, subject: &Subject, flag: Flag, number: RegionNo) -> bool
+    ensures { result ≡ has_value regions.now (actor_of subject.now) flag number.0 }
+{
+    effective(regions, subject, flag, number).is_some()
+}
+
+/// Whether the value is there and denies.
+pub fn is_deny(value: Option<Value>) -> bool
+    ensures { result ≡ is_deny value }
+{
+    match value {
+        Some(value) => matches!(value.state, State::Deny),
+        None => false,
+    }
+}
+
+/// Whether the value is there and allows.
+pub fn is_allow(value: Option<Value>) -> bool
+    ensures { result ≡ is_allow value }
+{
+    match value {
+        Some(value) => matches!(value.state, State::Allow),
+        None => false,
+    }
+}
+
+// The value that the region at that number sets itself, for those who are to the region `number` what the subject is.
+#[tactic(auto, unfolding(crate::specs::Effective::value_at))]
+fn value_at(
+    regions: &RegionSet,
+    subject: &Subject,
+    flag: Flag,
+    number: RegionNo,
+    at: RegionNo,
+) -> Option<Value>
+    ensures { result ≡ value_at regions.now flag (association regions.now (actor_of subject.now) number.0) at.0 }
+{
+    let setting = regions.setting(at, flag)?;
+    if !fits(setting.group, regions.association(subject, number)) {
+        return None;
+    }
+    Some(Value {
+        state: setting.state,
+        from: at,
+    })
+}

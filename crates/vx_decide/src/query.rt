@@ -131,8 +131,8 @@ impl Inquiry<'_> {
         requires { best ≡ top (counts question (asked self.now)) self.now.regions.now.entries }
         ensures { result ≡ is_denying question (asked self.now) (number.0, region.now) }
     {
-        is_deny(effective(self.regions, self.subject, question.flag(), number))
-            && self.is_taken(question, best, number, region)
+        let value = effective(self.regions, self.subject, question.flag(), number);
+        is_deny(value) && self.is_taken(question, best, number, region)
     }
 
     // Whether the region speaks and is no ancestor of another that does.

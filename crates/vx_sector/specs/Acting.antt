@@ -1,5 +1,7 @@
 use Rattle.std.specs.Prelude.{Bool, true, false, not, if◌then◌else◌, List, [], ◌∷◌, ◌++◌, Option, Some, None, Result, Ok, Err}
 use Rattle.vx_geom.specs.declared.pos.Pos.{Pos}
+use Rattle.vx_flag.specs.declared.action.Action.{Action}
+use Rattle.vx_flag.specs.declared.action.Action.TheVariants.{Placing, Breaking}
 use Rattle.vx_block.specs.declared.cell.Cell.{Cell}
 use Rattle.vx_block.specs.declared.cell.Cell.TheVariants.{Air, Bedrock}
 use Rattle.vx_block.specs.Part.{part_cell}
@@ -37,9 +39,9 @@ abbrev pub rule_of : Verdict → Rule
 rule_of (Permit rule) = rule
 rule_of (Deny rule) = rule
 
--- what the policy says to the player of the seat at the place
-abbrev pub judged : SectorData → SeatData → Pos → Verdict
-judged s seat p = verdict (Named seat.name) s.regions p
+-- what the policy says to the player of the seat on the action at the place
+abbrev pub judged : SectorData → SeatData → Action → Pos → Verdict
+judged s seat action p = verdict s.regions (Named seat.name) action p
 
 -- nothing is there
 abbrev pub is_air : Cell → Bool
@@ -56,21 +58,22 @@ abbrev pub ok_unless : {X : Type 0} → Option Refusal → X → Result X Refusa
 ok_unless (Some refusal) x = Err refusal
 ok_unless None x = Ok x
 
--- the rule that permits the player of the seat to act at the place, or the refusal
-unfoldable pub permitted : SectorData → SeatData → Pos → Result Rule Refusal
-permitted s seat p = if holds s.cells p then ok_unless (refuse_denied (judged s seat p)) (rule_of (judged s seat p)) else Err OutOfWorld
+-- the rule that permits the player of the seat the action at the place, or the refusal
+unfoldable pub permitted : SectorData → SeatData → Action → Pos → Result Rule Refusal
+permitted s seat action p =
+    if holds s.cells p then ok_unless (refuse_denied (judged s seat action p)) (rule_of (judged s seat action p)) else Err OutOfWorld
 
 -- what stands against a command, in the order in which it is looked for
 abbrev pub objections : SectorData → SeatData → Cmd → List (Option Refusal)
 objections s seat (Look p) = refuse_if (not (holds s.cells p)) OutOfWorld ∷ []
 objections s seat (Place p part) =
     refuse_if (not (holds s.cells p)) OutOfWorld
-    ∷ refuse_denied (judged s seat p)
+    ∷ refuse_denied (judged s seat Placing p)
     ∷ refuse_if (not (is_air (cell_at s.cells p))) Occupied
     ∷ []
 objections s seat (Break p) =
     refuse_if (not (holds s.cells p)) OutOfWorld
-    ∷ refuse_denied (judged s seat p)
+    ∷ refuse_denied (judged s seat Breaking p)
     ∷ refuse_if (is_air (cell_at s.cells p)) Nothing
     ∷ refuse_if (is_bedrock (cell_at s.cells p)) Unbreakable
     ∷ []
@@ -84,8 +87,8 @@ first_some (None ∷ os) = first_some os
 -- the answer to a command that nothing stands against
 abbrev pub reply_of : SectorData → SeatData → Cmd → Reply
 reply_of s seat (Look p) = Seen (cell_at s.cells p)
-reply_of s seat (Place p part) = Done (rule_of (judged s seat p))
-reply_of s seat (Break p) = Done (rule_of (judged s seat p))
+reply_of s seat (Place p part) = Done (rule_of (judged s seat Placing p))
+reply_of s seat (Break p) = Done (rule_of (judged s seat Breaking p))
 
 -- the answer that the rules give
 unfoldable pub answer_of : SectorData → SeatData → Cmd → Result Reply Refusal

@@ -11,7 +11,8 @@ use std::alloc::Global;
 use std::marker::Model;
 use vx_block::Cell;
 use vx_cells::Cells;
-use vx_decide::{Plain, Rule, Verdict};
+use vx_decide::{Decide, Plain, Rule, Verdict};
+use vx_flag::Action;
 use vx_geom::Pos;
 use vx_region::{RegionSet, Subject};
 
@@ -101,14 +102,14 @@ impl Sector {
                 Ok(Reply::Seen(self.cells.get(*p)))
             }
             Cmd::Place(p, _) => {
-                let rule = self.permitted(seat, *p)?;
+                let rule = self.permitted(seat, Action::Placing, *p)?;
                 if !is_air(self.cells.get(*p)) {
                     return Err(Refusal::Occupied);
                 }
                 Ok(Reply::Done(rule))
             }
             Cmd::Break(p) => {
-                let rule = self.permitted(seat, *p)?;
+                let rule = self.permitted(seat, Action::Breaking, *p)?;
                 let cell = self.cells.get(*p);
                 if is_air(cell) {
                     return Err(Refusal::Nothing);
@@ -121,16 +122,16 @@ impl Sector {
         }
     }
 
-    // The rule that permits the player of the seat to act at the place.
+    // The rule that permits the player of the seat the action at the place.
     #[tactic(auto, unfolding(crate::specs::Acting::permitted))]
-    fn permitted(&self, seat: &Seat, p: Pos) -> Result<Rule, Refusal>
-        ensures rule { result ≡ permitted self.now (seat_of seat.now) p }
+    fn permitted(&self, seat: &Seat, action: Action, p: Pos) -> Result<Rule, Refusal>
+        ensures rule { result ≡ permitted self.now (seat_of seat.now) action p }
         ensures held { OnOk result (holds self.now.cells p ≡ true) }
     {
         if !self.cells.holds(p) {
             return Err(Refusal::OutOfWorld);
         }
-        match Plain::new(&self.regions).decide(&Subject::Player(seat.name), p) {
+        match Plain::new(&self.regions).decide(&Subject::Player(seat.name), action, p) {
             Verdict::Permit(rule) => Ok(rule),
             Verdict::Deny(rule) => Err(Refusal::Denied(rule)),
         }

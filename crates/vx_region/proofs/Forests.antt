@@ -1,19 +1,107 @@
 -- What keeps a set of regions a forest.
-use Rattle.std.proofs.Common.{◌≡◌, ℕ, ◌+◌, nat_eq, List, [], ◌∷◌, ◌++◌, Option, Some, None, MutBor, arith, subst, sym}
+use Rattle.std.proofs.Common.{◌≡◌, ◌≢◌, ◌⊎◌, inl, inr, ℕ, ◌+◌, nat_eq, Bool, true, false, List, [], ◌∷◌, ◌++◌, Option, Some, None, IsSome, option_map, find, MutBor, arith, subst, sym, ap, refl, ◌∙◌}
 use Rattle.std.specs.Map.{lookup, set_value}
-use Rattle.std.specs.Option.{option_copied_mut}
-use Rattle.vx_region.specs.Regions.{RegionData, Entry, Regions}
-use Rattle.vx_region.specs.Forest.{IsForest}
-use Rattle.vx_region.proofs.Numbers.{numbered_push, numbered_written}
+use Rattle.std.specs.Option.{option_copied_mut, option_and_then}
+use Rattle.std.proofs.lemmas.Bool.{eq-eqb}
+use borrow.Author.Tests.{eqb-true}
+use Rattle.vx_region.specs.Regions.{RegionData, Entry, Regions, region_at, parent_of, changed}
+use Rattle.vx_region.specs.Forest.{IsForest, IsNumbered}
+use Rattle.vx_region.proofs.Chains.{chain_alone, forest_kept}
+use Rattle.vx_region.proofs.Changes.{region_changed, region_elsewhere, region_pushed, region_before}
+use Rattle.vx_region.proofs.Lookups.{lent_is, lookup_is, written_over}
+use Rattle.vx_region.proofs.Numbers.{numbered_push, numbered_written, distinct_numbers}
+
+-- two numbers are the same, or one is another
+same_or_other : (m n : ℕ) → (m ≡ n) ⊎ (m ≢ n)
+same_or_other m n = by (nat_eq m n) refl
+  where
+    by : (b : Bool) → nat_eq m n ≡ b → (m ≡ n) ⊎ (m ≢ n)
+    by true is = inl (eqb-true m n is)
+    by false is = inr (λ same. cc (eq-eqb m n same))
+
+-- the parent of a region that is known
+pub parent_at : (rs : Regions) (n : ℕ) (r : RegionData) → region_at rs n ≡ Some r → parent_of rs n ≡ r.parent
+unfolding parent_of
+parent_at rs n r there = ap (option_and_then (λ (d : RegionData). d.parent)) there
+
+pub parent_nowhere : (rs : Regions) (n : ℕ) → region_at rs n ≡ None → parent_of rs n ≡ None
+unfolding parent_of
+parent_nowhere rs n none = ap (option_and_then (λ (d : RegionData). d.parent)) none
+
+-- where there are no regions, none has the number
+region_nowhere : (rs : Regions) → rs.entries ≡ [] → (n : ℕ) → region_at rs n ≡ None
+unfolding region_at
+region_nowhere rs none n = ap (λ es. option_map (λ (e : Entry). e.1) (find (λ (e : Entry). nat_eq n e.0) es)) none
+
+-- parents are the same where the regions are
+pub same_parent : (rs fs : Regions) (n : ℕ) → region_at fs n ≡ region_at rs n → parent_of fs n ≡ parent_of rs n
+unfolding parent_of
+same_parent rs fs n same = ap (option_and_then (λ (d : RegionData). d.parent)) same
+
+-- no regions
+pub forest_empty : (rs : Regions) → rs.entries ≡ [] → IsForest rs
+forest_empty rs none = record {
+  numbered = subst (λ es. IsNumbered (record rs { entries = es })) (sym none) (record { ascending = tt; given = tt });
+  parents = λ r q has. absurd (cc (orphan r));
+  ends = λ r. (r ∷ [], chain_alone rs r (orphan r));
+}
+  where
+    orphan : (r : ℕ) → parent_of rs r ≡ None
+    orphan r = parent_nowhere rs r (region_nowhere rs none r)
 
 -- one more region, without a parent, under the next number
 pub forest_pushed : (rs : Regions) (r : RegionData) → r.parent ≡ None → IsForest rs
     → IsForest (record rs { last = rs.last + 1; entries = rs.entries ++ (rs.last + 1, r) ∷ [] })
-forest_pushed rs r orphan forest = record { numbered = numbered_push rs (rs.last + 1, r) forest.numbered (omega arith) }
+forest_pushed rs r orphan forest =
+    forest_kept rs fs (numbered_push rs (rs.last + 1, r) forest.numbered (omega arith)) (λ m. kept m (same_or_other m (rs.last + 1)))
+    (λ m q has there. stays q there (same_or_other q (rs.last + 1))) forest
+  where
+    fs : Regions
+    fs = record rs { last = rs.last + 1; entries = rs.entries ++ (rs.last + 1, r) ∷ [] }
+
+    kept : (m : ℕ) → (m ≡ rs.last + 1) ⊎ (m ≢ rs.last + 1) → (parent_of fs m ≡ parent_of rs m) ⊎ (parent_of fs m ≡ None)
+    kept m (inl new) = inr (ap (parent_of fs) new ∙ parent_at fs (rs.last + 1) r (region_pushed rs r forest.numbered) ∙ orphan)
+    kept m (inr old) = inl (same_parent rs fs m (region_before rs r m old))
+
+    stays : (q : ℕ) → IsSome (region_at rs q) → (q ≡ rs.last + 1) ⊎ (q ≢ rs.last + 1) → IsSome (region_at fs q)
+    stays q there (inl new) = subst IsSome (sym (ap (region_at fs) new ∙ region_pushed rs r forest.numbered)) refl
+    stays q there (inr old) = subst IsSome (sym (region_before rs r q old)) there
+
+-- a changed region is where it was
+pub stays_changed : (change : RegionData → RegionData) (n : ℕ) (rs : Regions) (q : ℕ) → IsSome (region_at rs q) → IsSome (region_at (changed change n rs) q)
+stays_changed change n rs q there = by (same_or_other q n)
+  where
+    still : (o : Option RegionData) → IsSome o → IsSome (option_map change o)
+    still None there = there
+    still (Some r) there = refl
+
+    by : (q ≡ n) ⊎ (q ≢ n) → IsSome (region_at (changed change n rs) q)
+    by (inl same) = subst IsSome (sym (ap (region_at (changed change n rs)) same ∙ region_changed change n rs ∙ ap (λ k. option_map change (region_at rs k)) (sym same))) (still (region_at rs q) there)
+    by (inr other) = subst IsSome (sym (region_elsewhere change n q rs other)) there
+
+-- a region changed that keeps its parent
+pub forest_changed : (change : RegionData → RegionData) (n : ℕ) (rs : Regions) (r : RegionData) → region_at rs n ≡ Some r
+    → (change r).parent ≡ r.parent → IsNumbered (changed change n rs) → IsForest rs → IsForest (changed change n rs)
+forest_changed change n rs r there keeps numbered forest =
+    forest_kept rs (changed change n rs) numbered (λ m. inl (same m (same_or_other m n))) (λ m q has. stays_changed change n rs q) forest
+  where
+    same : (m : ℕ) → (m ≡ n) ⊎ (m ≢ n) → parent_of (changed change n rs) m ≡ parent_of rs m
+    same m (inl here) =
+        ap (parent_of (changed change n rs)) here ∙ parent_at (changed change n rs) n (change r) (region_changed change n rs ∙ ap (option_map change) there)
+        ∙ keeps ∙ sym (parent_at rs n r there) ∙ ap (parent_of rs) (sym here)
+    same m (inr other) = same_parent rs (changed change n rs) m (region_elsewhere change n m rs other)
+
+-- the region that the map lent is the one of the number
+pub lent_region : (n : ℕ) (rs : Regions) (lent : Option (MutBor RegionData)) (r : MutBor RegionData)
+    → option_copied_mut lent ≡ lookup (nat_eq n) rs.entries → lent ≡ Some r → region_at rs n ≡ Some r.now
+unfolding region_at
+lent_region n rs lent r found is = sym (lookup_is n rs.entries) ∙ lent_is n rs lent r found is
 
 -- the region that the map lent written over, with the same parent
 pub forest_written : (n : ℕ) (rs : Regions) (fs : List Entry) (lent : Option (MutBor RegionData)) (r : MutBor RegionData) (w : RegionData)
     → option_copied_mut lent ≡ lookup (nat_eq n) rs.entries → lent ≡ Some r → fs ≡ set_value (nat_eq n) rs.entries w → w.parent ≡ r.now.parent
     → IsForest rs → IsForest (record rs { entries = fs })
 forest_written n rs fs lent r w found is written same forest =
-    subst (λ es. IsForest (record rs { entries = es })) (sym written) (record { numbered = numbered_written (nat_eq n) rs w forest.numbered })
+    let numbered = subst (λ es. IsNumbered (record rs { entries = es })) (sym written) (numbered_written (nat_eq n) rs w forest.numbered) in
+    let over = written_over (λ _. w) n rs fs lent r w (distinct_numbers 0 rs.entries forest.numbered.ascending) found is written refl in
+    subst IsForest (sym over) (forest_changed (λ _. w) n rs r.now (lent_region n rs lent r found is) same (subst IsNumbered over numbered) forest)

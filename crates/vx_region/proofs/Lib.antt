@@ -1,3 +1,4 @@
+pub mod Chains
 pub mod Changes
 pub mod Forests
 pub mod Lookups

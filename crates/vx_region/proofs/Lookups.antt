@@ -67,7 +67,7 @@ changed_by_write change n (e ∷ es) r distinct there =
         ap (λ ds. e ∷ ds) (rest (sym (ap (λ b. cond b (Some e.1) (lookup (nat_eq n) es)) is) ∙ there))
 
 -- the region that the map lent is the one of the number
-lent_is : (n : ℕ) (rs : Regions) (lent : Option (MutBor RegionData)) (r : MutBor RegionData)
+pub lent_is : (n : ℕ) (rs : Regions) (lent : Option (MutBor RegionData)) (r : MutBor RegionData)
     → option_copied_mut lent ≡ lookup (nat_eq n) rs.entries → lent ≡ Some r → lookup (nat_eq n) rs.entries ≡ Some r.now
 lent_is n rs lent r found is = sym found ∙ ap option_copied_mut is
 

@@ -27,7 +27,7 @@ none_from_map : {X : Type 0} (f : Entry → X) (o : Option Entry) → option_map
 none_from_map f None none = refl
 none_from_map f (Some e) none = cc
 
-not_true : (b : Bool) → (b ≡ true → ⊥) → b ≡ false
+pub not_true : (b : Bool) → (b ≡ true → ⊥) → b ≡ false
 not_true true no_way = absurd (no_way refl)
 not_true false no_way = refl
 

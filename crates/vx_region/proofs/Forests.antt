@@ -1,42 +1,13 @@
 -- What keeps a set of regions a forest.
-use Rattle.std.proofs.Common.{◌≡◌, ◌≢◌, ◌⊎◌, inl, inr, ℕ, ◌+◌, nat_eq, Bool, true, false, List, [], ◌∷◌, ◌++◌, Option, Some, None, IsSome, option_map, find, MutBor, arith, subst, sym, ap, refl, ◌∙◌}
+use Rattle.std.proofs.Common.{◌≡◌, ◌≢◌, ◌⊎◌, inl, inr, ℕ, ◌+◌, nat_eq, List, [], ◌∷◌, ◌++◌, Option, Some, None, IsSome, option_map, MutBor, arith, subst, sym, ap, refl, ◌∙◌}
 use Rattle.std.specs.Map.{lookup, set_value}
-use Rattle.std.specs.Option.{option_copied_mut, option_and_then}
-use Rattle.std.proofs.lemmas.Bool.{eq-eqb}
-use borrow.Author.Tests.{eqb-true}
+use Rattle.std.specs.Option.{option_copied_mut}
 use Rattle.vx_region.specs.Regions.{RegionData, Entry, Regions, region_at, parent_of, changed}
 use Rattle.vx_region.specs.Forest.{IsForest, IsNumbered}
 use Rattle.vx_region.proofs.Chains.{chain_alone, forest_kept}
 use Rattle.vx_region.proofs.Changes.{region_changed, region_elsewhere, region_pushed, region_before}
-use Rattle.vx_region.proofs.Lookups.{lent_is, lookup_is, written_over}
+use Rattle.vx_region.proofs.Lookups.{lent_region, same_or_other, parent_at, parent_nowhere, region_nowhere, same_parent, written_over}
 use Rattle.vx_region.proofs.Numbers.{numbered_push, numbered_written, distinct_numbers}
-
--- two numbers are the same, or one is another
-same_or_other : (m n : ℕ) → (m ≡ n) ⊎ (m ≢ n)
-same_or_other m n = by (nat_eq m n) refl
-  where
-    by : (b : Bool) → nat_eq m n ≡ b → (m ≡ n) ⊎ (m ≢ n)
-    by true is = inl (eqb-true m n is)
-    by false is = inr (λ same. cc (eq-eqb m n same))
-
--- the parent of a region that is known
-pub parent_at : (rs : Regions) (n : ℕ) (r : RegionData) → region_at rs n ≡ Some r → parent_of rs n ≡ r.parent
-unfolding parent_of
-parent_at rs n r there = ap (option_and_then (λ (d : RegionData). d.parent)) there
-
-pub parent_nowhere : (rs : Regions) (n : ℕ) → region_at rs n ≡ None → parent_of rs n ≡ None
-unfolding parent_of
-parent_nowhere rs n none = ap (option_and_then (λ (d : RegionData). d.parent)) none
-
--- where there are no regions, none has the number
-region_nowhere : (rs : Regions) → rs.entries ≡ [] → (n : ℕ) → region_at rs n ≡ None
-unfolding region_at
-region_nowhere rs none n = ap (λ es. option_map (λ (e : Entry). e.1) (find (λ (e : Entry). nat_eq n e.0) es)) none
-
--- parents are the same where the regions are
-pub same_parent : (rs fs : Regions) (n : ℕ) → region_at fs n ≡ region_at rs n → parent_of fs n ≡ parent_of rs n
-unfolding parent_of
-same_parent rs fs n same = ap (option_and_then (λ (d : RegionData). d.parent)) same
 
 -- no regions
 pub forest_empty : (rs : Regions) → rs.entries ≡ [] → IsForest rs
@@ -90,12 +61,6 @@ forest_changed change n rs r there keeps numbered forest =
         ap (parent_of (changed change n rs)) here ∙ parent_at (changed change n rs) n (change r) (region_changed change n rs ∙ ap (option_map change) there)
         ∙ keeps ∙ sym (parent_at rs n r there) ∙ ap (parent_of rs) (sym here)
     same m (inr other) = same_parent rs (changed change n rs) m (region_elsewhere change n m rs other)
-
--- the region that the map lent is the one of the number
-pub lent_region : (n : ℕ) (rs : Regions) (lent : Option (MutBor RegionData)) (r : MutBor RegionData)
-    → option_copied_mut lent ≡ lookup (nat_eq n) rs.entries → lent ≡ Some r → region_at rs n ≡ Some r.now
-unfolding region_at
-lent_region n rs lent r found is = sym (lookup_is n rs.entries) ∙ lent_is n rs lent r found is
 
 -- the region that the map lent written over, with the same parent
 pub forest_written : (n : ℕ) (rs : Regions) (fs : List Entry) (lent : Option (MutBor RegionData)) (r : MutBor RegionData) (w : RegionData)

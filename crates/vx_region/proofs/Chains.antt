@@ -1,8 +1,8 @@
 -- Chains of parents.
-use Rattle.std.proofs.Common.{◌≡◌, ◌⊎◌, inl, inr, ℕ, zero, suc, ◌≤◌, Bool, true, false, nat_eq, nat_lt, ◌||◌, List, [], ◌∷◌, ◌++◌, length, Option, None, Some, IsSome, is_some, arith, true≢false, refl, ap, sym, ◌∙◌, subst}
+use Rattle.std.proofs.Common.{◌≡◌, ◌≢◌, ◌⊎◌, inl, inr, ℕ, zero, suc, ◌≤◌, Bool, true, false, nat_eq, nat_lt, ◌||◌, List, [], ◌∷◌, ◌++◌, length, Option, None, Some, IsSome, is_some, arith, true≢false, refl, ap, sym, ◌∙◌, subst}
 use Rattle.std.specs.List.{list_any, AllByRecursion, IsDistinct}
 use Rattle.std.specs.Option.{MatchOption}
-use Rattle.std.proofs.lemmas.Bool.{ltb-true, ltb-false}
+use Rattle.std.proofs.lemmas.Bool.{eq-eqb, ltb-true, ltb-false}
 use Rattle.std.proofs.lemmas.List.{length-append}
 use Rattle.std.proofs.lemmas.Map.Steps.{length-le_from_distinct_below}
 use Rattle.std.proofs.lemmas.Option.{MatchOption-at_none, MatchOption-at_some}
@@ -11,7 +11,7 @@ use Rattle.vx_region.specs.Ancestry.{chain, from_parent, ancestors}
 use Rattle.vx_region.specs.Regions.{RegionData, Regions, region_at, parent_of}
 use Rattle.vx_region.specs.Forest.{IsChain, IsForest, IsNumbered}
 use Rattle.vx_region.proofs.Changes.{not_true}
-use Rattle.vx_region.proofs.Lookups.{parent_nowhere, region_above}
+use Rattle.vx_region.proofs.Lookups.{same_or_other, parent_nowhere, region_above}
 
 -- a region without a parent is a chain alone
 chain_last : (rs : Regions) (r : ℕ) (l : List ℕ) → l ≡ [] → parent_of rs r ≡ None → IsChain rs r (r ∷ l)
@@ -115,7 +115,7 @@ no_return rs r a l chain = not_true (list_any (nat_eq r) l) (by (parent_of rs r)
         omega (arith, ap length same, ap length up.whole, length-append up.front up.rest)
 
 -- each number of a list is another, where none is the same
-neither : (a b : Bool) → (a || b) ≡ false → (a ≡ false) × (b ≡ false)
+pub neither : (a b : Bool) → (a || b) ≡ false → (a ≡ false) × (b ≡ false)
 neither true b none = absurd (true≢false none)
 neither false b none = (refl, none)
 
@@ -199,3 +199,31 @@ ancestors_by_parent rs forest r = by (parent_of rs r) refl
     by (Some q) has =
         ancestors_whole rs forest r (r ∷ ancestors rs q) (chain_longer rs r q (ancestors rs q) has (ancestors_chain rs forest q))
         ∙ sym (ap (λ o. r ∷ from_parent (ancestors rs) o) has)
+
+-- where all parents but one are as before, a chain that does not meet that region stays
+pub chain_same : (rs fs : Regions) (n : ℕ) → ((m : ℕ) → m ≢ n → parent_of fs m ≡ parent_of rs m) → (r : ℕ) (l : List ℕ) → IsChain rs r l
+    → list_any (nat_eq n) l ≡ false → IsChain fs r l
+chain_same rs fs n same r [] chain free = absurd chain
+chain_same rs fs n same r (a ∷ l) chain free =
+    let parts = neither (nat_eq n a) (list_any (nat_eq n) l) free in
+    by (same r (λ here. true≢false (sym (eq-eqb n a (sym here ∙ sym chain.0)) ∙ parts.0))) (parent_of rs r) refl (λ q up. chain_same rs fs n same q l up parts.1)
+  where
+    headed : IsChain fs r (r ∷ l) → IsChain fs r (a ∷ l)
+    headed up = (chain.0, up.1)
+
+    by : parent_of fs r ≡ parent_of rs r → (o : Option ℕ) → parent_of rs r ≡ o → ((q : ℕ) → IsChain rs q l → IsChain fs q l) → IsChain fs r (a ∷ l)
+    by as_before None none more = headed (chain_last fs r l (chain_end rs r a l none chain) (as_before ∙ none))
+    by as_before (Some q) has more = headed (chain_longer fs r q l (as_before ∙ has) (more q (chain_up rs r q a l has chain)))
+
+-- and where that region has a chain, each has one
+pub chain_moved : (rs fs : Regions) (n : ℕ) (k : List ℕ) → ((m : ℕ) → m ≢ n → parent_of fs m ≡ parent_of rs m) → IsChain fs n k
+    → (r : ℕ) (l : List ℕ) → IsChain rs r l → (h : List ℕ) × IsChain fs r h
+chain_moved rs fs n k same own r [] chain = absurd chain
+chain_moved rs fs n k same own r (a ∷ l) chain = by (same_or_other r n) (parent_of rs r) refl (λ q. chain_moved rs fs n k same own q l)
+  where
+    by : (r ≡ n) ⊎ (r ≢ n) → (o : Option ℕ) → parent_of rs r ≡ o → ((q : ℕ) → IsChain rs q l → (h : List ℕ) × IsChain fs q h) → (h : List ℕ) × IsChain fs r h
+    by (inl here) o is more = (k, subst (λ m. IsChain fs m k) (sym here) own)
+    by (inr other) None none more = (r ∷ [], chain_alone fs r (same r other ∙ none))
+    by (inr other) (Some q) has more =
+        let up = more q (chain_up rs r q a l has chain) in
+        (r ∷ up.0, chain_longer fs r q up.0 (same r other ∙ has) up.1)

@@ -4,4 +4,5 @@ pub mod Forests
 pub mod Lookups
 pub mod NameLemmas
 pub mod Numbers
+pub mod Removals
 pub mod Walks

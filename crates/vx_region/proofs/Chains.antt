@@ -1,17 +1,19 @@
 -- Chains of parents.
-use Rattle.std.proofs.Common.{◌≡◌, ◌≢◌, ◌⊎◌, inl, inr, ℕ, zero, suc, ◌≤◌, Bool, true, false, nat_eq, nat_lt, ◌||◌, List, [], ◌∷◌, ◌++◌, length, Option, None, Some, IsSome, is_some, arith, true≢false, refl, ap, sym, ◌∙◌, subst}
+use Rattle.std.proofs.Common.{◌≡◌, ◌≢◌, ◌⊎◌, inl, inr, ℕ, zero, suc, ◌<◌, ◌≤◌, Bool, true, false, nat_eq, nat_lt, ◌||◌, List, [], ◌∷◌, ◌++◌, length, Option, None, Some, IsSome, is_some, arith, true≢false, refl, ap, sym, ◌∙◌, subst}
 use Rattle.std.specs.List.{list_any, AllByRecursion, IsDistinct}
 use Rattle.std.specs.Option.{MatchOption}
 use Rattle.std.proofs.lemmas.Bool.{eq-eqb, ltb-true, ltb-false}
 use Rattle.std.proofs.lemmas.List.{length-append}
+use Rattle.std.proofs.lemmas.List.Folds.{list_any-append}
+use Rattle.std.proofs.Math.Bool.{or-true}
 use Rattle.std.proofs.lemmas.Map.Steps.{length-le_from_distinct_below}
 use Rattle.std.proofs.lemmas.Option.{MatchOption-at_none, MatchOption-at_some}
 use borrow.Author.Tests.{eqb-true}
-use Rattle.vx_region.specs.Ancestry.{chain, from_parent, ancestors}
+use Rattle.vx_region.specs.Ancestry.{is_under, is_above, proper_ancestors, chain, from_parent, ancestors}
 use Rattle.vx_region.specs.Regions.{RegionData, Regions, region_at, parent_of}
 use Rattle.vx_region.specs.Forest.{IsChain, IsForest, IsNumbered}
 use Rattle.vx_region.proofs.Changes.{not_true}
-use Rattle.vx_region.proofs.Lookups.{same_or_other, parent_nowhere, region_above}
+use Rattle.vx_region.proofs.Lookups.{parent_at, same_or_other, parent_nowhere, region_above}
 
 -- a region without a parent is a chain alone
 chain_last : (rs : Regions) (r : ℕ) (l : List ℕ) → l ≡ [] → parent_of rs r ≡ None → IsChain rs r (r ∷ l)
@@ -199,6 +201,69 @@ ancestors_by_parent rs forest r = by (parent_of rs r) refl
     by (Some q) has =
         ancestors_whole rs forest r (r ∷ ancestors rs q) (chain_longer rs r q (ancestors rs q) has (ancestors_chain rs forest q))
         ∙ sym (ap (λ o. r ∷ from_parent (ancestors rs) o) has)
+
+-- the ancestry of a region that is known
+pub ancestors_of_known : (rs : Regions) → IsForest rs → (n : ℕ) (d : RegionData) → region_at rs n ≡ Some d → ancestors rs n ≡ n ∷ proper_ancestors rs d
+ancestors_of_known rs forest n d there = ancestors_by_parent rs forest n ∙ ap (λ o. n ∷ from_parent (ancestors rs) o) (parent_at rs n d there)
+
+-- from an ancestor of a region on, the ancestry is the ancestor's own
+pub above_rest : (rs : Regions) → IsForest rs → (a : ℕ) (d : RegionData) → is_above rs a d ≡ true → EndsIn rs a (proper_ancestors rs d)
+unfolding is_above
+above_rest rs forest a d above = by d.parent above
+  where
+    by : (o : Option ℕ) → list_any (nat_eq a) (from_parent (ancestors rs) o) ≡ true → EndsIn rs a (from_parent (ancestors rs) o)
+    by None is = absurd (true≢false (sym is))
+    by (Some q) is = rest_of rs q a (ancestors rs q) (ancestors_chain rs forest q) is
+
+-- no region is above itself
+pub above_irreflexive : (rs : Regions) → IsForest rs → (n : ℕ) (d : RegionData) → region_at rs n ≡ Some d → is_above rs n d ≡ false
+unfolding is_above
+above_irreflexive rs forest n d there =
+    no_return rs n n (proper_ancestors rs d) (subst (IsChain rs n) (ancestors_of_known rs forest n d there) (ancestors_chain rs forest n))
+
+-- what is above b is above each region that b is above
+pub above_transitive : (rs : Regions) → IsForest rs → (a b : ℕ) (d e : RegionData) → region_at rs b ≡ Some d
+    → is_above rs a d ≡ true → is_above rs b e ≡ true → is_above rs a e ≡ true
+unfolding is_above
+above_transitive rs forest a b d e there first second =
+    let up = above_rest rs forest b e second in
+    let same = sym (ancestors_whole rs forest b up.rest up.chain) ∙ ancestors_of_known rs forest b d there in
+    ap (list_any (nat_eq a)) (up.whole ∙ ap (λ l. up.front ++ l) same) ∙ list_any-append (nat_eq a) up.front (b ∷ proper_ancestors rs d)
+    ∙ ap (λ t. list_any (nat_eq a) up.front || (nat_eq a b || t)) first ∙ ap (λ t. list_any (nat_eq a) up.front || t) (or-true (nat_eq a b))
+    ∙ or-true (list_any (nat_eq a) up.front)
+
+-- of two regions at most one is above the other
+pub above_asymmetric : (rs : Regions) → IsForest rs → (a b : ℕ) (d e : RegionData) → region_at rs a ≡ Some d → region_at rs b ≡ Some e
+    → is_above rs a e ≡ true → is_above rs b d ≡ false
+above_asymmetric rs forest a b d e one two above =
+    not_true (is_above rs b d)
+    (λ back. true≢false (sym (above_transitive rs forest a b e d two above back) ∙ above_irreflexive rs forest a d one))
+
+-- an ancestor of a region that is there is there
+pub above_known : (rs : Regions) → IsForest rs → (a b : ℕ) (d : RegionData) → region_at rs b ≡ Some d → is_above rs a d ≡ true → IsSome (region_at rs a)
+unfolding is_above
+above_known rs forest a b d there above =
+    known_along rs forest b (b ∷ proper_ancestors rs d) (ap is_some there)
+    (subst (IsChain rs b) (ancestors_of_known rs forest b d there) (ancestors_chain rs forest b)) a
+    (ap (λ t. nat_eq a b || t) above ∙ or-true (nat_eq a b))
+
+-- the ancestry of an ancestor is shorter
+pub above_shorter : (rs : Regions) → IsForest rs → (a b : ℕ) (d : RegionData) → region_at rs b ≡ Some d → is_above rs a d ≡ true
+    → length (ancestors rs a) < length (ancestors rs b)
+above_shorter rs forest a b d there above =
+    let up = above_rest rs forest a d above in
+    omega (
+      arith,
+      ap length (ancestors_whole rs forest a up.rest up.chain),
+      ap length (ancestors_of_known rs forest b d there),
+      ap length up.whole,
+      length-append up.front up.rest,
+    )
+
+-- a number is on the ancestry of a region where it is the region's own, or is above it
+pub under_splits : (rs : Regions) → IsForest rs → (a b : ℕ) (d : RegionData) → region_at rs b ≡ Some d → is_under rs b a ≡ (nat_eq a b || is_above rs a d)
+unfolding is_under is_above
+under_splits rs forest a b d there = ap (list_any (nat_eq a)) (ancestors_of_known rs forest b d there)
 
 -- where all parents but one are as before, a chain that does not meet that region stays
 pub chain_same : (rs fs : Regions) (n : ℕ) → ((m : ℕ) → m ≢ n → parent_of fs m ≡ parent_of rs m) → (r : ℕ) (l : List ℕ) → IsChain rs r l

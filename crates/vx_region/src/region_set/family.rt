@@ -1,0 +1,37 @@
+ghost use Rattle.std.specs.Prelude.{◌≡◌, false, option_map, IsSome, IfSome};
+ghost use Rattle.vx_region.specs.Ancestry.{has_child, is_under};
+ghost use Rattle.vx_region.specs.Regions.{region_at, with_parent, without_region};
+
+use crate::region_no::RegionNo;
+use crate::region_set::RegionSet;
+
+impl RegionSet {
+    /// Whether some region has the region of that number as its parent.
+    pub fn has_child(&self, number: RegionNo) -> bool
+        ensures { result ≡ has_child self.now number.0 }
+    {
+        self.regions
+            .iter()
+            .any(|(_, region)| region.parent() == Some(number))
+    }
+
+    /// Gives a region that is there another parent, or none.
+    /// The caller has looked that the parent is there, and that it is neither the region itself nor under it.
+    pub fn set_parent(&mut self, number: RegionNo, parent: Option<RegionNo>)
+        requires known { IsSome (region_at self.old number.0) }
+        requires parent_known { IfSome parent (λ q. IsSome (region_at self.old q.0)) }
+        requires no_cycle { IfSome parent (λ q. is_under self.old q.0 number.0 ≡ false) }
+        ensures { self.new ≡ with_parent self.old number.0 (option_map (λ n. n.0) parent) }
+    {
+        self.regions.get_mut(&number.0).unwrap().set_parent(parent);
+    }
+
+    /// Takes away a region that is there and is no region's parent. Its number is not given again.
+    pub fn remove(&mut self, number: RegionNo)
+        requires known { IsSome (region_at self.old number.0) }
+        requires childless { has_child self.old number.0 ≡ false }
+        ensures { self.new ≡ without_region self.old number.0 }
+    {
+        let _removed = self.regions.shift_remove(&number.0);
+    }
+}

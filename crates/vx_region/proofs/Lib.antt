@@ -1,5 +1,6 @@
 pub mod Changes
 pub mod Forests
+pub mod Globals
 pub mod Lookups
 pub mod NameLemmas
 pub mod Numbers

@@ -1,7 +1,7 @@
-ghost use Rattle.std.specs.Prelude.{◌≡◌, option_map, OnOk, OnErr};
-ghost use Rattle.vx_flag.specs.Settings.{setting_of};
+ghost use Rattle.std.specs.Prelude.{◌≡◌, option_map, Some, None, OnOk, OnErr};
+ghost use Rattle.vx_flag.specs.Settings.{setting_of, with_setting};
 ghost use Rattle.vx_geom.specs.Outline.{is_in};
-ghost use Rattle.vx_region.specs.Regions.{names, with_name, fresh_region};
+ghost use Rattle.vx_region.specs.Regions.{names, with_name, without_name, fresh_region};
 
 use crate::id::Id;
 use crate::name::Name;
@@ -127,5 +127,57 @@ impl Region {
     {
         let _added = self.members.insert(name)?;
         Ok(())
+    }
+
+    /// Lays the region elsewhere.
+    pub(crate) fn set_shape(&mut self, shape: Shape)
+        ensures value { self.new ≡ record self.old { shape = shape } }
+        ensures parent { self.new.parent ≡ self.old.parent }
+    {
+        self.shape = shape;
+    }
+
+    /// Gives it another priority.
+    pub(crate) fn set_priority(&mut self, priority: i32)
+        ensures value { self.new ≡ record self.old { priority = priority } }
+        ensures parent { self.new.parent ≡ self.old.parent }
+    {
+        self.priority = priority;
+    }
+
+    /// Sets the flag, in place of what was set for it before.
+    pub(crate) fn set_flag(&mut self, flag: Flag, setting: Setting)
+        ensures value { self.new ≡ record self.old { settings = with_setting self.old.settings flag (Some setting) } }
+        ensures parent { self.new.parent ≡ self.old.parent }
+    {
+        self.settings.set(flag, setting);
+    }
+
+    /// Leaves the flag unset.
+    pub(crate) fn clear_flag(&mut self, flag: Flag)
+        ensures value { self.new ≡ record self.old { settings = with_setting self.old.settings flag None } }
+        ensures parent { self.new.parent ≡ self.old.parent }
+    {
+        self.settings.clear(flag);
+    }
+
+    /// Names an owner no longer; one that is not named stays so.
+    pub(crate) fn drop_owner(&mut self, name: &Name)
+        ensures value { self.new ≡ record self.old { owners = without_name self.old.owners name.now.text.bytes } }
+        ensures parent { self.new.parent ≡ self.old.parent }
+    {
+        // The length is read since it says that no name is there twice.
+        let _count = self.owners.len();
+        let _dropped = self.owners.shift_remove(name);
+    }
+
+    /// Names a member no longer; one that is not named stays so.
+    pub(crate) fn drop_member(&mut self, name: &Name)
+        ensures value { self.new ≡ record self.old { members = without_name self.old.members name.now.text.bytes } }
+        ensures parent { self.new.parent ≡ self.old.parent }
+    {
+        // The length is read since it says that no name is there twice.
+        let _count = self.members.len();
+        let _dropped = self.members.shift_remove(name);
     }
 }

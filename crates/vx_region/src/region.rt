@@ -181,3 +181,19 @@ impl Region {
         let _dropped = self.members.shift_remove(name);
     }
 }
+
+impl Clone for Region {
+    ghost is_clone = { λ region copy. copy ≡ region };
+
+    fn clone(&self) -> Result<Region, AllocError> {
+        Ok(Region {
+            id: self.id,
+            shape: self.shape.clone()?,
+            priority: self.priority(),
+            parent: self.parent,
+            owners: self.owners.clone()?,
+            members: self.members.clone()?,
+            settings: self.settings,
+        })
+    }
+}

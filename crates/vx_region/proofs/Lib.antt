@@ -4,4 +4,5 @@ pub mod Globals
 pub mod Lookups
 pub mod NameLemmas
 pub mod Numbers
+pub mod SameLists
 pub mod Walks

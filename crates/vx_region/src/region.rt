@@ -1,7 +1,10 @@
 ghost use Rattle.std.specs.Prelude.{◌≡◌, option_map, Some, None, OnOk, OnErr};
+ghost use Rattle.std.specs.Bool.{Decides};
 ghost use Rattle.vx_flag.specs.Settings.{setting_of, with_setting};
 ghost use Rattle.vx_geom.specs.Outline.{is_in};
 ghost use Rattle.vx_region.specs.Regions.{names, with_name, without_name, fresh_region};
+ghost use Rattle.vx_region.specs.SameRegions.{same_number, same_names, same_place, same_people, same_region};
+ghost use Rattle.vx_region.specs.Texts.{texts};
 
 use crate::id::Id;
 use crate::name::Name;
@@ -182,6 +185,50 @@ impl Region {
     }
 }
 
+impl Region {
+    /// Whether both are the same in every part: id, shape, priority and parent, the owners and the members in their order,
+    /// and what is set for each flag.
+    pub fn same(&self, other: &Region) -> bool
+        ensures value { result ≡ same_region self.now other.now }
+        ensures decides { Decides result (self.now ≡ other.now) }
+    {
+        self.same_parts(other)
+    }
+
+    #[tactic(auto, unfolding(crate::specs::SameRegions::same_region))]
+    fn same_parts(&self, other: &Region) -> bool
+        ensures { result ≡ same_region self.now other.now }
+    {
+        self.same_place(other) && self.same_people(other) && self.settings.same(&other.settings)
+    }
+
+    #[tactic(auto, unfolding(crate::specs::SameRegions::same_place))]
+    fn same_place(&self, other: &Region) -> bool
+        ensures { result ≡ same_place self.now other.now }
+    {
+        if self.id != other.id {
+            return false;
+        }
+        if !self.shape.same(&other.shape) {
+            return false;
+        }
+        if self.priority() != other.priority() {
+            return false;
+        }
+        same_number(self.parent, other.parent)
+    }
+
+    #[tactic(auto, unfolding(crate::specs::SameRegions::same_people))]
+    fn same_people(&self, other: &Region) -> bool
+        ensures { result ≡ same_people self.now other.now }
+    {
+        if !same_names(self.owners.as_slice(), other.owners.as_slice()) {
+            return false;
+        }
+        same_names(self.members.as_slice(), other.members.as_slice())
+    }
+}
+
 impl Clone for Region {
     ghost is_clone = { λ region copy. copy ≡ region };
 
@@ -196,4 +243,18 @@ impl Clone for Region {
             settings: self.settings,
         })
     }
+}
+
+#[tactic(auto, unfolding(crate::specs::SameRegions::same_number))]
+fn same_number(a: Option<RegionNo>, b: Option<RegionNo>) -> bool
+    ensures { result ≡ same_number (option_map (λ n. n.0) a) (option_map (λ n. n.0) b) }
+{
+    a == b
+}
+
+#[tactic(auto, unfolding(crate::specs::SameRegions::same_names))]
+fn same_names(these: &[Name], those: &[Name]) -> bool
+    ensures { result ≡ same_names (texts these.now) (texts those.now) }
+{
+    these == those
 }

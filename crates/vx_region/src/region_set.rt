@@ -8,6 +8,7 @@ ghost use Rattle.vx_region.specs.Subjects.{actor_of};
 
 mod copies;
 mod edits;
+mod sameness;
 
 use crate::id::Id;
 use crate::name::Name;

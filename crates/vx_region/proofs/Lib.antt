@@ -1,4 +1,5 @@
 pub mod Changes
+pub mod FlagChanges
 pub mod Forests
 pub mod Globals
 pub mod Lookups

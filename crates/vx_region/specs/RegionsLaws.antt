@@ -2,7 +2,7 @@
 use Rattle.std.specs.Prelude.{◌≡◌, ℕ, List, Option, Some, None, refl}
 use Rattle.std.specs.Bool.{Decides}
 use Rattle.std.specs.Cmp.{IsEquivalence, decided}
-use Rattle.std.specs.Cmp.Lexicographic.{pointwise_decides, bytes_decides}
+use Rattle.std.specs.Cmp.Lexicographic.{pointwise_decides}
 use Rattle.std.proofs.Common.{ap, ◌∙◌}
 use Rattle.std.proofs.lemmas.Bool.{false≢true}
 use Rattle.std.proofs.lemmas.Bool.Decides.{Decides-eqb, Decides-int_eq, Decides-and, Decides-like}
@@ -10,7 +10,7 @@ use Rattle.std.proofs.lemmas.Slice.Eq.{bytes_eq-Decides}
 use Rattle.vx_geom.specs.OutlineLaws.{outline_decided}
 use Rattle.vx_flag.specs.SettingsLaws.{settings_decided}
 use Rattle.vx_region.specs.Regions.{RegionData, Entry, Regions}
-use Rattle.vx_region.specs.SameRegions.{same_number, same_names, same_place, same_people, same_region, same_entry, same_entries, same_regions}
+use Rattle.vx_region.specs.SameRegions.{same_number, same_names, same_place, same_people, same_region, same_entry, same_regions}
 
 number_decided : (a b : Option ℕ) → Decides (same_number a b) (a ≡ b)
 unfolding same_number

@@ -11,7 +11,10 @@ mod subject;
 mod word;
 
 pub use id::{BadId, Id};
-pub use laws::{definition_adds_one, each_has_its_number, member_is_added, owner_is_added};
+pub use laws::{
+    definition_adds_one, each_has_its_number, member_is_added, member_is_dropped,
+    one_region_changes, one_setting_changes, owner_is_added, owner_is_dropped,
+};
 pub use name::{BadName, Name};
 pub use region::Region;
 pub use region_no::RegionNo;

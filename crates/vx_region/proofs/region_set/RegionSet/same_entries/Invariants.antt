@@ -1,4 +1,4 @@
-use Rattle.std.proofs.Common.{◌≡◌, ◌≤◌}
+use Rattle.std.proofs.Common.{◌≡◌}
 use Rattle.vx_region.specs.SameRegions.{same_entry, same_entries}
 use Rattle.vx_region.proofs.SameLists.{same_left}
 use Rattle.vx_region.proofs.region_set.RegionSet.same_entries.Given as goal

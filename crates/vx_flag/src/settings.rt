@@ -1,5 +1,6 @@
 ghost use Rattle.std.specs.Prelude.{◌≡◌, Some, None};
 ghost use Rattle.std.specs.Bool.{Decides};
+ghost use Rattle.vx_flag.specs.SameSettings.{same_state, same_group, same_setting, same_settings};
 ghost use Rattle.vx_flag.specs.Settings.{no_settings, setting_of, with_setting};
 
 use crate::flag::Flag;
@@ -81,8 +82,10 @@ impl Settings {
     }
 
     /// Whether the same is set for each flag.
+    #[tactic(auto, unfolding(crate::specs::SameSettings::same_settings))]
     pub fn same(&self, other: &Settings) -> bool
-        ensures { Decides result (self.now ≡ other.now) }
+        ensures value { result ≡ same_settings self.now other.now }
+        ensures decides { Decides result (self.now ≡ other.now) }
     {
         if !same_setting(self.build, other.build) {
             return false;
@@ -106,8 +109,10 @@ impl Settings {
     }
 }
 
+#[tactic(auto, unfolding(crate::specs::SameSettings::same_setting))]
 fn same_setting(a: Option<Setting>, b: Option<Setting>) -> bool
-    ensures { Decides result (a ≡ b) }
+    ensures value { result ≡ same_setting a b }
+    ensures decides { Decides result (a ≡ b) }
 {
     match (a, b) {
         (None, None) => true,
@@ -116,14 +121,18 @@ fn same_setting(a: Option<Setting>, b: Option<Setting>) -> bool
     }
 }
 
+#[tactic(auto, unfolding(crate::specs::SameSettings::same_state))]
 fn same_state(a: State, b: State) -> bool
-    ensures { Decides result (a ≡ b) }
+    ensures value { result ≡ same_state a b }
+    ensures decides { Decides result (a ≡ b) }
 {
     a == b
 }
 
+#[tactic(auto, unfolding(crate::specs::SameSettings::same_group))]
 fn same_group(a: Group, b: Group) -> bool
-    ensures { Decides result (a ≡ b) }
+    ensures value { result ≡ same_group a b }
+    ensures decides { Decides result (a ≡ b) }
 {
     a == b
 }

@@ -1,8 +1,11 @@
 pub mod Chains
 pub mod Changes
+pub mod FlagChanges
 pub mod Forests
+pub mod Globals
 pub mod Lookups
 pub mod NameLemmas
 pub mod Numbers
 pub mod Removals
+pub mod SameLists
 pub mod Walks

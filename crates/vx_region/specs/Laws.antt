@@ -1,8 +1,10 @@
-use Rattle.std.specs.Prelude.{ℕ, ◌≡◌, ◌≢◌, ◌+◌, ◌⊎◌, ◌↔◌, IsTrue, IsSome, IsSomeAnd, false, List, ◌∷◌, Some, None, slice_get}
+use Rattle.std.specs.Prelude.{ℕ, ◌≡◌, ◌≢◌, ◌+◌, ◌⊎◌, ◌↔◌, IsTrue, IsSome, IsSomeAnd, false, List, ◌∷◌, Some, None, slice_get, Option, option_map}
 use Rattle.vx_geom.specs.Outline.{Outline}
 use Rattle.vx_region.specs.Ancestry.{ancestors, from_parent, is_above}
 use Rattle.vx_region.specs.Forest.{IsNumbered, IsForest}
-use Rattle.vx_region.specs.Regions.{RegionData, Regions, region_at, parent_of, number_of, names, fresh_region, with_region, without_region, with_owner, with_member}
+use Rattle.vx_region.specs.Regions.{RegionData, Regions, region_at, parent_of, number_of, names, fresh_region, with_region, without_region, with_owner, with_member, setting_at, HasSettings, changed, with_flag, without_owner, without_member}
+use Rattle.vx_flag.specs.declared.flag.Flag.{Flag}
+use Rattle.vx_flag.specs.declared.setting.Setting.{Setting}
 
 -- a number that stands at a place is the number of the region there
 abbrev pub EachHasItsNumber : Type 0
@@ -85,3 +87,57 @@ RemovalKeepsOthers = (rs : Regions) (n m : ℕ) → m ≢ n → region_at (witho
 -- and its number is not given again
 abbrev pub RemovalKeepsLast : Type 0
 RemovalKeepsLast = (rs : Regions) (n : ℕ) → (without_region rs n).last ≡ rs.last
+
+-- exactly those are named that were before, without this one
+abbrev pub NamesOneLess : List (List ℕ) → List ℕ → List (List ℕ) → Type 0
+NamesOneLess old name new = (other : List ℕ) → IsTrue (names new other) ↔ (IsTrue (names old other) × (other ≢ name))
+
+-- a region has one owner less and is as before otherwise
+pub record LosesOwner (name : List ℕ) (old new : RegionData) : Type 0 where
+  pub id : new.id ≡ old.id
+  pub shape : new.shape ≡ old.shape
+  pub priority : new.priority ≡ old.priority
+  pub parent : new.parent ≡ old.parent
+  pub owners : NamesOneLess old.owners name new.owners
+  pub members : new.members ≡ old.members
+  pub settings : new.settings ≡ old.settings
+
+abbrev pub OwnerIsDropped : Type 0
+OwnerIsDropped = (rs : Regions) (n : ℕ) (name : List ℕ) (old : RegionData) → region_at rs n ≡ Some old → IsSomeAnd (region_at (without_owner rs n name) n) (LosesOwner name old)
+
+-- another region keeps its owners and all else
+abbrev pub OwnerDropKeepsOthers : Type 0
+OwnerDropKeepsOthers = (rs : Regions) (n m : ℕ) (name : List ℕ) → m ≢ n → region_at (without_owner rs n name) m ≡ region_at rs m
+
+-- a region has one member less and is as before otherwise
+pub record LosesMember (name : List ℕ) (old new : RegionData) : Type 0 where
+  pub id : new.id ≡ old.id
+  pub shape : new.shape ≡ old.shape
+  pub priority : new.priority ≡ old.priority
+  pub parent : new.parent ≡ old.parent
+  pub owners : new.owners ≡ old.owners
+  pub members : NamesOneLess old.members name new.members
+  pub settings : new.settings ≡ old.settings
+
+abbrev pub MemberIsDropped : Type 0
+MemberIsDropped = (rs : Regions) (n : ℕ) (name : List ℕ) (old : RegionData) → region_at rs n ≡ Some old → IsSomeAnd (region_at (without_member rs n name) n) (LosesMember name old)
+
+-- another region keeps its members and all else
+abbrev pub MemberDropKeepsOthers : Type 0
+MemberDropKeepsOthers = (rs : Regions) (n m : ℕ) (name : List ℕ) → m ≢ n → region_at (without_member rs n name) m ≡ region_at rs m
+
+-- after a change of a region, the number has the changed region
+abbrev pub ChangeIsThere : Type 0
+ChangeIsThere = (change : RegionData → RegionData) (rs : Regions) (n : ℕ) → region_at (changed change n rs) n ≡ option_map change (region_at rs n)
+
+-- and each other number has the region that it had
+abbrev pub ChangeKeepsOthers : Type 0
+ChangeKeepsOthers = (change : RegionData → RegionData) (rs : Regions) (n m : ℕ) → m ≢ n → region_at (changed change n rs) m ≡ region_at rs m
+
+-- a flag is what it was set to, where it can be set
+abbrev pub FlagIsSet : Type 0
+FlagIsSet = (rs : Regions) (n : ℕ) (f : Flag) (o : Option Setting) → HasSettings rs n → setting_at (with_flag rs n f o) n f ≡ o
+
+-- each other flag, and the same flag elsewhere, is as it was
+abbrev pub FlagKeepsOthers : Type 0
+FlagKeepsOthers = (rs : Regions) (n m : ℕ) (f g : Flag) (o : Option Setting) → (m ≢ n) ⊎ (g ≢ f) → setting_at (with_flag rs n f o) m g ≡ setting_at rs m g

@@ -4,6 +4,8 @@ pub mod Association
 pub mod Forest
 pub mod Laws
 pub mod Regions
+pub mod RegionsLaws
+pub mod SameRegions
 pub mod Subjects
 pub mod Texts
 pub mod Words

@@ -1,4 +1,4 @@
-use Rattle.std.specs.Prelude.{ℕ, ℤ, pos, ◌+◌, Bool, if◌then◌else◌, nat_eq, bytes_eq, codes, List, [], ◌∷◌, ◌++◌, map, filter, not, find, Option, Some, None, option_map}
+use Rattle.std.specs.Prelude.{◌≡◌, ◌⊎◌, ℕ, ℤ, pos, ◌+◌, Bool, if◌then◌else◌, nat_eq, bytes_eq, codes, List, [], ◌∷◌, ◌++◌, map, filter, not, find, Option, Some, None, IsSome, option_map}
 use Rattle.std.specs.List.{list_any}
 use Rattle.std.specs.Option.{option_and_then}
 use Rattle.vx_geom.specs.Outline.{Outline}
@@ -54,6 +54,10 @@ parent_of rs n = option_and_then (λ r. r.parent) (region_at rs n)
 -- what is set for a flag in the region of a number, or in the world at large for 0
 unfoldable pub setting_at : Regions → ℕ → Flag → Option Setting
 setting_at rs n f = if nat_eq n 0 then setting_of rs.global f else option_and_then (λ r. setting_of r.settings f) (region_at rs n)
+
+-- flags can be set for this number: it is 0, for the world at large, or its region is there
+abbrev pub HasSettings : Regions → ℕ → Type 0
+HasSettings rs n = (n ≡ 0) ⊎ IsSome (region_at rs n)
 
 -- the name is among these
 abbrev pub names : List (List ℕ) → List ℕ → Bool

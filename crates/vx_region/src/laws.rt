@@ -1,4 +1,4 @@
-ghost use Rattle.vx_region.specs.Laws.{AncestryIsWhole, NoCycles, ParentsAreThere, RemovedIsGone, RemovalKeepsOthers, RemovalKeepsLast, EachHasItsNumber, DefinedIsFresh, DefinitionKeepsOthers, DefinedIsFound, DefinitionKeepsIds, OwnerIsAdded, OwnerKeepsOthers, MemberIsAdded, MemberKeepsOthers};
+ghost use Rattle.vx_region.specs.Laws.{AncestryIsWhole, NoCycles, ParentsAreThere, RemovedIsGone, RemovalKeepsOthers, RemovalKeepsLast, EachHasItsNumber, DefinedIsFresh, DefinitionKeepsOthers, DefinedIsFound, DefinitionKeepsIds, OwnerIsAdded, OwnerKeepsOthers, MemberIsAdded, MemberKeepsOthers, OwnerIsDropped, OwnerDropKeepsOthers, MemberIsDropped, MemberDropKeepsOthers, ChangeIsThere, ChangeKeepsOthers, FlagIsSet, FlagKeepsOthers};
 
 /// The region at a place in order of number is the region of the number there.
 pub fn each_has_its_number()
@@ -45,4 +45,28 @@ pub fn removal_takes_one()
     ensures gone { RemovedIsGone }
     ensures others { RemovalKeepsOthers }
     ensures last { RemovalKeepsLast }
+{}
+
+/// Dropping an owner takes that one owner out of that one region.
+pub fn owner_is_dropped()
+    ensures dropped { OwnerIsDropped }
+    ensures others { OwnerDropKeepsOthers }
+{}
+
+/// Dropping a member takes that one member out of that one region.
+pub fn member_is_dropped()
+    ensures dropped { MemberIsDropped }
+    ensures others { MemberDropKeepsOthers }
+{}
+
+/// A change of one region changes that one region.
+pub fn one_region_changes()
+    ensures there { ChangeIsThere }
+    ensures others { ChangeKeepsOthers }
+{}
+
+/// Setting a flag, or leaving it unset, changes that flag of that region or of the world at large, and no other.
+pub fn one_setting_changes()
+    ensures set { FlagIsSet }
+    ensures others { FlagKeepsOthers }
 {}

@@ -12,8 +12,9 @@ mod word;
 
 pub use id::{BadId, Id};
 pub use laws::{
-    ancestry_is_whole, definition_adds_one, each_has_its_number, member_is_added, no_cycles,
-    owner_is_added, parents_are_there, removal_takes_one,
+    ancestry_is_whole, definition_adds_one, each_has_its_number, member_is_added,
+    member_is_dropped, no_cycles, one_region_changes, one_setting_changes, owner_is_added,
+    owner_is_dropped, parents_are_there, removal_takes_one,
 };
 pub use name::{BadName, Name};
 pub use region::Region;

@@ -1,7 +1,10 @@
-ghost use Rattle.std.specs.Prelude.{◌≡◌, option_map, OnOk, OnErr};
-ghost use Rattle.vx_flag.specs.Settings.{setting_of};
+ghost use Rattle.std.specs.Prelude.{◌≡◌, option_map, Some, None, OnOk, OnErr};
+ghost use Rattle.std.specs.Bool.{Decides};
+ghost use Rattle.vx_flag.specs.Settings.{setting_of, with_setting};
 ghost use Rattle.vx_geom.specs.Outline.{is_in};
-ghost use Rattle.vx_region.specs.Regions.{names, with_name, fresh_region};
+ghost use Rattle.vx_region.specs.Regions.{names, with_name, without_name, fresh_region};
+ghost use Rattle.vx_region.specs.SameRegions.{same_number, same_names, same_place, same_people, same_region};
+ghost use Rattle.vx_region.specs.Texts.{texts};
 
 use crate::id::Id;
 use crate::name::Name;
@@ -135,4 +138,130 @@ impl Region {
         let _added = self.members.insert(name)?;
         Ok(())
     }
+
+    /// Lays the region elsewhere.
+    pub(crate) fn set_shape(&mut self, shape: Shape)
+        ensures value { self.new ≡ record self.old { shape = shape } }
+        ensures parent { self.new.parent ≡ self.old.parent }
+    {
+        self.shape = shape;
+    }
+
+    /// Gives it another priority.
+    pub(crate) fn set_priority(&mut self, priority: i32)
+        ensures value { self.new ≡ record self.old { priority = priority } }
+        ensures parent { self.new.parent ≡ self.old.parent }
+    {
+        self.priority = priority;
+    }
+
+    /// Sets the flag, in place of what was set for it before.
+    pub(crate) fn set_flag(&mut self, flag: Flag, setting: Setting)
+        ensures value { self.new ≡ record self.old { settings = with_setting self.old.settings flag (Some setting) } }
+        ensures parent { self.new.parent ≡ self.old.parent }
+    {
+        self.settings.set(flag, setting);
+    }
+
+    /// Leaves the flag unset.
+    pub(crate) fn clear_flag(&mut self, flag: Flag)
+        ensures value { self.new ≡ record self.old { settings = with_setting self.old.settings flag None } }
+        ensures parent { self.new.parent ≡ self.old.parent }
+    {
+        self.settings.clear(flag);
+    }
+
+    /// Names an owner no longer; one that is not named stays so.
+    pub(crate) fn drop_owner(&mut self, name: &Name)
+        ensures value { self.new ≡ record self.old { owners = without_name self.old.owners name.now.text.bytes } }
+        ensures parent { self.new.parent ≡ self.old.parent }
+    {
+        // The length is read since it says that no name is there twice.
+        let _count = self.owners.len();
+        let _dropped = self.owners.shift_remove(name);
+    }
+
+    /// Names a member no longer; one that is not named stays so.
+    pub(crate) fn drop_member(&mut self, name: &Name)
+        ensures value { self.new ≡ record self.old { members = without_name self.old.members name.now.text.bytes } }
+        ensures parent { self.new.parent ≡ self.old.parent }
+    {
+        // The length is read since it says that no name is there twice.
+        let _count = self.members.len();
+        let _dropped = self.members.shift_remove(name);
+    }
+}
+
+impl Region {
+    /// Whether both are the same in every part: id, shape, priority and parent, the owners and the members in their order,
+    /// and what is set for each flag.
+    pub fn same(&self, other: &Region) -> bool
+        ensures value { result ≡ same_region self.now other.now }
+        ensures decides { Decides result (self.now ≡ other.now) }
+    {
+        self.same_parts(other)
+    }
+
+    #[tactic(auto, unfolding(crate::specs::SameRegions::same_region))]
+    fn same_parts(&self, other: &Region) -> bool
+        ensures { result ≡ same_region self.now other.now }
+    {
+        self.same_place(other) && self.same_people(other) && self.settings.same(&other.settings)
+    }
+
+    #[tactic(auto, unfolding(crate::specs::SameRegions::same_place))]
+    fn same_place(&self, other: &Region) -> bool
+        ensures { result ≡ same_place self.now other.now }
+    {
+        if self.id != other.id {
+            return false;
+        }
+        if !self.shape.same(&other.shape) {
+            return false;
+        }
+        if self.priority() != other.priority() {
+            return false;
+        }
+        same_number(self.parent, other.parent)
+    }
+
+    #[tactic(auto, unfolding(crate::specs::SameRegions::same_people))]
+    fn same_people(&self, other: &Region) -> bool
+        ensures { result ≡ same_people self.now other.now }
+    {
+        if !same_names(self.owners.as_slice(), other.owners.as_slice()) {
+            return false;
+        }
+        same_names(self.members.as_slice(), other.members.as_slice())
+    }
+}
+
+impl Clone for Region {
+    ghost is_clone = { λ region copy. copy ≡ region };
+
+    fn clone(&self) -> Result<Region, AllocError> {
+        Ok(Region {
+            id: self.id,
+            shape: self.shape.clone()?,
+            priority: self.priority(),
+            parent: self.parent,
+            owners: self.owners.clone()?,
+            members: self.members.clone()?,
+            settings: self.settings,
+        })
+    }
+}
+
+#[tactic(auto, unfolding(crate::specs::SameRegions::same_number))]
+fn same_number(a: Option<RegionNo>, b: Option<RegionNo>) -> bool
+    ensures { result ≡ same_number (option_map (λ n. n.0) a) (option_map (λ n. n.0) b) }
+{
+    a == b
+}
+
+#[tactic(auto, unfolding(crate::specs::SameRegions::same_names))]
+fn same_names(these: &[Name], those: &[Name]) -> bool
+    ensures { result ≡ same_names (texts these.now) (texts those.now) }
+{
+    these == those
 }

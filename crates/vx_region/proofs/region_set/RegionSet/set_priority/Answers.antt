@@ -1,0 +1,23 @@
+use Rattle.std.proofs.Common.{w32, ap, ◌∙◌}
+use Rattle.std.proofs.lemmas.Int.{to_z-of_z}
+use Rattle.vx_region.specs.Regions.{with_priority}
+use Rattle.vx_region.specs.contracts.region_set.RegionSet.{the_view}
+use Rattle.vx_region.proofs.Forests.{forest_written}
+use Rattle.vx_region.proofs.Lookups.{lent_from_known, written_over}
+use Rattle.vx_region.proofs.region_set.RegionSet.set_priority.Goals as goal
+
+pub unwrap-requires : goal.unwrap-requires
+unwrap-requires c = lent_from_known c.args.number.0 (the_view c.self.inside) c.get_mut.result (rw c.self.view_is c.requires) c.get_mut.ensures.value
+
+pub invariant_of-self : goal.invariant_of-self
+invariant_of-self c =
+    forest_written c.args.number.0 (the_view c.self.inside) _ c.get_mut.result c.unwrap.result c.set_priority.new.self
+    c.get_mut.ensures.value c.unwrap.ensures (c.get_mut.follows.holds c.set_priority.new.self).0 c.set_priority.ensures.parent c.self.invariant
+
+pub returns : goal.returns
+unfolding with_priority
+returns c =
+    rw (← c.self.view_is) (written_over (λ r. record r { priority = c.args.priority }) c.args.number.0 (the_view c.self.inside)
+    _ c.get_mut.result c.unwrap.result c.set_priority.new.self
+    c.get_mut.ensures.unique c.get_mut.ensures.value c.unwrap.ensures (c.get_mut.follows.holds c.set_priority.new.self).0
+    (c.set_priority.ensures.value ∙ ap (λ z. record c.unwrap.result.now { priority = z }) (to_z-of_z w32 c.args.priority c.ranges.priority)))

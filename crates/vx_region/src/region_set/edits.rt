@@ -1,0 +1,73 @@
+//! What changes a region that is there, or the flags of the world at large. Nothing here takes memory.
+ghost use Rattle.std.specs.Prelude.{◌≡◌, Some, None, IsSome};
+ghost use Rattle.vx_region.specs.Regions.{region_at, HasSettings, with_shape, with_priority, with_flag, without_owner, without_member};
+
+use super::RegionSet;
+use crate::name::Name;
+use crate::region_no::RegionNo;
+use vx_flag::{Flag, Setting};
+use vx_geom::Shape;
+
+impl RegionSet {
+    /// Lays a region that is there elsewhere.
+    pub fn reshape(&mut self, number: RegionNo, shape: Shape)
+        requires { IsSome (region_at self.old number.0) }
+        ensures { self.new ≡ with_shape self.old number.0 shape }
+    {
+        self.regions.get_mut(&number.0).unwrap().set_shape(shape);
+    }
+
+    /// Gives a region that is there another priority.
+    pub fn set_priority(&mut self, number: RegionNo, priority: i32)
+        requires { IsSome (region_at self.old number.0) }
+        ensures { self.new ≡ with_priority self.old number.0 priority }
+    {
+        self.regions
+            .get_mut(&number.0)
+            .unwrap()
+            .set_priority(priority);
+    }
+
+    /// Sets a flag of a region that is there, or of the world at large for number 0, in place of what was set before.
+    pub fn set_flag(&mut self, number: RegionNo, flag: Flag, setting: Setting)
+        requires { HasSettings self.old number.0 }
+        ensures { self.new ≡ with_flag self.old number.0 flag (Some setting) }
+    {
+        if number.0 == 0 {
+            self.global.set(flag, setting);
+            return;
+        }
+        self.regions
+            .get_mut(&number.0)
+            .unwrap()
+            .set_flag(flag, setting);
+    }
+
+    /// Leaves a flag unset in a region that is there, or in the world at large for number 0.
+    pub fn clear_flag(&mut self, number: RegionNo, flag: Flag)
+        requires { HasSettings self.old number.0 }
+        ensures { self.new ≡ with_flag self.old number.0 flag None }
+    {
+        if number.0 == 0 {
+            self.global.clear(flag);
+            return;
+        }
+        self.regions.get_mut(&number.0).unwrap().clear_flag(flag);
+    }
+
+    /// Names an owner of a region that is there no longer; one that is not named stays so.
+    pub fn drop_owner(&mut self, number: RegionNo, name: &Name)
+        requires { IsSome (region_at self.old number.0) }
+        ensures { self.new ≡ without_owner self.old number.0 name.now.text.bytes }
+    {
+        self.regions.get_mut(&number.0).unwrap().drop_owner(name);
+    }
+
+    /// Names a member of a region that is there no longer; one that is not named stays so.
+    pub fn drop_member(&mut self, number: RegionNo, name: &Name)
+        requires { IsSome (region_at self.old number.0) }
+        ensures { self.new ≡ without_member self.old number.0 name.now.text.bytes }
+    {
+        self.regions.get_mut(&number.0).unwrap().drop_member(name);
+    }
+}

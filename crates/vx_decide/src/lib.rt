@@ -17,3 +17,6 @@ pub use decide::Decide;
 pub use plain::Plain;
 pub use rule::Rule;
 pub use verdict::Verdict;
+
+#[cfg(test)]
+mod tests;

@@ -1,3 +1,6 @@
+pub mod Answering
 pub mod Highest
 pub mod Leasts
 pub mod Nearest
+pub mod Picks
+pub mod Taken

@@ -1,6 +1,8 @@
+pub mod Answers
 pub mod Asked
 pub mod Build
 pub mod Effective
+pub mod Laws
 pub mod Query
 pub mod RegionGroups
 pub mod Texts

@@ -6,6 +6,7 @@ mod building;
 mod decide;
 mod effective;
 mod inquiry;
+mod laws;
 mod plain;
 mod query;
 mod question;
@@ -14,6 +15,7 @@ mod value;
 mod verdict;
 
 pub use decide::Decide;
+pub use laws::one_answer;
 pub use plain::Plain;
 pub use rule::Rule;
 pub use verdict::Verdict;

@@ -3,4 +3,5 @@ pub mod Highest
 pub mod Leasts
 pub mod Nearest
 pub mod Picks
+pub mod Ranks
 pub mod Taken

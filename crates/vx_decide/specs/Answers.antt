@@ -7,7 +7,7 @@ use Rattle.vx_decide.specs.declared.question.Question.{Question}
 use Rattle.vx_decide.specs.declared.value.Value.{Value}
 use Rattle.vx_decide.specs.Asked.{Asked}
 use Rattle.vx_decide.specs.Effective.{effective}
-use Rattle.vx_decide.specs.Query.{flag_of_question, is_taken}
+use Rattle.vx_decide.specs.Query.{flag_of_question, contains, counts, is_taken}
 use Rattle.vx_decide.specs.RegionGroups.{Members}
 
 -- the region is among these and a member
@@ -32,6 +32,14 @@ state_of = option_map (λ v. v.state)
 -- the region is taken: its value decides on the question
 abbrev pub IsTaken : Question → Asked → Entry → Type 0
 IsTaken q a e = In (is_taken q a) a.regions.entries e
+
+-- a region of this number contains the place
+abbrev pub IsAtPlace : Asked → ℕ → Type 0
+IsAtPlace a n = (r : RegionData) × Contains a.regions.entries (n, r) × (contains a (n, r) ≡ true)
+
+-- the region is among those that contain the place and have a say on the question
+abbrev pub Counts : Question → Asked → Entry → Type 0
+Counts q a e = In (counts q a) a.regions.entries e
 
 -- the answer is that of a region taken; it denies where one that is taken denies; and it names the least of those that say the same
 pub record IsAnswer (q : Question) (a : Asked) (answer : Answer) : Type 0 where

@@ -15,7 +15,10 @@ mod value;
 mod verdict;
 
 pub use decide::Decide;
-pub use laws::one_answer;
+pub use laws::{
+    child_stands_before_parent, decider_contains_the_place, highest_priority_decides, one_answer,
+    one_denial_denies,
+};
 pub use plain::Plain;
 pub use rule::Rule;
 pub use verdict::Verdict;

@@ -1,6 +1,8 @@
 pub mod Answering
 pub mod Highest
+pub mod Inherited
 pub mod Leasts
+pub mod Membership
 pub mod Nearest
 pub mod Picks
 pub mod Ranks

@@ -1,13 +1,21 @@
-use Rattle.std.specs.Prelude.{◌≡◌, ℕ, ◌≤◌, true, List, Option, Some, option_map, Contains}
+use Rattle.std.specs.Prelude.{◌≡◌, ℕ, ◌≤◌, ◌⊎◌, true, false, List, ◌∷◌, ◌++◌, Option, Some, None, option_map, Contains}
+use Rattle.vx_flag.specs.declared.flag.Flag.{Flag}
+use Rattle.vx_flag.specs.declared.setting.Setting.{Setting}
 use Rattle.vx_flag.specs.declared.state.State.{State}
 use Rattle.vx_flag.specs.declared.state.State.TheVariants.{Deny}
-use Rattle.vx_region.specs.Regions.{Entry, RegionData}
+use Rattle.vx_flag.specs.Group.{fits}
+use Rattle.vx_region.specs.Ancestry.{ancestors, is_above}
+use Rattle.vx_region.specs.Association.{association}
+use Rattle.vx_region.specs.Regions.{Entry, RegionData, Regions, setting_at}
+use Rattle.vx_region.specs.Subjects.{Actor}
 use Rattle.vx_decide.specs.declared.answer.Answer.{Answer}
 use Rattle.vx_decide.specs.declared.question.Question.{Question}
+use Rattle.vx_decide.specs.declared.question.Question.TheVariants.{OnBuilding}
 use Rattle.vx_decide.specs.declared.value.Value.{Value}
 use Rattle.vx_decide.specs.Asked.{Asked}
-use Rattle.vx_decide.specs.Effective.{effective}
-use Rattle.vx_decide.specs.Query.{flag_of_question, contains, counts, is_taken}
+use Rattle.vx_decide.specs.Build.{admits}
+use Rattle.vx_decide.specs.Effective.{value_at, effective}
+use Rattle.vx_decide.specs.Query.{flag_of_question, contains, counts, is_top, is_taken}
 use Rattle.vx_decide.specs.RegionGroups.{Members}
 
 -- the region is among these and a member
@@ -48,3 +56,47 @@ pub record IsAnswer (q : Question) (a : Asked) (answer : Answer) : Type 0 where
   pub value : value_for q a answer.at.0 ≡ Some answer.value
   pub deny_wins : (e : Entry) → IsTaken q a e → state_of (value_for q a e.0) ≡ Some Deny → answer.value.state ≡ Deny
   pub least : (e : Entry) → IsTaken q a e → state_of (value_for q a e.0) ≡ Some answer.value.state → answer.at.0 ≤ e.0
+
+-- the value of a flag is set by the nearest region of the ancestry that sets it for those who are to the region at which the
+-- question began what the actor is
+pub record IsInherited (rs : Regions) (s : Actor) (f : Flag) (n : ℕ) (v : Value) : Type 0 where
+  pub nearer : List ℕ
+  pub farther : List ℕ
+  pub ancestry : ancestors rs n ≡ nearer ++ v.from.0 ∷ farther
+  pub setting : Setting
+  pub set : setting_at rs v.from.0 f ≡ Some setting
+  pub fitting : fits setting.group (association rs s n) ≡ true
+  pub state : setting.state ≡ v.state
+  pub silent : (m : ℕ) → Contains nearer m → value_at rs f (association rs s n) m ≡ None
+
+-- the region is of highest priority on building
+abbrev pub OnTop : Asked → Entry → Type 0
+OnTop a e = In (is_top OnBuilding a) a.regions.entries e
+
+-- the region is of highest priority on building, and admits the actor neither by itself nor by one of its descendants of the
+-- same priority
+pub record Fails (a : Asked) (e : Entry) : Type 0 where
+  pub top : OnTop a e
+  pub stranger : admits a e.0 ≡ false
+  pub no_home : (d : Entry) → OnTop a d → admits a d.0 ≡ true → is_above a.regions e.0 d.1 ≡ false
+
+-- membership denies: the region contains the place and fails, and none that fails has a lesser number
+pub record MemberDenies (a : Asked) (n : ℕ) : Type 0 where
+  pub region : RegionData
+  pub place : contains a (n, region) ≡ true
+  pub fails : Fails a (n, region)
+  pub least : (e : Entry) → Fails a e → n ≤ e.0
+
+-- the region admits the actor by itself or by one of its descendants of the same priority
+abbrev pub IsSatisfied : Asked → Entry → Type 0
+IsSatisfied a e = (admits a e.0 ≡ true) ⊎ ((d : Entry) × OnTop a d × (admits a d.0 ≡ true) × (is_above a.regions e.0 d.1 ≡ true))
+
+-- membership permits: the region contains the place and admits the actor, none that does has a lesser number, and every region
+-- of highest priority is satisfied
+pub record MemberPermits (a : Asked) (n : ℕ) : Type 0 where
+  pub region : RegionData
+  pub place : contains a (n, region) ≡ true
+  pub top : OnTop a (n, region)
+  pub insider : admits a n ≡ true
+  pub satisfied : (e : Entry) → OnTop a e → IsSatisfied a e
+  pub least : (e : Entry) → OnTop a e → admits a e.0 ≡ true → n ≤ e.0

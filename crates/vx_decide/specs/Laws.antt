@@ -1,12 +1,18 @@
-use Rattle.std.specs.Prelude.{◌≡◌, ◌<ℤ◌, ◌≤ℤ◌, true, false, Some}
+use Rattle.std.specs.Prelude.{◌≡◌, ◌≢◌, ℕ, ◌<ℤ◌, ◌≤ℤ◌, true, false, Some, None, Contains}
+use Rattle.vx_flag.specs.declared.flag.Flag.{Flag}
 use Rattle.vx_flag.specs.declared.state.State.TheVariants.{Deny}
-use Rattle.vx_region.specs.Ancestry.{is_above}
-use Rattle.vx_region.specs.Regions.{Entry}
+use Rattle.vx_region.specs.Ancestry.{ancestors, is_under, is_above}
+use Rattle.vx_region.specs.Association.{association}
+use Rattle.vx_region.specs.Regions.{Entry, Regions}
+use Rattle.vx_region.specs.Subjects.{Actor}
 use Rattle.vx_decide.specs.declared.answer.Answer.{Answer}
 use Rattle.vx_decide.specs.declared.question.Question.{Question}
-use Rattle.vx_decide.specs.Answers.{In, IsAnswer, IsTaken, Counts, IsAtPlace, value_for, state_of}
+use Rattle.vx_decide.specs.declared.value.Value.{Value}
+use Rattle.vx_decide.specs.declared.verdict.Verdict.TheVariants as verdict
+use Rattle.vx_decide.specs.Answers.{In, IsAnswer, IsInherited, MemberDenies, MemberPermits, IsTaken, Counts, IsAtPlace, value_for, state_of}
 use Rattle.vx_decide.specs.Asked.{Asked}
-use Rattle.vx_decide.specs.Effective.{has_value}
+use Rattle.vx_decide.specs.Build.{member_at, by_membership}
+use Rattle.vx_decide.specs.Effective.{value_at, effective, has_value}
 use Rattle.vx_decide.specs.Query.{flag_of_question, is_top, speaks, is_taken, decided}
 
 -- what is decided is an answer
@@ -49,3 +55,27 @@ abbrev pub ChildAtTheSamePriority : Type 0
 ChildAtTheSamePriority = (q : Question) (a : Asked) (child parent : Entry) → Counts q a child
     → has_value a.regions a.actor (flag_of_question q) child.0 ≡ true → parent.1.priority ≤ℤ child.1.priority
     → is_above a.regions parent.0 child.1 ≡ true → is_taken q a parent ≡ false
+
+-- a value is that of the nearest region of the ancestry that sets one for the actor, and of no other
+abbrev pub ValueIsInherited : Type 0
+ValueIsInherited = (rs : Regions) (s : Actor) (f : Flag) (n : ℕ) (v : Value) → effective rs s f n ≡ Some v → IsInherited rs s f n v
+
+abbrev pub InheritedIsTheValue : Type 0
+InheritedIsTheValue = (rs : Regions) (s : Actor) (f : Flag) (n : ℕ) (v : Value) → IsInherited rs s f n v → effective rs s f n ≡ Some v
+
+-- a value is set in the region itself or in one of its ancestors
+abbrev pub ValueIsFromTheAncestry : Type 0
+ValueIsFromTheAncestry = (rs : Regions) (s : Actor) (f : Flag) (n : ℕ) (v : Value) → effective rs s f n ≡ Some v → is_under rs n v.from.0 ≡ true
+
+-- where there is no value, none of the ancestry sets one
+abbrev pub NoValueIsSet : Type 0
+NoValueIsSet = (rs : Regions) (s : Actor) (f : Flag) (n m : ℕ) → effective rs s f n ≡ None → Contains (ancestors rs n) m
+    → value_at rs f (association rs s n) m ≡ None
+
+-- where membership in a region denies, that region fails, and is the least that does
+abbrev pub MembershipDeniesWhereOneFails : Type 0
+MembershipDeniesWhereOneFails = (a : Asked) (n : ℕ) → by_membership a ≡ verdict.Deny (member_at n) → n ≢ 0 → MemberDenies a n
+
+-- where membership in a region permits, that region admits the actor, and every region of highest priority is satisfied
+abbrev pub MembershipPermitsWhereNoneFails : Type 0
+MembershipPermitsWhereNoneFails = (a : Asked) (n : ℕ) → by_membership a ≡ verdict.Permit (member_at n) → MemberPermits a n

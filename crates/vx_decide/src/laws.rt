@@ -1,4 +1,4 @@
-ghost use Rattle.vx_decide.specs.Laws.{DecidedIsAnswer, AnswersAreOne, AnswerIsDecided, OneDenialDenies, DeciderContainsThePlace, TopIsHighest, HigherPriorityDecides, ChildStandsBeforeParent, ChildAtTheSamePriority};
+ghost use Rattle.vx_decide.specs.Laws.{DecidedIsAnswer, AnswersAreOne, AnswerIsDecided, OneDenialDenies, DeciderContainsThePlace, TopIsHighest, HigherPriorityDecides, ChildStandsBeforeParent, ChildAtTheSamePriority, ValueIsInherited, InheritedIsTheValue, ValueIsFromTheAncestry, NoValueIsSet, MembershipDeniesWhereOneFails, MembershipPermitsWhereNoneFails};
 
 /// What the regions at a place decide is the one answer: of those taken, the least that denies, else the least.
 pub fn one_answer()
@@ -27,4 +27,18 @@ pub fn highest_priority_decides()
 pub fn child_stands_before_parent()
     ensures speaks { ChildStandsBeforeParent }
     ensures counts { ChildAtTheSamePriority }
+{}
+
+/// The value of a flag is that of the nearest region of the ancestry that sets it for the actor.
+pub fn value_is_inherited()
+    ensures inherited { ValueIsInherited }
+    ensures value { InheritedIsTheValue }
+    ensures ancestry { ValueIsFromTheAncestry }
+    ensures none { NoValueIsSet }
+{}
+
+/// Membership denies at a region that does not admit the actor, nor any below it, and permits where each region is satisfied.
+pub fn membership_is_grounded()
+    ensures denies { MembershipDeniesWhereOneFails }
+    ensures permits { MembershipPermitsWhereNoneFails }
 {}

@@ -1,4 +1,5 @@
 pub mod Answering
+pub mod Defaults
 pub mod Highest
 pub mod Inherited
 pub mod Leasts
@@ -6,4 +7,5 @@ pub mod Membership
 pub mod Nearest
 pub mod Picks
 pub mod Ranks
+pub mod Rulings
 pub mod Taken

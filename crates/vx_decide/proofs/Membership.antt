@@ -25,11 +25,11 @@ use Rattle.vx_decide.proofs.Taken.{counts_parts, top_parts}
 pub top_contains : (a : Asked) (e : Entry) → is_top OnBuilding a e ≡ true → contains a e ≡ true
 top_contains a e is = (counts_parts OnBuilding a e (top_parts OnBuilding a e is).1).0
 
-home_parts : (a : Asked) (e : Entry) → is_home a e ≡ true → (admits a e.0 ≡ true) × (is_top OnBuilding a e ≡ true)
+pub home_parts : (a : Asked) (e : Entry) → is_home a e ≡ true → (admits a e.0 ≡ true) × (is_top OnBuilding a e ≡ true)
 unfolding is_home
 home_parts a e is = and_parts (admits a e.0) (is_top OnBuilding a e) is
 
-home_from : (a : Asked) (e : Entry) → admits a e.0 ≡ true → is_top OnBuilding a e ≡ true → is_home a e ≡ true
+pub home_from : (a : Asked) (e : Entry) → admits a e.0 ≡ true → is_top OnBuilding a e ≡ true → is_home a e ≡ true
 unfolding is_home
 home_from a e insider top = and_from _ _ insider top
 
@@ -70,14 +70,17 @@ fails a e is =
       no_home = λ d top insider. false_from_ne_true _ (λ above. unless (inr (d, top, insider, above)));
     }
 
+-- what fails is not satisfied
+pub unsatisfied : (a : Asked) (e : Entry) → Fails a e → IsSatisfied a e → ⊥
+unsatisfied a e is so = elim so [
+  | inl insider ↦ true≢false (sym insider ∙ is.stranger)
+  | inr below ↦ true≢false (sym below.3 ∙ is.no_home below.0 below.1 below.2)
+]
+
 pub failing : (a : Asked) (e : Entry) → Fails a e → In (is_failing a) a.regions.entries e
-failing a e is = record { among = is.top.among; passes = failing_from a e is.top.passes (false_from_ne_true _ λ so. not_satisfied (satisfied_parts a e so)) }
-  where
-    not_satisfied : IsSatisfied a e → ⊥
-    not_satisfied so = elim so [
-      | inl insider ↦ true≢false (sym insider ∙ is.stranger)
-      | inr below ↦ true≢false (sym below.3 ∙ is.no_home below.0 below.1 below.2)
-    ]
+failing a e is =
+    let not_so = false_from_ne_true (is_satisfied a e.0) (λ so. unsatisfied a e is (satisfied_parts a e so)) in
+    record { among = is.top.among; passes = failing_from a e is.top.passes not_so }
 
 -- where none fails, each region of highest priority is satisfied
 pub satisfied_where_none_fails : (a : Asked) (e : Entry) → first_failing a ≡ None → OnTop a e → IsSatisfied a e

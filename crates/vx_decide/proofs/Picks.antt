@@ -1,7 +1,8 @@
 -- What passes a test among all, and the least that does.
-use Rattle.std.proofs.Common.{◌≡◌, ℕ, ◌≤◌, Bool, true, false, if◌then◌else◌, List, [], ◌∷◌, Option, None, Some, Contains, ◌⊎◌, inl, inr, refl, ap, sym, ◌∙◌, subst, arith, true≢false}
+use Rattle.std.proofs.Common.{◌≡◌, ℕ, ℤ, ◌≤ℤ◌, ◌<ℤ◌, ◌≤◌, Bool, true, false, if◌then◌else◌, List, [], ◌∷◌, Option, None, Some, Contains, ◌⊎◌, inl, inr, refl, ap, sym, ◌∙◌, subst, arith, true≢false}
 use Rattle.std.specs.List.{list_all, list_any, slice_index_or}
 use Rattle.std.proofs.lemmas.Bool.{cases_Bool}
+use Rattle.std.proofs.lemmas.Int.{ints, by_lt_z}
 use Rattle.std.proofs.lemmas.List.Elements.{All-contains, Contains-get_or, Contains-append_left, Contains-append_right, Contains-append_cases, Contains-push_cases}
 use Rattle.std.proofs.lemmas.List.Folds.{Any-from_list_any, list_any-from_Any}
 use Rattle.std.proofs.lemmas.List.Sums.{AllPass-from_list_all, list_all-from_AllPass}
@@ -83,6 +84,14 @@ least_found members es n found =
 pub least_none : (members : Members) (es : List Entry) (e : Entry) → least members es ≡ None → In members es e → ⊥
 least_none members es e none is = let low = below_each members es e is in cc
 
+-- where there is no member nothing is found
+pub no_least : (members : Members) (es : List Entry) → ((e : Entry) → In members es e → ⊥) → least members es ≡ None
+no_least members es none = by (least members es) refl
+  where
+    by : (o : Option ℕ) → least members es ≡ o → o ≡ None
+    by None found = refl
+    by (Some n) found = let low = least_found members es n found in absurd (none (n, low.region) low.member)
+
 -- there is one least
 pub one_least : (members : Members) (es : List Entry) (m n : ℕ) → IsLeast members es m → IsLeast members es n → m ≡ n
 one_least members es m n low less = let a = low.least (n, less.region) less.member in let b = less.least (m, low.region) low.member in omega arith
@@ -92,3 +101,55 @@ pub least_at : (members : Members) (es : List Entry) (n : ℕ) → IsLeast membe
 least_at members es n low =
     let it = below_each members es (n, low.region) low.member in
     it.1 ∙ ap Some (one_least members es it.0 n (least_found members es it.0 it.1) low)
+
+-- a member that none of the others exceeds
+pub record Greatest (measure : Entry → ℤ) (members : Members) (es : List Entry) : Type 0 where
+  pub entry : Entry
+  pub member : In members es entry
+  pub highest : (d : Entry) → In members es d → measure d ≤ℤ measure entry
+
+module _ (measure : Entry → ℤ) (members : Members) (x : Entry) (es : List Entry) where
+  split_member : {P : Type 0} (d : Entry) → In members (x ∷ es) d → (x ≡ d → members x ≡ true → P) → (In members es d → P) → P
+  split_member d is first later = elim (head_or_tail x es d is.among) [
+    | inl same ↦ first same (ap members same ∙ is.passes)
+    | inr there ↦ later (record { among = there; passes = is.passes })
+  ]
+
+  level : (d : Entry) → x ≡ d → (z : ℤ) → measure x ≤ℤ z → measure d ≤ℤ z
+  level d same z low = subst (λ e. measure e ≤ℤ z) same low
+
+  stays_greatest : (top : Greatest measure members es) → (members x ≡ true → measure x ≤ℤ measure top.entry) → Greatest measure members (x ∷ es)
+  stays_greatest top below = record {
+    entry = top.entry;
+    member = record { among = in_tail x es top.entry top.member.among; passes = top.member.passes };
+    highest = λ d is. split_member d is (λ same passes. level d same (measure top.entry) (below passes)) (λ there. top.highest d there);
+  }
+
+  becomes_greatest : members x ≡ true → ((d : Entry) → In members es d → measure d ≤ℤ measure x) → Greatest measure members (x ∷ es)
+  becomes_greatest passes above = record {
+    entry = x;
+    member = record { among = at_head x es; passes = passes };
+    highest = λ d is. split_member d is (λ same so. level d same (measure x) (omega (arith, ints))) (λ there. above d there);
+  }
+
+  join_greatest : Greatest measure members es → Greatest measure members (x ∷ es)
+  join_greatest top = by_lt_z (measure top.entry) (measure x) (λ lower. by (members x) refl lower) (λ higher. stays_greatest top (λ passes. higher))
+    where
+      by : (b : Bool) → members x ≡ b → measure top.entry <ℤ measure x → Greatest measure members (x ∷ es)
+      by true passes lower = becomes_greatest passes (λ d there. let low = top.highest d there in omega (arith, ints))
+      by false fails lower = stays_greatest top (λ passes. absurd (true≢false (sym passes ∙ fails)))
+
+  alone_greatest : (e : Entry) → In members (x ∷ es) e → list_any members es ≡ false → Greatest measure members (x ∷ es)
+  alone_greatest e is none = split_member e is (λ same passes. becomes_greatest passes out) (λ there. absurd (true≢false (sym there.passes ∙ none_at members es e none there.among)))
+    where
+      out : (d : Entry) → In members es d → measure d ≤ℤ measure x
+      out d there = absurd (true≢false (sym there.passes ∙ none_at members es d none there.among))
+
+-- where there are members, one of them is greatest
+pub greatest : (measure : Entry → ℤ) (members : Members) (es : List Entry) (e : Entry) → In members es e → Greatest measure members es
+greatest measure members [] e is = absurd (in_none e is.among)
+greatest measure members (x ∷ es) e is = by (list_any members es) refl (greatest measure members es)
+  where
+    by : (b : Bool) → list_any members es ≡ b → ((d : Entry) → In members es d → Greatest measure members es) → Greatest measure members (x ∷ es)
+    by true some rest = let found = any_from members es some in join_greatest measure members x es (rest found.0 (record { among = found.1; passes = found.2 }))
+    by false none rest = alone_greatest measure members x es e is none

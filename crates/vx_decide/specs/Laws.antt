@@ -1,19 +1,28 @@
-use Rattle.std.specs.Prelude.{◌≡◌, ◌≢◌, ℕ, ◌<ℤ◌, ◌≤ℤ◌, true, false, Some, None, Contains}
+use Rattle.std.specs.Prelude.{◌≡◌, ◌≢◌, ℕ, ◌<ℤ◌, ◌≤ℤ◌, true, false, [], Some, None, Contains}
+use Rattle.vx_flag.specs.declared.action.Action.{Action}
 use Rattle.vx_flag.specs.declared.flag.Flag.{Flag}
+use Rattle.vx_flag.specs.declared.state.State.{State}
 use Rattle.vx_flag.specs.declared.state.State.TheVariants.{Deny}
+use Rattle.vx_flag.specs.Action.{flag_of_action}
+use Rattle.vx_flag.specs.Settings.{no_settings}
+use Rattle.vx_geom.specs.declared.pos.Pos.{Pos}
 use Rattle.vx_region.specs.Ancestry.{ancestors, is_under, is_above}
 use Rattle.vx_region.specs.Association.{association}
 use Rattle.vx_region.specs.Regions.{Entry, Regions}
 use Rattle.vx_region.specs.Subjects.{Actor}
 use Rattle.vx_decide.specs.declared.answer.Answer.{Answer}
 use Rattle.vx_decide.specs.declared.question.Question.{Question}
+use Rattle.vx_decide.specs.declared.rule.Rule.{Rule}
+use Rattle.vx_decide.specs.declared.rule.Rule.TheVariants as rule
 use Rattle.vx_decide.specs.declared.value.Value.{Value}
-use Rattle.vx_decide.specs.declared.verdict.Verdict.TheVariants as verdict
+use Rattle.vx_decide.specs.declared.verdict.Verdict.TheVariants as verdicts
 use Rattle.vx_decide.specs.Answers.{In, IsAnswer, IsInherited, MemberDenies, MemberPermits, IsTaken, Counts, IsAtPlace, value_for, state_of}
 use Rattle.vx_decide.specs.Asked.{Asked}
-use Rattle.vx_decide.specs.Build.{member_at, by_membership}
+use Rattle.vx_decide.specs.Build.{member_at, ruled, by_membership}
 use Rattle.vx_decide.specs.Effective.{value_at, effective, has_value}
 use Rattle.vx_decide.specs.Query.{flag_of_question, is_top, speaks, is_taken, decided}
+use Rattle.vx_decide.specs.Rulings.{NothingIsSaid, RuleHolds, number_of_rule}
+use Rattle.vx_decide.specs.Verdict.{verdict}
 
 -- what is decided is an answer
 abbrev pub DecidedIsAnswer : Type 0
@@ -74,8 +83,33 @@ NoValueIsSet = (rs : Regions) (s : Actor) (f : Flag) (n m : ℕ) → effective r
 
 -- where membership in a region denies, that region fails, and is the least that does
 abbrev pub MembershipDeniesWhereOneFails : Type 0
-MembershipDeniesWhereOneFails = (a : Asked) (n : ℕ) → by_membership a ≡ verdict.Deny (member_at n) → n ≢ 0 → MemberDenies a n
+MembershipDeniesWhereOneFails = (a : Asked) (n : ℕ) → by_membership a ≡ verdicts.Deny (member_at n) → n ≢ 0 → MemberDenies a n
 
 -- where membership in a region permits, that region admits the actor, and every region of highest priority is satisfied
 abbrev pub MembershipPermitsWhereNoneFails : Type 0
-MembershipPermitsWhereNoneFails = (a : Asked) (n : ℕ) → by_membership a ≡ verdict.Permit (member_at n) → MemberPermits a n
+MembershipPermitsWhereNoneFails = (a : Asked) (n : ℕ) → by_membership a ≡ verdicts.Permit (member_at n) → MemberPermits a n
+
+-- the rule that a verdict names holds
+abbrev pub RuleOfTheVerdictHolds : Type 0
+RuleOfTheVerdictHolds = (rs : Regions) (s : Actor) (action : Action) (p : Pos) (state : State) (r : Rule) → verdict rs s action p ≡ ruled state r
+    → RuleHolds (flag_of_action action) (record { regions = rs; actor = s; place = p }) state r
+
+-- and no other does
+abbrev pub RuleThatHoldsIsTheVerdict : Type 0
+RuleThatHoldsIsTheVerdict = (rs : Regions) (s : Actor) (action : Action) (p : Pos) (state : State) (r : Rule)
+    → RuleHolds (flag_of_action action) (record { regions = rs; actor = s; place = p }) state r → verdict rs s action p ≡ ruled state r
+
+-- the region that a verdict names contains the place
+abbrev pub VerdictNamesARegionAtThePlace : Type 0
+VerdictNamesARegionAtThePlace = (rs : Regions) (s : Actor) (action : Action) (p : Pos) (state : State) (r : Rule) → verdict rs s action p ≡ ruled state r
+    → number_of_rule r ≢ 0 → IsAtPlace (record { regions = rs; actor = s; place = p }) (number_of_rule r)
+
+-- where nothing is said, all is permitted
+abbrev pub NothingSaidPermits : Type 0
+NothingSaidPermits = (rs : Regions) (s : Actor) (action : Action) (p : Pos)
+    → NothingIsSaid (flag_of_action action) (record { regions = rs; actor = s; place = p }) → verdict rs s action p ≡ verdicts.Permit rule.Default
+
+-- where there is no region and the world at large sets nothing, everything is permitted to everyone everywhere
+abbrev pub EmptyWorldPermitsAll : Type 0
+EmptyWorldPermitsAll = (rs : Regions) (s : Actor) (action : Action) (p : Pos) → rs.entries ≡ [] → rs.global ≡ no_settings
+    → verdict rs s action p ≡ verdicts.Permit rule.Default

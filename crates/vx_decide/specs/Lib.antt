@@ -5,6 +5,7 @@ pub mod Effective
 pub mod Laws
 pub mod Query
 pub mod RegionGroups
+pub mod Rulings
 pub mod Texts
 pub mod Tops
 pub mod Verdict

@@ -1,4 +1,4 @@
-ghost use Rattle.vx_decide.specs.Laws.{DecidedIsAnswer, AnswersAreOne, AnswerIsDecided, OneDenialDenies, DeciderContainsThePlace, TopIsHighest, HigherPriorityDecides, ChildStandsBeforeParent, ChildAtTheSamePriority, ValueIsInherited, InheritedIsTheValue, ValueIsFromTheAncestry, NoValueIsSet, MembershipDeniesWhereOneFails, MembershipPermitsWhereNoneFails};
+ghost use Rattle.vx_decide.specs.Laws.{DecidedIsAnswer, AnswersAreOne, AnswerIsDecided, OneDenialDenies, DeciderContainsThePlace, TopIsHighest, HigherPriorityDecides, ChildStandsBeforeParent, ChildAtTheSamePriority, ValueIsInherited, InheritedIsTheValue, ValueIsFromTheAncestry, NoValueIsSet, MembershipDeniesWhereOneFails, MembershipPermitsWhereNoneFails, RuleOfTheVerdictHolds, RuleThatHoldsIsTheVerdict, VerdictNamesARegionAtThePlace, NothingSaidPermits, EmptyWorldPermitsAll};
 
 /// What the regions at a place decide is the one answer: of those taken, the least that denies, else the least.
 pub fn one_answer()
@@ -41,4 +41,17 @@ pub fn value_is_inherited()
 pub fn membership_is_grounded()
     ensures denies { MembershipDeniesWhereOneFails }
     ensures permits { MembershipPermitsWhereNoneFails }
+{}
+
+/// A verdict is by one rule exactly where that rule holds, and the region that it names contains the place.
+pub fn verdict_names_its_region()
+    ensures holds { RuleOfTheVerdictHolds }
+    ensures only { RuleThatHoldsIsTheVerdict }
+    ensures place { VerdictNamesARegionAtThePlace }
+{}
+
+/// Where nothing is said, all is permitted; so where there is no region and nothing is set at large.
+pub fn nothing_said_permits()
+    ensures said { NothingSaidPermits }
+    ensures empty { EmptyWorldPermitsAll }
 {}

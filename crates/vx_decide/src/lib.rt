@@ -17,7 +17,7 @@ mod verdict;
 pub use decide::Decide;
 pub use laws::{
     child_stands_before_parent, decider_contains_the_place, highest_priority_decides,
-    membership_is_grounded, one_answer, one_denial_denies,
+    membership_is_grounded, nothing_said_permits, one_answer, one_denial_denies,
 };
 pub use plain::Plain;
 pub use rule::Rule;

@@ -27,7 +27,7 @@ none_from_map : {X : Type 0} (f : Entry → X) (o : Option Entry) → option_map
 none_from_map f None none = refl
 none_from_map f (Some e) none = cc
 
-not_true : (b : Bool) → (b ≡ true → ⊥) → b ≡ false
+pub not_true : (b : Bool) → (b ≡ true → ⊥) → b ≡ false
 not_true true no_way = absurd (no_way refl)
 not_true false no_way = refl
 
@@ -78,17 +78,29 @@ pub region_elsewhere : (change : RegionData → RegionData) (n m : ℕ) (rs : Re
 unfolding region_at
 region_elsewhere change n m rs other = found_elsewhere change n m rs.entries other
 
--- a definition, at its own number and id and at the others
-pub region_defined : (rs : Regions) (id : List ℕ) (shape : Outline) → IsNumbered rs → region_at (with_region rs id shape) (rs.last + 1) ≡ Some (fresh_region id shape)
-unfolding region_at with_region
-region_defined rs id shape numbered =
-    ap (option_map (λ (e : Entry). e.1)) (find_last (λ e. nat_eq (rs.last + 1) e.0) rs.entries (rs.last + 1, fresh_region id shape)
+-- one more region under the next number, at that number and at the others
+abbrev pub pushed : Regions → RegionData → Regions
+pushed rs r = record rs { last = rs.last + 1; entries = rs.entries ++ (rs.last + 1, r) ∷ [] }
+
+pub region_pushed : (rs : Regions) (r : RegionData) → IsNumbered rs → region_at (pushed rs r) (rs.last + 1) ≡ Some r
+unfolding region_at
+region_pushed rs r numbered =
+    ap (option_map (λ (e : Entry). e.1)) (find_last (λ e. nat_eq (rs.last + 1) e.0) rs.entries (rs.last + 1, r)
     (find_above rs.last (rs.last + 1) rs.entries numbered.given (omega arith)) (eq-eqb (rs.last + 1) (rs.last + 1) refl))
 
+pub region_before : (rs : Regions) (r : RegionData) (n : ℕ) → n ≢ rs.last + 1 → region_at (pushed rs r) n ≡ region_at rs n
+unfolding region_at
+region_before rs r n other =
+    ap (option_map (λ (e : Entry). e.1)) (find_before (λ e. nat_eq n e.0) rs.entries (rs.last + 1, r) (ne_eqb n (rs.last + 1) other))
+
+-- a definition, at its own number and id and at the others
+pub region_defined : (rs : Regions) (id : List ℕ) (shape : Outline) → IsNumbered rs → region_at (with_region rs id shape) (rs.last + 1) ≡ Some (fresh_region id shape)
+unfolding with_region
+region_defined rs id shape = region_pushed rs (fresh_region id shape)
+
 pub region_kept : (rs : Regions) (id : List ℕ) (shape : Outline) (n : ℕ) → n ≢ rs.last + 1 → region_at (with_region rs id shape) n ≡ region_at rs n
-unfolding region_at with_region
-region_kept rs id shape n other =
-    ap (option_map (λ (e : Entry). e.1)) (find_before (λ e. nat_eq n e.0) rs.entries (rs.last + 1, fresh_region id shape) (ne_eqb n (rs.last + 1) other))
+unfolding with_region
+region_kept rs id shape = region_before rs (fresh_region id shape)
 
 -- an id that has no number is not that of the world at large
 not_global : (id : List ℕ) (o : Option ℕ) → (if is_global_id id then Some 0 else o) ≡ None → is_global_id id ≡ false

@@ -1,15 +1,16 @@
 -- What a look-up by number finds, before and after a change.
-use Rattle.std.proofs.Common.{◌≡◌, ℕ, ◌<◌, Bool, true, false, cond, nat_eq, if◌then◌else◌, List, [], ◌∷◌, find, Option, None, Some, IsSome, option_map, slice_get, MutBor, refl, ap, sym, ◌∙◌, subst}
+use Rattle.std.proofs.Common.{◌≡◌, ◌≢◌, ◌⊎◌, inl, inr, ℕ, ◌<◌, Bool, true, false, cond, nat_eq, if◌then◌else◌, List, [], ◌∷◌, find, Option, None, Some, IsSome, option_map, slice_get, MutBor, refl, ap, sym, ◌∙◌, subst}
 use Rattle.std.specs.Cmp.{nat_eq_equiv}
 use Rattle.std.specs.List.{AllByRecursion, IsDistinct}
-use Rattle.std.specs.Option.{option_copied_mut}
+use Rattle.std.specs.Option.{option_copied_mut, option_and_then}
 use Rattle.std.specs.Map.{lookup, set_value, keys_of}
+use Rattle.std.proofs.lemmas.Bool.{eq-eqb}
 use Rattle.std.proofs.lemmas.Map.Entries.{lookup_from_place}
 use Rattle.std.proofs.lemmas.Map.Keys.{IsDistinct-head, IsDistinct-tail}
 use Rattle.std.proofs.lemmas.Map.Steps.{set_value_same}
 use borrow.Author.Tests.{eqb-true}
 use Rattle.vx_region.specs.Forest.{IsBelow, IsNumbered}
-use Rattle.vx_region.specs.Regions.{RegionData, Entry, Regions, region_at, changed, changed_at}
+use Rattle.vx_region.specs.Regions.{RegionData, Entry, Regions, region_at, parent_of, changed, changed_at}
 use Rattle.vx_region.proofs.Numbers.{find_above, distinct_numbers}
 
 -- a look-up as the map makes it is one as the definitions make it
@@ -67,7 +68,7 @@ changed_by_write change n (e ∷ es) r distinct there =
         ap (λ ds. e ∷ ds) (rest (sym (ap (λ b. cond b (Some e.1) (lookup (nat_eq n) es)) is) ∙ there))
 
 -- the region that the map lent is the one of the number
-lent_is : (n : ℕ) (rs : Regions) (lent : Option (MutBor RegionData)) (r : MutBor RegionData)
+pub lent_is : (n : ℕ) (rs : Regions) (lent : Option (MutBor RegionData)) (r : MutBor RegionData)
     → option_copied_mut lent ≡ lookup (nat_eq n) rs.entries → lent ≡ Some r → lookup (nat_eq n) rs.entries ≡ Some r.now
 lent_is n rs lent r found is = sym found ∙ ap option_copied_mut is
 
@@ -85,3 +86,42 @@ pub written_back : (n : ℕ) (rs : Regions) (fs : List Entry) (lent : Option (Mu
 written_back n rs fs lent r w found is written same =
     ap (λ es. record rs { entries = es })
     (written ∙ ap (set_value (nat_eq n) rs.entries) same ∙ set_value_same (nat_eq n) rs.entries r.now (lent_is n rs lent r found is))
+
+-- the region that the map lent is the one of the number
+pub lent_region : (n : ℕ) (rs : Regions) (lent : Option (MutBor RegionData)) (r : MutBor RegionData)
+    → option_copied_mut lent ≡ lookup (nat_eq n) rs.entries → lent ≡ Some r → region_at rs n ≡ Some r.now
+unfolding region_at
+lent_region n rs lent r found is = sym (lookup_is n rs.entries) ∙ lent_is n rs lent r found is
+
+-- two numbers are the same, or one is another
+pub same_or_other : (m n : ℕ) → (m ≡ n) ⊎ (m ≢ n)
+same_or_other m n = by (nat_eq m n) refl
+  where
+    by : (b : Bool) → nat_eq m n ≡ b → (m ≡ n) ⊎ (m ≢ n)
+    by true is = inl (eqb-true m n is)
+    by false is = inr (λ same. cc (eq-eqb m n same))
+
+-- the parent of a region that is known
+pub parent_at : (rs : Regions) (n : ℕ) (r : RegionData) → region_at rs n ≡ Some r → parent_of rs n ≡ r.parent
+unfolding parent_of
+parent_at rs n r there = ap (option_and_then (λ (d : RegionData). d.parent)) there
+
+-- and of one that is not there
+pub parent_nowhere : (rs : Regions) (n : ℕ) → region_at rs n ≡ None → parent_of rs n ≡ None
+unfolding parent_of
+parent_nowhere rs n none = ap (option_and_then (λ (d : RegionData). d.parent)) none
+
+-- where there are no regions, none has the number
+pub region_nowhere : (rs : Regions) → rs.entries ≡ [] → (n : ℕ) → region_at rs n ≡ None
+unfolding region_at
+region_nowhere rs none n = ap (λ es. option_map (λ (e : Entry). e.1) (find (λ (e : Entry). nat_eq n e.0) es)) none
+
+-- parents are the same where the regions are
+pub same_parent : (rs fs : Regions) (n : ℕ) → region_at fs n ≡ region_at rs n → parent_of fs n ≡ parent_of rs n
+unfolding parent_of
+same_parent rs fs n same = ap (option_and_then (λ (d : RegionData). d.parent)) same
+
+-- a number above all that were given has no region
+pub region_above : (rs : Regions) (n : ℕ) → IsNumbered rs → rs.last < n → region_at rs n ≡ None
+unfolding region_at
+region_above rs n numbered high = ap (option_map (λ (e : Entry). e.1)) (find_above rs.last n rs.entries numbered.given high)

@@ -1,10 +1,10 @@
 -- Regions in ascending order of their numbers.
-use Rattle.std.proofs.Common.{◌≡◌, ℕ, ◌-◌, ◌<◌, ◌≤◌, Bool, true, false, cond, nat_eq, List, [], ◌∷◌, ◌++◌, length, find, None, Some, arith, zero-le, true≢false, refl, ap, sym, ◌∙◌, subst}
+use Rattle.std.proofs.Common.{◌≡◌, ℕ, ◌-◌, ◌<◌, ◌≤◌, Bool, true, false, cond, nat_eq, List, [], ◌∷◌, ◌++◌, length, find, filter, if◌then◌else◌, None, Some, arith, zero-le, true≢false, refl, ap, sym, ◌∙◌, subst}
 use Rattle.std.specs.List.{AllByRecursion, IsDistinct}
-use Rattle.std.specs.Map.{set_value, keys_of}
+use Rattle.std.specs.Map.{keys_of}
 use Rattle.std.proofs.lemmas.Bool.{ne_eqb}
 use borrow.Author.Tests.{eqb-true}
-use Rattle.vx_region.specs.Regions.{RegionData, Entry, Regions}
+use Rattle.vx_region.specs.Regions.{RegionData, Entry, Regions, changed, changed_at}
 use Rattle.vx_region.specs.Forest.{IsAscending, IsBelow, IsNumbered}
 
 -- there are at most as many numbers above n and up to m as lie between them
@@ -65,25 +65,54 @@ unfolding IsDistinct
 distinct_numbers n [] up = tt
 distinct_numbers n (e ∷ es) up = (apart e.0 e.0 es (omega arith) up.1, distinct_numbers e.0 es up.1)
 
--- a region written over another keeps the number
-ascending_written : (test : ℕ → Bool) (n : ℕ) (es : List Entry) (w : RegionData) → IsAscending n es → IsAscending n (set_value test es w)
-ascending_written test n [] w up = tt
-ascending_written test n (e ∷ es) w up = by (test e.0) (ascending_written test e.0 es w up.1)
+-- a changed region keeps its number
+ascending_changed : (change : RegionData → RegionData) (k n : ℕ) (es : List Entry) → IsAscending n es
+    → IsAscending n (changed_at change k es)
+ascending_changed change k n [] up = tt
+ascending_changed change k n (e ∷ es) up = by (nat_eq k e.0) (ascending_changed change k e.0 es up.1)
   where
-    by : (b : Bool) → IsAscending e.0 (set_value test es w) → IsAscending n (cond b ((e.0, w) ∷ es) (e ∷ set_value test es w))
-    by true rest = up
+    by : (b : Bool) → IsAscending e.0 (changed_at change k es)
+        → IsAscending n ((if b then (e.0, change e.1) else e) ∷ changed_at change k es)
+    by true rest = (up.0, rest)
     by false rest = (up.0, rest)
 
-below_written : (test : ℕ → Bool) (m : ℕ) (es : List Entry) (w : RegionData) → IsBelow m es → IsBelow m (set_value test es w)
-below_written test m [] w below = tt
-below_written test m (e ∷ es) w below = by (test e.0) (below_written test m es w below.1)
+below_changed : (change : RegionData → RegionData) (k m : ℕ) (es : List Entry) → IsBelow m es → IsBelow m (changed_at change k es)
+below_changed change k m [] below = tt
+below_changed change k m (e ∷ es) below = by (nat_eq k e.0) (below_changed change k m es below.1)
   where
-    by : (b : Bool) → IsBelow m (set_value test es w) → IsBelow m (cond b ((e.0, w) ∷ es) (e ∷ set_value test es w))
-    by true rest = below
+    by : (b : Bool) → IsBelow m (changed_at change k es) → IsBelow m ((if b then (e.0, change e.1) else e) ∷ changed_at change k es)
+    by true rest = (below.0, rest)
     by false rest = (below.0, rest)
 
-pub numbered_written : (test : ℕ → Bool) (rs : Regions) (w : RegionData) → IsNumbered rs → IsNumbered (record rs { entries = set_value test rs.entries w })
-numbered_written test rs w numbered = record {
-  ascending = ascending_written test 0 rs.entries w numbered.ascending;
-  given = below_written test rs.last rs.entries w numbered.given;
+pub numbered_changed : (change : RegionData → RegionData) (k : ℕ) (rs : Regions) → IsNumbered rs → IsNumbered (changed change k rs)
+numbered_changed change k rs numbered = record {
+  ascending = ascending_changed change k 0 rs.entries numbered.ascending;
+  given = below_changed change k rs.last rs.entries numbered.given;
+}
+
+-- fewer regions keep their numbers
+ascending_lower : (m n : ℕ) (es : List Entry) → m ≤ n → IsAscending n es → IsAscending m es
+ascending_lower m n [] low up = tt
+ascending_lower m n (e ∷ es) low up = (omega (arith, up.0), up.1)
+
+ascending_filtered : (test : Entry → Bool) (n : ℕ) (es : List Entry) → IsAscending n es → IsAscending n (filter test es)
+ascending_filtered test n [] up = tt
+ascending_filtered test n (e ∷ es) up = by (test e) (ascending_filtered test e.0 es up.1)
+  where
+    by : (b : Bool) → IsAscending e.0 (filter test es) → IsAscending n (cond b (e ∷ filter test es) (filter test es))
+    by true rest = (up.0, rest)
+    by false rest = ascending_lower n e.0 (filter test es) (omega (arith, up.0)) rest
+
+below_filtered : (test : Entry → Bool) (m : ℕ) (es : List Entry) → IsBelow m es → IsBelow m (filter test es)
+below_filtered test m [] below = tt
+below_filtered test m (e ∷ es) below = by (test e) (below_filtered test m es below.1)
+  where
+    by : (b : Bool) → IsBelow m (filter test es) → IsBelow m (cond b (e ∷ filter test es) (filter test es))
+    by true rest = (below.0, rest)
+    by false rest = rest
+
+pub numbered_filtered : (test : Entry → Bool) (rs : Regions) → IsNumbered rs → IsNumbered (record rs { entries = filter test rs.entries })
+numbered_filtered test rs numbered = record {
+  ascending = ascending_filtered test 0 rs.entries numbered.ascending;
+  given = below_filtered test rs.last rs.entries numbered.given;
 }

@@ -1,5 +1,6 @@
-use Rattle.std.specs.Prelude.{ℕ, ◌<◌, ◌≤◌, List, [], ◌∷◌}
-use Rattle.vx_region.specs.Regions.{Entry, Regions}
+use Rattle.std.specs.Prelude.{ℕ, ◌≡◌, ◌<◌, ◌≤◌, List, [], ◌∷◌, Some, IsSome}
+use Rattle.std.specs.Option.{MatchOption}
+use Rattle.vx_region.specs.Regions.{Entry, Regions, region_at, parent_of}
 
 -- numbers ascend, each above n
 abbrev pub IsAscending : ℕ → List Entry → Type 0
@@ -16,6 +17,15 @@ pub record IsNumbered (rs : Regions) : Type 0 where
   pub ascending : IsAscending 0 rs.entries
   pub given : IsBelow rs.last rs.entries
 
+-- a list is the chain of a region: the region, its parent, the parent's parent, and so on to one without a parent
+abbrev pub IsChain : Regions → ℕ → List ℕ → Type 0
+IsChain rs r [] = ⊥
+IsChain rs r (a ∷ l) = (a ≡ r) × MatchOption (parent_of rs r) (l ≡ []) (λ q. IsChain rs q l)
+
 -- what holds of every set of regions
 pub record IsForest (rs : Regions) : Type 0 where
   pub numbered : IsNumbered rs
+  -- each parent is there
+  pub parents : (r q : ℕ) → parent_of rs r ≡ Some q → IsSome (region_at rs q)
+  -- each chain of parents ends: there is no cycle
+  pub ends : (r : ℕ) → (l : List ℕ) × IsChain rs r l

@@ -1,7 +1,8 @@
-use Rattle.std.specs.Prelude.{ℕ, ◌≡◌, ◌≢◌, ◌+◌, ◌⊎◌, ◌↔◌, IsTrue, IsSomeAnd, List, Some, None, slice_get}
+use Rattle.std.specs.Prelude.{ℕ, ◌≡◌, ◌≢◌, ◌+◌, ◌⊎◌, ◌↔◌, IsTrue, IsSome, IsSomeAnd, false, List, ◌∷◌, Some, None, slice_get}
 use Rattle.vx_geom.specs.Outline.{Outline}
-use Rattle.vx_region.specs.Forest.{IsNumbered}
-use Rattle.vx_region.specs.Regions.{RegionData, Regions, region_at, number_of, names, fresh_region, with_region, with_owner, with_member}
+use Rattle.vx_region.specs.Ancestry.{ancestors, from_parent, is_above}
+use Rattle.vx_region.specs.Forest.{IsNumbered, IsForest}
+use Rattle.vx_region.specs.Regions.{RegionData, Regions, region_at, parent_of, number_of, names, fresh_region, with_region, without_region, with_owner, with_member}
 
 -- a number that stands at a place is the number of the region there
 abbrev pub EachHasItsNumber : Type 0
@@ -60,3 +61,27 @@ MemberIsAdded = (rs : Regions) (n : ℕ) (name : List ℕ) (old : RegionData) �
 -- another region keeps its members and all else
 abbrev pub MemberKeepsOthers : Type 0
 MemberKeepsOthers = (rs : Regions) (n m : ℕ) (name : List ℕ) → m ≢ n → region_at (with_member rs n name) m ≡ region_at rs m
+
+-- the ancestry of a region is the region, and then the whole ancestry of its parent
+abbrev pub AncestryIsWhole : Type 0
+AncestryIsWhole = (rs : Regions) (n : ℕ) → IsForest rs → ancestors rs n ≡ n ∷ from_parent (ancestors rs) (parent_of rs n)
+
+-- no region is among its own ancestors
+abbrev pub NoCycles : Type 0
+NoCycles = (rs : Regions) (n : ℕ) (r : RegionData) → IsForest rs → region_at rs n ≡ Some r → is_above rs n r ≡ false
+
+-- the parent of a region is a region of the set
+abbrev pub ParentsAreThere : Type 0
+ParentsAreThere = (rs : Regions) (n q : ℕ) (r : RegionData) → IsForest rs → region_at rs n ≡ Some r → r.parent ≡ Some q → IsSome (region_at rs q)
+
+-- a region that was taken away is there no more
+abbrev pub RemovedIsGone : Type 0
+RemovedIsGone = (rs : Regions) (n : ℕ) → region_at (without_region rs n) n ≡ None
+
+-- each other region is as before
+abbrev pub RemovalKeepsOthers : Type 0
+RemovalKeepsOthers = (rs : Regions) (n m : ℕ) → m ≢ n → region_at (without_region rs n) m ≡ region_at rs m
+
+-- and its number is not given again
+abbrev pub RemovalKeepsLast : Type 0
+RemovalKeepsLast = (rs : Regions) (n : ℕ) → (without_region rs n).last ≡ rs.last

@@ -11,7 +11,10 @@ mod subject;
 mod word;
 
 pub use id::{BadId, Id};
-pub use laws::{definition_adds_one, each_has_its_number, member_is_added, owner_is_added};
+pub use laws::{
+    ancestry_is_whole, definition_adds_one, each_has_its_number, member_is_added, no_cycles,
+    owner_is_added, parents_are_there, removal_takes_one,
+};
 pub use name::{BadName, Name};
 pub use region::Region;
 pub use region_no::RegionNo;

@@ -109,6 +109,13 @@ impl Region {
         self.members.contains(name)
     }
 
+    /// Gives it another parent, or none.
+    pub(crate) fn set_parent(&mut self, parent: Option<RegionNo>)
+        ensures { self.new ≡ record self.old { parent = option_map (λ n. n.0) parent } }
+    {
+        self.parent = parent;
+    }
+
     /// Names an owner; one that is named already stays named once.
     pub(crate) fn add_owner(&mut self, name: Name) -> Result<(), AllocError>
         ensures ok { OnOk result (self.new ≡ record self.old { owners = with_name self.old.owners name.text.bytes }) }

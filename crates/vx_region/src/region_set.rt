@@ -6,6 +6,8 @@ ghost use Rattle.vx_region.specs.Forest.{IsForest};
 ghost use Rattle.vx_region.specs.Regions.{no_regions, region_at, number_of, parent_of, setting_at, is_global_id, with_region, with_owner, with_member};
 ghost use Rattle.vx_region.specs.Subjects.{actor_of};
 
+mod family;
+
 use crate::id::Id;
 use crate::name::Name;
 use crate::region::Region;

@@ -1,0 +1,14 @@
+use Rattle.std.proofs.Common.{refl}
+use Rattle.vx_region.specs.Regions.{without_region}
+use Rattle.vx_region.proofs.Removals.{region_removed, region_beside}
+use Rattle.vx_region.proofs.laws.removal_takes_one.Goals as goal
+
+pub returns-clause-gone : goal.returns-clause-gone
+returns-clause-gone c = region_removed
+
+pub returns-clause-others : goal.returns-clause-others
+returns-clause-others c = region_beside
+
+pub returns-clause-last : goal.returns-clause-last
+unfolding without_region
+returns-clause-last c rs n = refl

@@ -3,6 +3,7 @@ pub mod Defaults
 pub mod Highest
 pub mod Inherited
 pub mod Leasts
+pub mod Lowest
 pub mod Membership
 pub mod Nearest
 pub mod Picks

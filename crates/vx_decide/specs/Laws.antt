@@ -8,10 +8,12 @@ use Rattle.vx_flag.specs.Settings.{no_settings}
 use Rattle.vx_geom.specs.declared.pos.Pos.{Pos}
 use Rattle.vx_region.specs.Ancestry.{ancestors, is_under, is_above}
 use Rattle.vx_region.specs.Association.{association}
+use Rattle.vx_region.specs.Forest.{IsForest}
 use Rattle.vx_region.specs.Regions.{Entry, Regions}
 use Rattle.vx_region.specs.Subjects.{Actor}
 use Rattle.vx_decide.specs.declared.answer.Answer.{Answer}
 use Rattle.vx_decide.specs.declared.question.Question.{Question}
+use Rattle.vx_decide.specs.declared.question.Question.TheVariants.{OnFlag}
 use Rattle.vx_decide.specs.declared.rule.Rule.{Rule}
 use Rattle.vx_decide.specs.declared.rule.Rule.TheVariants as rule
 use Rattle.vx_decide.specs.declared.value.Value.{Value}
@@ -113,3 +115,14 @@ NothingSaidPermits = (rs : Regions) (s : Actor) (action : Action) (p : Pos)
 abbrev pub EmptyWorldPermitsAll : Type 0
 EmptyWorldPermitsAll = (rs : Regions) (s : Actor) (action : Action) (p : Pos) → rs.entries ≡ [] → rs.global ≡ no_settings
     → verdict rs s action p ≡ verdicts.Permit rule.Default
+
+-- where some region at the place has a value for a flag, the regions there decide on it
+abbrev pub ValuesAtThePlaceDecide : Type 0
+ValuesAtThePlaceDecide = (f : Flag) (a : Asked) (e : Entry) → IsForest a.regions → Counts (OnFlag f) a e
+    → (answer : Answer) × (decided (OnFlag f) a ≡ Some answer)
+
+-- only where nothing is said is the verdict by default
+abbrev pub DefaultOnlyWhereNothingIsSaid : Type 0
+DefaultOnlyWhereNothingIsSaid = (rs : Regions) (s : Actor) (action : Action) (p : Pos) → IsForest rs
+    → verdict rs s action p ≡ verdicts.Permit rule.Default
+    → NothingIsSaid (flag_of_action action) (record { regions = rs; actor = s; place = p })

@@ -1,4 +1,4 @@
-ghost use Rattle.vx_decide.specs.Laws.{DecidedIsAnswer, AnswersAreOne, AnswerIsDecided, OneDenialDenies, DeciderContainsThePlace, TopIsHighest, HigherPriorityDecides, ChildStandsBeforeParent, ChildAtTheSamePriority, ValueIsInherited, InheritedIsTheValue, ValueIsFromTheAncestry, NoValueIsSet, MembershipDeniesWhereOneFails, MembershipPermitsWhereNoneFails, RuleOfTheVerdictHolds, RuleThatHoldsIsTheVerdict, VerdictNamesARegionAtThePlace, NothingSaidPermits, EmptyWorldPermitsAll};
+ghost use Rattle.vx_decide.specs.Laws.{DecidedIsAnswer, AnswersAreOne, AnswerIsDecided, OneDenialDenies, DeciderContainsThePlace, TopIsHighest, HigherPriorityDecides, ChildStandsBeforeParent, ChildAtTheSamePriority, ValueIsInherited, InheritedIsTheValue, ValueIsFromTheAncestry, NoValueIsSet, MembershipDeniesWhereOneFails, MembershipPermitsWhereNoneFails, RuleOfTheVerdictHolds, RuleThatHoldsIsTheVerdict, VerdictNamesARegionAtThePlace, NothingSaidPermits, EmptyWorldPermitsAll, ValuesAtThePlaceDecide, DefaultOnlyWhereNothingIsSaid};
 
 /// What the regions at a place decide is the one answer: of those taken, the least that denies, else the least.
 pub fn one_answer()
@@ -54,4 +54,10 @@ pub fn verdict_names_its_region()
 pub fn nothing_said_permits()
     ensures said { NothingSaidPermits }
     ensures empty { EmptyWorldPermitsAll }
+{}
+
+/// A value that some region at the place has is not passed over, so only where nothing is said is the verdict by default.
+pub fn default_only_where_nothing_is_said()
+    ensures values { ValuesAtThePlaceDecide }
+    ensures default { DefaultOnlyWhereNothingIsSaid }
 {}

@@ -1,3 +1,12 @@
+pub mod Answering
+pub mod Defaults
 pub mod Highest
+pub mod Inherited
 pub mod Leasts
+pub mod Lowest
+pub mod Membership
 pub mod Nearest
+pub mod Picks
+pub mod Ranks
+pub mod Rulings
+pub mod Taken

@@ -1,8 +1,11 @@
+pub mod Answers
 pub mod Asked
 pub mod Build
 pub mod Effective
+pub mod Laws
 pub mod Query
 pub mod RegionGroups
+pub mod Rulings
 pub mod Texts
 pub mod Tops
 pub mod Verdict

@@ -6,6 +6,7 @@ mod building;
 mod decide;
 mod effective;
 mod inquiry;
+mod laws;
 mod plain;
 mod query;
 mod question;
@@ -14,6 +15,11 @@ mod value;
 mod verdict;
 
 pub use decide::Decide;
+pub use laws::{
+    child_stands_before_parent, decider_contains_the_place, default_only_where_nothing_is_said,
+    highest_priority_decides, membership_is_grounded, nothing_said_permits, one_answer,
+    one_denial_denies,
+};
 pub use plain::Plain;
 pub use rule::Rule;
 pub use verdict::Verdict;

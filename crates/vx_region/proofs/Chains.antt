@@ -99,7 +99,8 @@ rest_of rs r a (b ∷ l) chain is = by (nat_eq a b) refl (parent_of rs r) refl (
     by : (t : Bool) → nat_eq a b ≡ t → (o : Option ℕ) → parent_of rs r ≡ o
         → ((q : ℕ) → IsChain rs q l → list_any (nat_eq a) l ≡ true → EndsIn rs a l) → EndsIn rs a (b ∷ l)
     by true same o has more =
-        record { front = []; rest = b ∷ l; whole = refl; chain = subst (λ n. IsChain rs n (b ∷ l)) (sym chain.0 ∙ sym (eqb-true a b same)) chain }
+        let own = subst (λ n. IsChain rs n (b ∷ l)) (sym chain.0 ∙ sym (eqb-true a b same)) chain in
+        record { front = []; rest = b ∷ l; whole = refl; chain = own }
     by false other None none more = absurd (not_on_none a l (chain_end rs r b l none chain) (on_tail a b l other is))
     by false other (Some q) has more =
         let up = more q (chain_up rs r q b l has chain) (on_tail a b l other is) in
@@ -137,20 +138,22 @@ distinct_more r l apart rest = (all_apart r l apart, rest)
 pub distinct_chain : (rs : Regions) (r : ℕ) (l : List ℕ) → IsChain rs r l → IsDistinct nat_eq l
 distinct_chain rs r [] chain = absurd chain
 distinct_chain rs r (a ∷ l) chain =
-    distinct_more a l (subst (λ n. list_any (nat_eq n) l ≡ false) (sym chain.0) (no_return rs r a l chain)) (by (parent_of rs r) refl (λ q. distinct_chain rs q l))
+    distinct_more a l (subst (λ n. list_any (nat_eq n) l ≡ false) (sym chain.0) (no_return rs r a l chain))
+    (by (parent_of rs r) refl (λ q. distinct_chain rs q l))
   where
     by : (o : Option ℕ) → parent_of rs r ≡ o → ((q : ℕ) → IsChain rs q l → IsDistinct nat_eq l) → IsDistinct nat_eq l
     by None none more = distinct_none l (chain_end rs r a l none chain)
     by (Some q) has more = more q (chain_up rs r q a l has chain)
 
 -- the chain of a region that is there has only regions that are there
-pub known_along : (rs : Regions) → IsForest rs → (r : ℕ) (l : List ℕ) → IsSome (region_at rs r) → IsChain rs r l → (a : ℕ) → list_any (nat_eq a) l ≡ true
-    → IsSome (region_at rs a)
+pub known_along : (rs : Regions) → IsForest rs → (r : ℕ) (l : List ℕ) → IsSome (region_at rs r) → IsChain rs r l
+    → (a : ℕ) → list_any (nat_eq a) l ≡ true → IsSome (region_at rs a)
 known_along rs forest r [] there chain a is = absurd chain
 known_along rs forest r (b ∷ l) there chain a is = by (nat_eq a b) refl (parent_of rs r) refl (λ q. known_along rs forest q l)
   where
     by : (t : Bool) → nat_eq a b ≡ t → (o : Option ℕ) → parent_of rs r ≡ o
-        → ((q : ℕ) → IsSome (region_at rs q) → IsChain rs q l → (a : ℕ) → list_any (nat_eq a) l ≡ true → IsSome (region_at rs a)) → IsSome (region_at rs a)
+        → ((q : ℕ) → IsSome (region_at rs q) → IsChain rs q l → (a : ℕ) → list_any (nat_eq a) l ≡ true → IsSome (region_at rs a))
+        → IsSome (region_at rs a)
     by true same o has more = subst (λ n. IsSome (region_at rs n)) (sym chain.0 ∙ sym (eqb-true a b same)) there
     by false other None none more = absurd (not_on_none a l (chain_end rs r b l none chain) (on_tail a b l other is))
     by false other (Some q) has more = more q (forest.parents r q has) (chain_up rs r q b l has chain) a (on_tail a b l other is)
@@ -180,7 +183,8 @@ chain_whole rs n r [] whole fits = absurd whole
 chain_whole rs zero r (a ∷ l) whole fits = absurd (omega arith)
 chain_whole rs (suc n) r (a ∷ l) whole fits = by (parent_of rs r) refl (λ q is. chain_whole rs n q l is (omega arith))
   where
-    by : (o : Option ℕ) → parent_of rs r ≡ o → ((q : ℕ) → IsChain rs q l → chain n rs q ≡ l) → r ∷ from_parent (chain n rs) (parent_of rs r) ≡ a ∷ l
+    by : (o : Option ℕ) → parent_of rs r ≡ o → ((q : ℕ) → IsChain rs q l → chain n rs q ≡ l)
+        → r ∷ from_parent (chain n rs) (parent_of rs r) ≡ a ∷ l
     by None none more = ap (λ o. r ∷ from_parent (chain n rs) o) none ∙ cc (chain_end rs r a l none whole, whole.0)
     by (Some q) has more = ap (λ o. r ∷ from_parent (chain n rs) o) has ∙ cc (more q (chain_up rs r q a l has whole), whole.0)
 
@@ -203,8 +207,10 @@ ancestors_by_parent rs forest r = by (parent_of rs r) refl
         ∙ sym (ap (λ o. r ∷ from_parent (ancestors rs) o) has)
 
 -- the ancestry of a region that is known
-pub ancestors_of_known : (rs : Regions) → IsForest rs → (n : ℕ) (d : RegionData) → region_at rs n ≡ Some d → ancestors rs n ≡ n ∷ proper_ancestors rs d
-ancestors_of_known rs forest n d there = ancestors_by_parent rs forest n ∙ ap (λ o. n ∷ from_parent (ancestors rs) o) (parent_at rs n d there)
+pub ancestors_of_known : (rs : Regions) → IsForest rs → (n : ℕ) (d : RegionData) → region_at rs n ≡ Some d
+    → ancestors rs n ≡ n ∷ proper_ancestors rs d
+ancestors_of_known rs forest n d there =
+    ancestors_by_parent rs forest n ∙ ap (λ o. n ∷ from_parent (ancestors rs) o) (parent_at rs n d there)
 
 -- from an ancestor of a region on, the ancestry is the ancestor's own
 pub above_rest : (rs : Regions) → IsForest rs → (a : ℕ) (d : RegionData) → is_above rs a d ≡ true → EndsIn rs a (proper_ancestors rs d)
@@ -240,7 +246,8 @@ above_asymmetric rs forest a b d e one two above =
     (λ back. true≢false (sym (above_transitive rs forest a b e d two above back) ∙ above_irreflexive rs forest a d one))
 
 -- an ancestor of a region that is there is there
-pub above_known : (rs : Regions) → IsForest rs → (a b : ℕ) (d : RegionData) → region_at rs b ≡ Some d → is_above rs a d ≡ true → IsSome (region_at rs a)
+pub above_known : (rs : Regions) → IsForest rs → (a b : ℕ) (d : RegionData) → region_at rs b ≡ Some d → is_above rs a d ≡ true
+    → IsSome (region_at rs a)
 unfolding is_above
 above_known rs forest a b d there above =
     known_along rs forest b (b ∷ proper_ancestors rs d) (ap is_some there)
@@ -261,7 +268,8 @@ above_shorter rs forest a b d there above =
     )
 
 -- a number is on the ancestry of a region where it is the region's own, or is above it
-pub under_splits : (rs : Regions) → IsForest rs → (a b : ℕ) (d : RegionData) → region_at rs b ≡ Some d → is_under rs b a ≡ (nat_eq a b || is_above rs a d)
+pub under_splits : (rs : Regions) → IsForest rs → (a b : ℕ) (d : RegionData) → region_at rs b ≡ Some d
+    → is_under rs b a ≡ (nat_eq a b || is_above rs a d)
 unfolding is_under is_above
 under_splits rs forest a b d there = ap (list_any (nat_eq a)) (ancestors_of_known rs forest b d there)
 
@@ -271,12 +279,14 @@ pub chain_same : (rs fs : Regions) (n : ℕ) → ((m : ℕ) → m ≢ n → pare
 chain_same rs fs n same r [] chain free = absurd chain
 chain_same rs fs n same r (a ∷ l) chain free =
     let parts = neither (nat_eq n a) (list_any (nat_eq n) l) free in
-    by (same r (λ here. true≢false (sym (eq-eqb n a (sym here ∙ sym chain.0)) ∙ parts.0))) (parent_of rs r) refl (λ q up. chain_same rs fs n same q l up parts.1)
+    let other = λ (here : r ≡ n). true≢false (sym (eq-eqb n a (sym here ∙ sym chain.0)) ∙ parts.0) in
+    by (same r other) (parent_of rs r) refl (λ q up. chain_same rs fs n same q l up parts.1)
   where
     headed : IsChain fs r (r ∷ l) → IsChain fs r (a ∷ l)
     headed up = (chain.0, up.1)
 
-    by : parent_of fs r ≡ parent_of rs r → (o : Option ℕ) → parent_of rs r ≡ o → ((q : ℕ) → IsChain rs q l → IsChain fs q l) → IsChain fs r (a ∷ l)
+    by : parent_of fs r ≡ parent_of rs r → (o : Option ℕ) → parent_of rs r ≡ o → ((q : ℕ) → IsChain rs q l → IsChain fs q l)
+        → IsChain fs r (a ∷ l)
     by as_before None none more = headed (chain_last fs r l (chain_end rs r a l none chain) (as_before ∙ none))
     by as_before (Some q) has more = headed (chain_longer fs r q l (as_before ∙ has) (more q (chain_up rs r q a l has chain)))
 
@@ -286,7 +296,8 @@ pub chain_moved : (rs fs : Regions) (n : ℕ) (k : List ℕ) → ((m : ℕ) → 
 chain_moved rs fs n k same own r [] chain = absurd chain
 chain_moved rs fs n k same own r (a ∷ l) chain = by (same_or_other r n) (parent_of rs r) refl (λ q. chain_moved rs fs n k same own q l)
   where
-    by : (r ≡ n) ⊎ (r ≢ n) → (o : Option ℕ) → parent_of rs r ≡ o → ((q : ℕ) → IsChain rs q l → (h : List ℕ) × IsChain fs q h) → (h : List ℕ) × IsChain fs r h
+    by : (r ≡ n) ⊎ (r ≢ n) → (o : Option ℕ) → parent_of rs r ≡ o → ((q : ℕ) → IsChain rs q l → (h : List ℕ) × IsChain fs q h)
+        → (h : List ℕ) × IsChain fs r h
     by (inl here) o is more = (k, subst (λ m. IsChain fs m k) (sym here) own)
     by (inr other) None none more = (r ∷ [], chain_alone fs r (same r other ∙ none))
     by (inr other) (Some q) has more =

@@ -79,13 +79,16 @@ unfolding region_at
 region_elsewhere change n m rs other = found_elsewhere change n m rs.entries other
 
 -- one more region under the next number, at that number and at the others
-pub region_pushed : (rs : Regions) (r : RegionData) → IsNumbered rs → region_at (record rs { last = rs.last + 1; entries = rs.entries ++ (rs.last + 1, r) ∷ [] }) (rs.last + 1) ≡ Some r
+abbrev pub pushed : Regions → RegionData → Regions
+pushed rs r = record rs { last = rs.last + 1; entries = rs.entries ++ (rs.last + 1, r) ∷ [] }
+
+pub region_pushed : (rs : Regions) (r : RegionData) → IsNumbered rs → region_at (pushed rs r) (rs.last + 1) ≡ Some r
 unfolding region_at
 region_pushed rs r numbered =
     ap (option_map (λ (e : Entry). e.1)) (find_last (λ e. nat_eq (rs.last + 1) e.0) rs.entries (rs.last + 1, r)
     (find_above rs.last (rs.last + 1) rs.entries numbered.given (omega arith)) (eq-eqb (rs.last + 1) (rs.last + 1) refl))
 
-pub region_before : (rs : Regions) (r : RegionData) (n : ℕ) → n ≢ rs.last + 1 → region_at (record rs { last = rs.last + 1; entries = rs.entries ++ (rs.last + 1, r) ∷ [] }) n ≡ region_at rs n
+pub region_before : (rs : Regions) (r : RegionData) (n : ℕ) → n ≢ rs.last + 1 → region_at (pushed rs r) n ≡ region_at rs n
 unfolding region_at
 region_before rs r n other =
     ap (option_map (λ (e : Entry). e.1)) (find_before (λ e. nat_eq n e.0) rs.entries (rs.last + 1, r) (ne_eqb n (rs.last + 1) other))

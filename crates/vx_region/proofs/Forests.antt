@@ -1,5 +1,5 @@
 -- What keeps a set of regions a forest.
-use Rattle.std.proofs.Common.{◌≡◌, ◌≢◌, ◌⊎◌, inl, inr, ℕ, ◌+◌, nat_eq, List, [], ◌∷◌, ◌++◌, Option, Some, None, IsSome, option_map, true≢false, false, MutBor, arith, subst, sym, ap, refl, ◌∙◌}
+use Rattle.std.proofs.Common.{◌≡◌, ◌≢◌, ◌⊎◌, inl, inr, ℕ, ◌+◌, nat_eq, List, [], ◌∷◌, Option, Some, None, IsSome, option_map, true≢false, false, MutBor, arith, subst, sym, ap, refl, ◌∙◌}
 use Rattle.std.specs.Map.{lookup, set_value}
 use Rattle.std.specs.Bool.{⊤}
 use Rattle.std.specs.List.{list_any}
@@ -9,7 +9,7 @@ use Rattle.vx_region.specs.Ancestry.{ancestors, is_under}
 use Rattle.vx_region.specs.Regions.{RegionData, Entry, Regions, region_at, parent_of, changed, with_parent}
 use Rattle.vx_region.specs.Forest.{IsChain, IsForest, IsNumbered}
 use Rattle.vx_region.proofs.Chains.{chain_longer, chain_same, chain_moved, ancestors_chain, chain_alone, forest_kept}
-use Rattle.vx_region.proofs.Changes.{region_changed, region_elsewhere, region_pushed, region_before}
+use Rattle.vx_region.proofs.Changes.{pushed, region_changed, region_elsewhere, region_pushed, region_before}
 use Rattle.vx_region.proofs.Lookups.{lent_region, same_or_other, parent_at, parent_nowhere, region_nowhere, same_parent, written_over}
 use Rattle.vx_region.proofs.Numbers.{numbered_push, numbered_changed, distinct_numbers}
 
@@ -25,14 +25,13 @@ forest_empty rs none = record {
     orphan r = parent_nowhere rs r (region_nowhere rs none r)
 
 -- one more region, without a parent, under the next number
-pub forest_pushed : (rs : Regions) (r : RegionData) → r.parent ≡ None → IsForest rs
-    → IsForest (record rs { last = rs.last + 1; entries = rs.entries ++ (rs.last + 1, r) ∷ [] })
+pub forest_pushed : (rs : Regions) (r : RegionData) → r.parent ≡ None → IsForest rs → IsForest (pushed rs r)
 forest_pushed rs r orphan forest =
     forest_kept rs fs (numbered_push rs (rs.last + 1, r) forest.numbered (omega arith)) (λ m. kept m (same_or_other m (rs.last + 1)))
     (λ m q has there. stays q there (same_or_other q (rs.last + 1))) forest
   where
     fs : Regions
-    fs = record rs { last = rs.last + 1; entries = rs.entries ++ (rs.last + 1, r) ∷ [] }
+    fs = pushed rs r
 
     kept : (m : ℕ) → (m ≡ rs.last + 1) ⊎ (m ≢ rs.last + 1) → (parent_of fs m ≡ parent_of rs m) ⊎ (parent_of fs m ≡ None)
     kept m (inl new) = inr (ap (parent_of fs) new ∙ parent_at fs (rs.last + 1) r (region_pushed rs r forest.numbered) ∙ orphan)
@@ -43,7 +42,8 @@ forest_pushed rs r orphan forest =
     stays q there (inr old) = subst IsSome (sym (region_before rs r q old)) there
 
 -- a changed region is where it was
-pub stays_changed : (change : RegionData → RegionData) (n : ℕ) (rs : Regions) (q : ℕ) → IsSome (region_at rs q) → IsSome (region_at (changed change n rs) q)
+pub stays_changed : (change : RegionData → RegionData) (n : ℕ) (rs : Regions) (q : ℕ) → IsSome (region_at rs q)
+    → IsSome (region_at (changed change n rs) q)
 stays_changed change n rs q there = by (same_or_other q n)
   where
     still : (o : Option RegionData) → IsSome o → IsSome (option_map change o)
@@ -51,12 +51,17 @@ stays_changed change n rs q there = by (same_or_other q n)
     still (Some r) there = refl
 
     by : (q ≡ n) ⊎ (q ≢ n) → IsSome (region_at (changed change n rs) q)
-    by (inl same) = subst IsSome (sym (ap (region_at (changed change n rs)) same ∙ region_changed change n rs ∙ ap (λ k. option_map change (region_at rs k)) (sym same))) (still (region_at rs q) there)
+    by (inl same) =
+        let fs = changed change n rs in
+        let is = ap (region_at fs) same ∙ region_changed change n rs ∙ ap (λ k. option_map change (region_at rs k)) (sym same) in
+        subst IsSome (sym is) (still (region_at rs q) there)
     by (inr other) = subst IsSome (sym (region_elsewhere change n q rs other)) there
 
 -- the parent of a changed region
-parent_changed : (change : RegionData → RegionData) (n : ℕ) (rs : Regions) (r : RegionData) → region_at rs n ≡ Some r → parent_of (changed change n rs) n ≡ (change r).parent
-parent_changed change n rs r there = parent_at (changed change n rs) n (change r) (region_changed change n rs ∙ ap (option_map change) there)
+pub parent_changed : (change : RegionData → RegionData) (n : ℕ) (rs : Regions) (r : RegionData) → region_at rs n ≡ Some r
+    → parent_of (changed change n rs) n ≡ (change r).parent
+parent_changed change n rs r there =
+    parent_at (changed change n rs) n (change r) (region_changed change n rs ∙ ap (option_map change) there)
 
 -- the ancestry does not meet a number
 not_under : (rs : Regions) (r a : ℕ) → is_under rs r a ≡ false → list_any (nat_eq a) (ancestors rs r) ≡ false
@@ -72,7 +77,8 @@ forest_changed change n rs r there keeps forest =
   where
     same : (m : ℕ) → (m ≡ n) ⊎ (m ≢ n) → parent_of (changed change n rs) m ≡ parent_of rs m
     same m (inl here) =
-        ap (parent_of (changed change n rs)) here ∙ parent_changed change n rs r there ∙ keeps ∙ sym (parent_at rs n r there) ∙ ap (parent_of rs) (sym here)
+        ap (parent_of (changed change n rs)) here ∙ parent_changed change n rs r there ∙ keeps
+        ∙ sym (parent_at rs n r there) ∙ ap (parent_of rs) (sym here)
     same m (inr other) = same_parent rs (changed change n rs) m (region_elsewhere change n m rs other)
 
 -- the region that the map lent written over, with the same parent
@@ -111,7 +117,9 @@ module _ (rs : Regions) (n : ℕ) (p : Option ℕ) (d : RegionData) (there : reg
   }
     where
       chain : IsChain fs n (n ∷ ancestors rs q)
-      chain = chain_longer fs n q (ancestors rs q) (own ∙ has) (chain_same rs fs n others q (ancestors rs q) (ancestors_chain rs forest q) (not_under rs q n free))
+      chain =
+          chain_longer fs n q (ancestors rs q) (own ∙ has)
+          (chain_same rs fs n others q (ancestors rs q) (ancestors_chain rs forest q) (not_under rs q n free))
 
       by : (m k : ℕ) → parent_of fs m ≡ Some k → (m ≡ n) ⊎ (m ≢ n) → IsSome (region_at rs k)
       by m k is (inl here) =
@@ -125,7 +133,8 @@ pub forest_parented : (rs : Regions) (n : ℕ) (p : Option ℕ) → IsSome (regi
 unfolding with_parent
 forest_parented rs n p there known free forest = by (region_at rs n) refl there p refl
   where
-    by : (o : Option RegionData) → region_at rs n ≡ o → IsSome o → (s : Option ℕ) → p ≡ s → IsForest (changed (λ r. record r { parent = p }) n rs)
+    by : (o : Option RegionData) → region_at rs n ≡ o → IsSome o → (s : Option ℕ) → p ≡ s
+        → IsForest (changed (λ r. record r { parent = p }) n rs)
     by None is some s has = absurd (true≢false (sym some))
     by (Some d) is some None none = forest_orphaned rs n p d is forest none
     by (Some d) is some (Some q) has =

@@ -66,11 +66,13 @@ distinct_numbers n [] up = tt
 distinct_numbers n (e ∷ es) up = (apart e.0 e.0 es (omega arith) up.1, distinct_numbers e.0 es up.1)
 
 -- a changed region keeps its number
-ascending_changed : (change : RegionData → RegionData) (k n : ℕ) (es : List Entry) → IsAscending n es → IsAscending n (changed_at change k es)
+ascending_changed : (change : RegionData → RegionData) (k n : ℕ) (es : List Entry) → IsAscending n es
+    → IsAscending n (changed_at change k es)
 ascending_changed change k n [] up = tt
 ascending_changed change k n (e ∷ es) up = by (nat_eq k e.0) (ascending_changed change k e.0 es up.1)
   where
-    by : (b : Bool) → IsAscending e.0 (changed_at change k es) → IsAscending n ((if b then (e.0, change e.1) else e) ∷ changed_at change k es)
+    by : (b : Bool) → IsAscending e.0 (changed_at change k es)
+        → IsAscending n ((if b then (e.0, change e.1) else e) ∷ changed_at change k es)
     by true rest = (up.0, rest)
     by false rest = (up.0, rest)
 

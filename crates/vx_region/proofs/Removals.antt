@@ -30,7 +30,8 @@ removed_is n (e ∷ es) distinct = by (nat_eq n e.0) refl (removed_is n es (IsDi
     by : (b : Bool) → nat_eq n e.0 ≡ b → remove_entry (nat_eq n) es ≡ filter (is_other n) es
         → cond b es (e ∷ remove_entry (nat_eq n) es) ≡ cond (not b) (e ∷ filter (is_other n) es) (filter (is_other n) es)
     by true is rest =
-        sym (filter_none n es (subst (λ k. AllByRecursion (λ d. nat_eq k d ≡ false) (keys_of es)) (sym (eqb-true n e.0 is)) (IsDistinct-head nat_eq e.0 (keys_of es) distinct)))
+        let apart = λ (k : ℕ). AllByRecursion (λ d. nat_eq k d ≡ false) (keys_of es) in
+        sym (filter_none n es (subst apart (sym (eqb-true n e.0 is)) (IsDistinct-head nat_eq e.0 (keys_of es) distinct)))
     by false is rest = ap (λ ds. e ∷ ds) rest
 
 -- the number is found no more
@@ -70,7 +71,7 @@ found_parent : (n r : ℕ) (d : RegionData) (es : List Entry) → option_map (λ
     → list_any (λ e. is_number n e.1.parent) es ≡ false → is_number n d.parent ≡ false
 found_parent n r d [] there none = cc
 found_parent n r d (e ∷ es) there none =
-    by (nat_eq r e.0) there (neither (is_number n e.1.parent) (list_any (λ (a : Entry). is_number n a.1.parent) es) none) (found_parent n r d es)
+    by (nat_eq r e.0) there (neither (is_number n e.1.parent) others none) (found_parent n r d es)
   where
     found : Option RegionData
     found = option_map (λ (a : Entry). a.1) (find (λ (a : Entry). nat_eq r a.0) es)
@@ -79,7 +80,8 @@ found_parent n r d (e ∷ es) there none =
     others = list_any (λ (a : Entry). is_number n a.1.parent) es
 
     by : (b : Bool) → option_map (λ (a : Entry). a.1) (cond b (Some e) (find (λ (a : Entry). nat_eq r a.0) es)) ≡ Some d
-        → (is_number n e.1.parent ≡ false) × (others ≡ false) → (found ≡ Some d → others ≡ false → is_number n d.parent ≡ false) → is_number n d.parent ≡ false
+        → (is_number n e.1.parent ≡ false) × (others ≡ false) → (found ≡ Some d → others ≡ false → is_number n d.parent ≡ false)
+        → is_number n d.parent ≡ false
     by true here none rest = let same : e.1 ≡ d = cc in subst (λ a. is_number n a.parent ≡ false) same none.0
     by false later none rest = rest later none.1
 
@@ -106,7 +108,8 @@ forest_without rs n childless forest =
     by m (inr other) = inl (same_parent rs (without_region rs n) m (region_beside rs n m other))
 
 -- the regions after the map took one away
-pub removed_from : (rs : Regions) (n : ℕ) (fs : List Entry) → IsForest rs → fs ≡ remove_entry (nat_eq n) rs.entries → record rs { entries = fs } ≡ without_region rs n
+pub removed_from : (rs : Regions) (n : ℕ) (fs : List Entry) → IsForest rs → fs ≡ remove_entry (nat_eq n) rs.entries
+    → record rs { entries = fs } ≡ without_region rs n
 unfolding without_region
 removed_from rs n fs forest removed =
     ap (λ es. record rs { entries = es }) (removed ∙ removed_is n rs.entries (distinct_numbers 0 rs.entries forest.numbered.ascending))

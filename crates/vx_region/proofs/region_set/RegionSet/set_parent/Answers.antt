@@ -9,7 +9,8 @@ use Rattle.vx_region.proofs.Lookups.{lent_from_known, written_over}
 use Rattle.vx_region.proofs.region_set.RegionSet.set_parent.Goals as goal
 
 pub unwrap-requires : goal.unwrap-requires
-unwrap-requires c = lent_from_known c.args.number.0 (the_view c.self.inside) c.get_mut.result (rw c.self.view_is c.requires.known) c.get_mut.ensures.value
+unwrap-requires c =
+    lent_from_known c.args.number.0 (the_view c.self.inside) c.get_mut.result (rw c.self.view_is c.requires.known) c.get_mut.ensures.value
 
 pub invariant_of-self : goal.invariant_of-self
 unfolding with_parent
@@ -19,7 +20,8 @@ invariant_of-self c =
     let rs = the_view c.self.inside in
     subst IsForest
     (sym (written_over (λ r. record r { parent = parent }) c.args.number.0 rs _ c.get_mut.result c.unwrap.result c.set_parent.new.self
-    c.get_mut.ensures.unique c.get_mut.ensures.value c.unwrap.ensures (c.get_mut.follows.holds c.set_parent.new.self).0 c.set_parent.ensures))
+    c.get_mut.ensures.unique c.get_mut.ensures.value c.unwrap.ensures
+    (c.get_mut.follows.holds c.set_parent.new.self).0 c.set_parent.ensures))
     (forest_parented rs c.args.number.0 parent (rw c.self.view_is c.requires.known)
     (if_numbered f (λ q. IsSome (region_at rs q)) c.args.parent (rw c.self.view_is c.requires.parent_known))
     (if_numbered f (λ q. is_under rs q c.args.number.0 ≡ false) c.args.parent (rw c.self.view_is c.requires.no_cycle)) c.self.invariant)
@@ -30,4 +32,5 @@ returns c =
     let parent = option_map (λ (n : RegionNo). n.0) c.args.parent in
     rw (← c.self.view_is) (written_over (λ r. record r { parent = parent }) c.args.number.0 (the_view c.self.inside)
     _ c.get_mut.result c.unwrap.result c.set_parent.new.self
-    c.get_mut.ensures.unique c.get_mut.ensures.value c.unwrap.ensures (c.get_mut.follows.holds c.set_parent.new.self).0 c.set_parent.ensures)
+    c.get_mut.ensures.unique c.get_mut.ensures.value c.unwrap.ensures
+    (c.get_mut.follows.holds c.set_parent.new.self).0 c.set_parent.ensures)

@@ -1,5 +1,5 @@
 -- Where nothing is said, all is permitted.
-use Rattle.std.proofs.Common.{◌≡◌, ℕ, nat_eq, [], ◌∷◌, find, None, Contains, option_map, refl, ap, ◌∙◌, subst}
+use Rattle.std.proofs.Common.{◌≡◌, ℕ, nat_eq, List, [], ◌∷◌, find, None, Contains, option_map, refl, ap, ◌∙◌, subst}
 use Rattle.std.specs.Option.{option_or, option_and_then}
 use Rattle.vx_flag.specs.declared.flag.Flag.{Flag}
 use Rattle.vx_flag.specs.declared.flag.Flag.TheVariants.{Build, BlockBreak, BlockPlace, Usage, ChestAccess, Passthrough, Pistons}
@@ -34,7 +34,9 @@ nothing_said_permits rs s action p none =
 -- without regions there is no parent
 no_parent : (rs : Regions) (n : ℕ) → rs.entries ≡ [] → parent_of rs n ≡ None
 unfolding parent_of region_at
-no_parent rs n none = ap (λ es. option_and_then (λ (r : RegionData). r.parent) (option_map (λ (e : Entry). e.1) (find (λ (e : Entry). nat_eq n e.0) es))) none
+no_parent rs n none =
+    let at = λ (es : List Entry). option_map (λ (e : Entry). e.1) (find (λ (e : Entry). nat_eq n e.0) es) in
+    ap (λ es. option_and_then (λ (r : RegionData). r.parent) (at es)) none
 
 nothing_set : (f : Flag) → setting_of no_settings f ≡ None
 nothing_set Build = refl

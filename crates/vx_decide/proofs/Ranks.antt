@@ -16,7 +16,9 @@ use Rattle.vx_decide.proofs.Picks.{all_at, all_from, any_at}
 use Rattle.vx_decide.proofs.Taken.{top_parts, speaks_parts, taken_parts, taken_contains}
 
 pub one_denial_denies : OneDenialDenies
-one_denial_denies q a e taken says = let some = decided_some q a e taken in (some.0, some.1, (decided_is q a some.0 some.1).deny_wins e taken says)
+one_denial_denies q a e taken says =
+    let some = decided_some q a e taken in
+    (some.0, some.1, (decided_is q a some.0 some.1).deny_wins e taken says)
 
 pub decider_contains_the_place : DeciderContainsThePlace
 decider_contains_the_place q a answer found =
@@ -29,7 +31,8 @@ is_not_higher : (a z : ℤ) → a ≤ℤ z → int_le a z ≡ true
 is_not_higher a z below = grind (arith, ints)
 
 -- no member has a priority above this one
-pub none_higher_at : (members : Members) (es : List Entry) (z : ℤ) (d : Entry) → none_higher members es z ≡ true → In members es d → d.1.priority ≤ℤ z
+pub none_higher_at : (members : Members) (es : List Entry) (z : ℤ) (d : Entry) → none_higher members es z ≡ true
+    → In members es d → d.1.priority ≤ℤ z
 unfolding none_higher
 none_higher_at members es z d none is =
     elim (or_cases (int_le d.1.priority z) (not (members d)) (all_at (λ e. int_le e.1.priority z || not (members e)) es d none is.among)) [
@@ -37,7 +40,8 @@ none_higher_at members es z d none is =
       | inr out ↦ absurd (true≢false (sym is.passes ∙ not-true (members d) out))
     ]
 
-pub none_higher_from : (members : Members) (es : List Entry) (z : ℤ) → ((d : Entry) → In members es d → d.1.priority ≤ℤ z) → none_higher members es z ≡ true
+pub none_higher_from : (members : Members) (es : List Entry) (z : ℤ) → ((d : Entry) → In members es d → d.1.priority ≤ℤ z)
+    → none_higher members es z ≡ true
 unfolding none_higher
 none_higher_from members es z each = all_from (λ e. int_le e.1.priority z || not (members e)) es each_one
   where
@@ -51,7 +55,8 @@ pub top_is_highest : TopIsHighest
 top_is_highest q a d e is top = none_higher_at (counts q a) a.regions.entries e.1.priority d (top_parts q a e top).0 is
 
 -- what counts is of highest priority where none that counts has a higher one
-pub top_from : (q : Question) (a : Asked) (e : Entry) → counts q a e ≡ true → ((d : Entry) → Counts q a d → d.1.priority ≤ℤ e.1.priority) → is_top q a e ≡ true
+pub top_from : (q : Question) (a : Asked) (e : Entry) → counts q a e ≡ true
+    → ((d : Entry) → Counts q a d → d.1.priority ≤ℤ e.1.priority) → is_top q a e ≡ true
 unfolding is_top is_highest
 top_from q a e is each = and_from _ _ (none_higher_from (counts q a) a.regions.entries e.1.priority each) is
 
@@ -67,16 +72,20 @@ higher_priority_decides q a d e is higher = (false_from_ne_true _ below, false_f
 
 pub child_stands_before_parent : ChildStandsBeforeParent
 unfolding is_above_one
-child_stands_before_parent q a child parent is above = false_from_ne_true _ λ taken.
-    true≢false (sym (any_at (λ d. is_above a.regions parent.0 d.1 && speaks q a d) a.regions.entries child is.among (and_from _ _ above is.passes)) ∙ (taken_parts q a parent taken).1)
+child_stands_before_parent q a child parent is above =
+    let below = λ (d : Entry). is_above a.regions parent.0 d.1 && speaks q a d in
+    let some = any_at below a.regions.entries child is.among (and_from _ _ above is.passes) in
+    false_from_ne_true _ (λ taken. true≢false (sym some ∙ (taken_parts q a parent taken).1))
 
 -- what is of highest priority and has a value speaks
-pub speaks_from : (q : Question) (a : Asked) (e : Entry) → is_top q a e ≡ true → has_value a.regions a.actor (flag_of_question q) e.0 ≡ true → speaks q a e ≡ true
+pub speaks_from : (q : Question) (a : Asked) (e : Entry) → is_top q a e ≡ true
+    → has_value a.regions a.actor (flag_of_question q) e.0 ≡ true → speaks q a e ≡ true
 unfolding speaks
 speaks_from q a e top has = and_from _ _ top has
 
 -- beside one of highest priority, each that counts and has no lower priority is so too
-pub top_too : (q : Question) (a : Asked) (d e : Entry) → is_top q a e ≡ true → counts q a d ≡ true → e.1.priority ≤ℤ d.1.priority → is_top q a d ≡ true
+pub top_too : (q : Question) (a : Asked) (d e : Entry) → is_top q a e ≡ true → counts q a d ≡ true
+    → e.1.priority ≤ℤ d.1.priority → is_top q a d ≡ true
 top_too q a d e top is above = top_from q a d is λ x counted. let low = top_is_highest q a x e counted top in grind (arith, ints)
 
 pub child_at_the_same_priority : ChildAtTheSamePriority

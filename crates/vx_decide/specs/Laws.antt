@@ -76,7 +76,8 @@ InheritedIsTheValue = (rs : Regions) (s : Actor) (f : Flag) (n : ℕ) (v : Value
 
 -- a value is set in the region itself or in one of its ancestors
 abbrev pub ValueIsFromTheAncestry : Type 0
-ValueIsFromTheAncestry = (rs : Regions) (s : Actor) (f : Flag) (n : ℕ) (v : Value) → effective rs s f n ≡ Some v → is_under rs n v.from.0 ≡ true
+ValueIsFromTheAncestry = (rs : Regions) (s : Actor) (f : Flag) (n : ℕ) (v : Value) → effective rs s f n ≡ Some v
+    → is_under rs n v.from.0 ≡ true
 
 -- where there is no value, none of the ancestry sets one
 abbrev pub NoValueIsSet : Type 0
@@ -93,7 +94,8 @@ MembershipPermitsWhereNoneFails = (a : Asked) (n : ℕ) → by_membership a ≡ 
 
 -- the rule that a verdict names holds
 abbrev pub RuleOfTheVerdictHolds : Type 0
-RuleOfTheVerdictHolds = (rs : Regions) (s : Actor) (action : Action) (p : Pos) (state : State) (r : Rule) → verdict rs s action p ≡ ruled state r
+RuleOfTheVerdictHolds = (rs : Regions) (s : Actor) (action : Action) (p : Pos) (state : State) (r : Rule)
+    → verdict rs s action p ≡ ruled state r
     → RuleHolds (flag_of_action action) (record { regions = rs; actor = s; place = p }) state r
 
 -- and no other does
@@ -103,13 +105,15 @@ RuleThatHoldsIsTheVerdict = (rs : Regions) (s : Actor) (action : Action) (p : Po
 
 -- the region that a verdict names contains the place
 abbrev pub VerdictNamesARegionAtThePlace : Type 0
-VerdictNamesARegionAtThePlace = (rs : Regions) (s : Actor) (action : Action) (p : Pos) (state : State) (r : Rule) → verdict rs s action p ≡ ruled state r
+VerdictNamesARegionAtThePlace = (rs : Regions) (s : Actor) (action : Action) (p : Pos) (state : State) (r : Rule)
+    → verdict rs s action p ≡ ruled state r
     → number_of_rule r ≢ 0 → IsAtPlace (record { regions = rs; actor = s; place = p }) (number_of_rule r)
 
 -- where nothing is said, all is permitted
 abbrev pub NothingSaidPermits : Type 0
 NothingSaidPermits = (rs : Regions) (s : Actor) (action : Action) (p : Pos)
-    → NothingIsSaid (flag_of_action action) (record { regions = rs; actor = s; place = p }) → verdict rs s action p ≡ verdicts.Permit rule.Default
+    → NothingIsSaid (flag_of_action action) (record { regions = rs; actor = s; place = p })
+    → verdict rs s action p ≡ verdicts.Permit rule.Default
 
 -- where there is no region and the world at large sets nothing, everything is permitted to everyone everywhere
 abbrev pub EmptyWorldPermitsAll : Type 0

@@ -31,6 +31,7 @@ answer_parts q a n answer is = by (value_for q a n) is
         let one : record { at = region_no n; value = v } ≡ answer = cc in
         (ap (λ (x : Answer). x.at.0) one, ap (λ (x : Answer). Some x.value) one)
 
+-- and where it has a value, it answers
 pub answer_from : (q : Question) (a : Asked) (n : ℕ) (v : Value) → value_for q a n ≡ Some v
     → answer_at a (flag_of_question q) n ≡ Some (record { at = region_no n; value = v })
 unfolding answer_at
@@ -113,6 +114,7 @@ decided_some q a e taken = by (least (is_denying q a) a.regions.entries) refl
         let answer = from_region it.0 (it.0, low.region) refl low.member.passes in
         (answer.0, ap (option_and_then (answer_at a (flag_of_question q))) it.1 ∙ answer.1)
 
+-- two states are one where each denies as the other does
 two_states : (s t : State) → (s ≡ Deny → t ≡ Deny) → (t ≡ Deny → s ≡ Deny) → s ≡ t
 two_states Deny t there back = sym (there refl)
 two_states Allow Deny there back = back refl

@@ -38,6 +38,7 @@ no_parent rs n none =
     let at = λ (es : List Entry). option_map (λ (e : Entry). e.1) (find (λ (e : Entry). nat_eq n e.0) es) in
     ap (λ es. option_and_then (λ (r : RegionData). r.parent) (at es)) none
 
+-- no flag is set where none is
 nothing_set : (f : Flag) → setting_of no_settings f ≡ None
 nothing_set Build = refl
 nothing_set BlockBreak = refl
@@ -56,6 +57,7 @@ unset_everywhere rs s f none unset =
     ∙ ap (λ g. option_or (heard 0 a (setting_of g f)) None) unset
     ∙ ap (λ o. option_or (heard 0 a o) None) (nothing_set f)
 
+-- without regions none counts
 nobody_counts : (q : Question) (a : Asked) (e : Entry) → a.regions.entries ≡ [] → Counts q a e → ⊥
 nobody_counts q a e none is = in_none e (subst (λ es. Contains es e) none is.among)
 

@@ -24,6 +24,7 @@ record IsFirst {X : Type 0} (g : ℕ → Option X) (ns : List ℕ) (x : X) : Typ
   answers : g number ≡ Some x
   silent : (m : ℕ) → Contains before m → g m ≡ None
 
+-- what comes first has silent ones before it
 first_is : {X : Type 0} (g : ℕ → Option X) (ns : List ℕ) (x : X) → first_of g ns ≡ Some x → IsFirst g ns x
 first_is g [] x found = cc
 first_is {X = X} g (n ∷ ns) x found = by (g n) refl found (first_is g ns x)
@@ -74,6 +75,7 @@ record IsHeard (n : ℕ) (a : Association) (o : Option Setting) (v : Value) : Ty
   fitting : fits setting.group a ≡ true
   state : setting.state ≡ v.state
 
+-- what is heard is set, with a group that fits
 is_heard : (n : ℕ) (a : Association) (o : Option Setting) (v : Value) → heard n a o ≡ Some v → IsHeard n a o v
 is_heard n a None v is = cc
 is_heard n a (Some s) v is = by (fits s.group a) refl is
@@ -91,6 +93,7 @@ is_heard n a (Some s) v is = by (fits s.group a) refl is
         }
     by false fitting same = cc
 
+-- what is set with a group that fits is heard
 heard_is : (a : Association) (o : Option Setting) (s : Setting) (v : Value) → o ≡ Some s → fits s.group a ≡ true
     → s.state ≡ v.state → heard v.from.0 a o ≡ Some v
 heard_is a o s v set fitting state =

@@ -39,9 +39,11 @@ at_head x xs = Contains-append_left (x ∷ []) xs x (0, omega arith, refl)
 pub in_tail : {X : Type 0} (x : X) (xs : List X) (y : X) → Contains xs y → Contains (x ∷ xs) y
 in_tail x xs y there = Contains-append_right (x ∷ []) xs y there
 
+-- what stands alone is all there is
 is_alone : {X : Type 0} (x y : X) → Contains (x ∷ []) y → x ≡ y
 is_alone x y there = elim (Contains-push_cases [] x y there) [ inl none ↦ absurd (omega (arith, none.1)) | inr same ↦ same ]
 
+-- what is in a list is its head or in its tail
 pub head_or_tail : {X : Type 0} (x : X) (xs : List X) (y : X) → Contains (x ∷ xs) y → (x ≡ y) ⊎ Contains xs y
 head_or_tail x xs y there = elim (Contains-append_cases (x ∷ []) xs y there) [
   | inl first ↦ inl (is_alone x y first)
@@ -52,6 +54,7 @@ head_or_tail x xs y there = elim (Contains-append_cases (x ∷ []) xs y there) [
 pub in_none : {X : Type 0} (y : X) → Contains [] y → ⊥
 in_none y there = omega (arith, there.1)
 
+-- the lesser of two is not above the first
 lesser_first : (a : ℕ) (o : Option ℕ) → lesser a o ≤ a
 lesser_first a None = omega arith
 lesser_first a (Some m) = min-le_left a m
@@ -120,15 +123,18 @@ pub record Greatest (measure : Entry → ℤ) (members : Members) (es : List Ent
   pub highest : (d : Entry) → In members es d → measure d ≤ℤ measure entry
 
 module _ (measure : Entry → ℤ) (members : Members) (x : Entry) (es : List Entry) where
+  -- a member is the head, or one of the tail
   split_member : {P : Type 0} (d : Entry) → In members (x ∷ es) d → (x ≡ d → members x ≡ true → P) → (In members es d → P) → P
   split_member d is first later = elim (head_or_tail x es d is.among) [
     | inl same ↦ first same (ap members same ∙ is.passes)
     | inr there ↦ later (record { among = there; passes = is.passes })
   ]
 
+  -- what holds of the head holds of what is the same
   level : (d : Entry) → x ≡ d → (z : ℤ) → measure x ≤ℤ z → measure d ≤ℤ z
   level d same z low = subst (λ e. measure e ≤ℤ z) same low
 
+  -- the greatest of the tail stays where the head is not above it
   stays_greatest : (top : Greatest measure members es) → (members x ≡ true → measure x ≤ℤ measure top.entry)
       → Greatest measure members (x ∷ es)
   stays_greatest top below = record {
@@ -137,6 +143,7 @@ module _ (measure : Entry → ℤ) (members : Members) (x : Entry) (es : List En
     highest = λ d is. split_member d is (λ same passes. level d same (measure top.entry) (below passes)) (λ there. top.highest d there);
   }
 
+  -- the head is greatest where none of the tail is above it
   becomes_greatest : members x ≡ true → ((d : Entry) → In members es d → measure d ≤ℤ measure x) → Greatest measure members (x ∷ es)
   becomes_greatest passes above = record {
     entry = x;
@@ -144,6 +151,7 @@ module _ (measure : Entry → ℤ) (members : Members) (x : Entry) (es : List En
     highest = λ d is. split_member d is (λ same so. level d same (measure x) (omega (arith, ints))) (λ there. above d there);
   }
 
+  -- the head and the greatest of the tail: one of them is greatest
   join_greatest : Greatest measure members es → Greatest measure members (x ∷ es)
   join_greatest top =
       by_lt_z (measure top.entry) (measure x) (λ lower. by (members x) refl lower) (λ higher. stays_greatest top (λ passes. higher))
@@ -152,6 +160,7 @@ module _ (measure : Entry → ℤ) (members : Members) (x : Entry) (es : List En
       by true passes lower = becomes_greatest passes (λ d there. let low = top.highest d there in omega (arith, ints))
       by false fails lower = stays_greatest top (λ passes. absurd (true≢false (sym passes ∙ fails)))
 
+  -- the head is greatest where the tail has no member
   alone_greatest : (e : Entry) → In members (x ∷ es) e → list_any members es ≡ false → Greatest measure members (x ∷ es)
   alone_greatest e is none =
       split_member e is (λ same passes. becomes_greatest passes (λ d there. absurd (out d there))) (λ there. absurd (out e there))

@@ -24,6 +24,7 @@ pub decider_contains_the_place : DeciderContainsThePlace
 decider_contains_the_place q a answer found =
     let is = decided_is q a answer found in (is.region, is.taken.among, taken_contains q a (answer.at.0, is.region) is.taken.passes)
 
+-- the test on priorities is their order
 not_higher : (a z : ℤ) → int_le a z ≡ true → a ≤ℤ z
 not_higher a z is = grind (arith, ints)
 

@@ -75,6 +75,7 @@ world_answer_is f a answer is =
     answer_from (OnFlag f) a 0 answer.value is.value
     ∙ ap (λ n. Some (record { at = region_no n; value = answer.value })) (sym is.at)
 
+-- where it does not answer, it has no value
 unset_at_large : (f : Flag) (a : Asked) → answer_at a f 0 ≡ None → IsUnsetAtLarge f a
 unfolding answer_at
 unset_at_large f a is = by (effective a.regions a.actor f 0) is
@@ -192,6 +193,7 @@ open_passing : (a : Asked) → BuildIsSilent a → in_the_open a ≡ by_passthro
 unfolding in_the_open
 open_passing a building = ap (λ o. by_answer by_build o (by_passthrough a)) (unset_is Build a building.at_large)
 
+-- and by what lets pass
 closed_denies : (a : Asked) → IsClosedAtLarge a → by_passthrough a ≡ verdicts.Deny (member_at 0)
 unfolding by_passthrough
 closed_denies a closed = ap (λ b. if b then verdicts.Deny (member_at 0) else verdicts.Permit rule.Default) (denied _ closed)
@@ -216,6 +218,7 @@ unfolding first_home
 none_admits a none = no_least (is_home a) a.regions.entries λ e is.
     none e (top_counts a e (record { among = is.among; passes = (home_parts a e is.passes).1 }))
 
+-- so membership is what the world at large says
 open_membership : (a : Asked) → NoneCounts OnBuilding a → by_membership a ≡ in_the_open a
 unfolding by_membership
 open_membership a none =
@@ -226,6 +229,7 @@ open_membership a none =
 pub none_counts_taken : (q : Question) (a : Asked) → NoneCounts q a → NoneIsTaken q a
 none_counts_taken q a none e taken = none e (record { among = taken.among; passes = (top_parts q a e (taken_top q a e taken.passes)).1 })
 
+-- and so is what is said on building
 open_build : (a : Asked) → NoneCounts OnBuilding a → build a ≡ in_the_open a
 unfolding build
 open_build a none =
@@ -237,6 +241,7 @@ build_by_membership : (a : Asked) → NoneIsTaken OnBuilding a → build a ≡ b
 unfolding build
 build_by_membership a none = ap (λ o. by_answer by_build o (by_membership a)) (none_decided OnBuilding a none)
 
+-- where membership denies, the verdict by it is a denial
 member_denied : (a : Asked) (n : ℕ) → MemberDenies a n → by_membership a ≡ verdicts.Deny (member_at n)
 unfolding by_membership first_failing
 member_denied a n is =
@@ -252,6 +257,7 @@ satisfied_sound : (a : Asked) → ((e : Entry) → OnTop a e → IsSatisfied a e
 unfolding first_failing
 satisfied_sound a each = no_least (is_failing a) a.regions.entries λ e is. unsatisfied a e (fails a e is) (each e (fails a e is).top)
 
+-- where it permits, the verdict by it is a permit
 member_permitted : (a : Asked) (n : ℕ) → MemberPermits a n → by_membership a ≡ verdicts.Permit (member_at n)
 unfolding by_membership first_home
 member_permitted a n is =
@@ -263,12 +269,14 @@ member_permitted a n is =
     ap (λ o. by_members o (first_home a) (in_the_open a)) (satisfied_sound a is.satisfied)
     ∙ ap (λ o. by_members None o (in_the_open a)) (least_at (is_home a) a.regions.entries n low)
 
+-- where `build` answers, it is what is said on building
 build_answered : (a : Asked) (answer : Answer) → BuildAnswers a answer → build a ≡ by_build answer
 unfolding build in_the_open
 build_answered a answer (inl is) = ap (λ o. by_answer by_build o (by_membership a)) (answer_decided OnBuilding a answer is)
 build_answered a answer (inr world) =
     open_build a world.0 ∙ ap (λ o. by_answer by_build o (by_passthrough a)) (world_answer_is Build a answer world.1)
 
+-- where the action's own flag answers, it is the verdict
 flag_answered : (f : Flag) (a : Asked) (answer : Answer) → FlagAnswers f a answer → decided_by f a ≡ by_flag f answer
 unfolding decided_by query
 flag_answered f a answer (inl is) =
@@ -277,6 +285,7 @@ flag_answered f a answer (inr world) =
     ap (λ o. by_answer (by_flag f) (option_or o (answer_at a f 0)) (build a)) (none_decided (OnFlag f) a world.0)
     ∙ ap (λ o. by_answer (by_flag f) o (build a)) (world_answer_is f a answer world.1)
 
+-- and where it does not, the verdict is what is said on building
 flag_silent : (f : Flag) (a : Asked) → FlagIsSilent f a → decided_by f a ≡ build a
 unfolding decided_by query
 flag_silent f a silent =
@@ -311,6 +320,7 @@ held_is_the_verdict rs s action p state r is = held (flag_of_action action) (rec
 answer_at_place : (q : Question) (a : Asked) (answer : Answer) → IsAnswer q a answer → IsAtPlace a answer.at.0
 answer_at_place q a answer is = (is.region, is.taken.among, taken_contains q a (answer.at.0, is.region) is.taken.passes)
 
+-- the region that a rule names contains the place
 rule_at_place : (f : Flag) (a : Asked) (state : State) (r : Rule) → RuleHolds f a state r → number_of_rule r ≢ 0
     → IsAtPlace a (number_of_rule r)
 rule_at_place f a s (rule.Flag at from g) is some = elim is.answers [

@@ -43,6 +43,7 @@ pub denying_parts : (q : Question) (a : Asked) (e : Entry) → is_denying q a e 
 unfolding is_denying
 denying_parts q a e is = and_parts (is_deny (value_for q a e.0)) (is_taken q a e) is
 
+-- what is there is something
 some_there : {X : Type 0} (o : Option X) → is_some o ≡ true → (x : X) × (o ≡ Some x)
 some_there None there = cc
 some_there (Some x) there = (x, refl)

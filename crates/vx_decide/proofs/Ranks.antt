@@ -1,18 +1,19 @@
 -- A higher priority stands before a lower one, and a child before its ancestors.
 use Rattle.std.proofs.Common.{◌≡◌, ◌≤ℤ◌, ℤ, true, ◌&&◌, ◌||◌, not, int_le, List, Contains, inl, inr, sym, ◌∙◌, arith, true≢false}
-use Rattle.std.proofs.lemmas.Bool.{and_from, or_cases, or_left, or_right, cases_Bool, not-true, not_from_false, false_from_ne_true}
+use Rattle.std.specs.List.{list_any}
+use Rattle.std.proofs.lemmas.Bool.{and_parts, and_from, or_cases, or_left, or_right, cases_Bool, not-true, not_from_false, false_from_ne_true}
 use Rattle.std.proofs.lemmas.Int.{ints}
 use Rattle.vx_region.specs.Ancestry.{is_above}
 use Rattle.vx_region.specs.Regions.{Entry}
 use Rattle.vx_decide.specs.declared.question.Question.{Question}
-use Rattle.vx_decide.specs.Answers.{In, Counts}
+use Rattle.vx_decide.specs.Answers.{In, Speaks, Counts}
 use Rattle.vx_decide.specs.Asked.{Asked}
 use Rattle.vx_decide.specs.Effective.{has_value}
-use Rattle.vx_decide.specs.Laws.{OneDenialDenies, DeciderContainsThePlace, TopIsHighest, HigherPriorityDecides, ChildStandsBeforeParent, ChildAtTheSamePriority}
+use Rattle.vx_decide.specs.Laws.{TakenSpeaksLowest, SpeaksLowestIsTaken, OneDenialDenies, DeciderContainsThePlace, TopIsHighest, HigherPriorityDecides, ChildStandsBeforeParent, ChildAtTheSamePriority}
 use Rattle.vx_decide.specs.Query.{flag_of_question, counts, is_top, speaks, is_taken}
-use Rattle.vx_decide.specs.RegionGroups.{Members, none_higher, is_highest, is_above_one}
+use Rattle.vx_decide.specs.RegionGroups.{is_lowest, Members, none_higher, is_highest, is_above_one}
 use Rattle.vx_decide.proofs.Answering.{decided_is, decided_some}
-use Rattle.vx_decide.proofs.Picks.{all_at, all_from, any_at}
+use Rattle.vx_decide.proofs.Picks.{all_at, all_from, any_at, any_from}
 use Rattle.vx_decide.proofs.Taken.{top_parts, speaks_parts, taken_parts, taken_contains}
 
 pub one_denial_denies : OneDenialDenies
@@ -94,3 +95,36 @@ child_at_the_same_priority q a child parent is has level above = false_from_ne_t
     let top = top_too q a child parent (taken_top q a parent taken) is.passes level in
     let speaking : In (speaks q a) a.regions.entries child = record { among = is.among; passes = speaks_from q a child top has } in
     true≢false (sym taken ∙ child_stands_before_parent q a child parent speaking above)
+
+-- what the test for speaking says
+speaks_is : (q : Question) (a : Asked) (e : Entry) → In (speaks q a) a.regions.entries e → Speaks q a e
+speaks_is q a e is =
+    let parts = speaks_parts q a e is.passes in
+    record {
+      counts = record { among = is.among; passes = (top_parts q a e parts.0).1 };
+      highest = λ d counted. top_is_highest q a d e counted parts.0;
+      value = parts.1;
+    }
+
+is_speaking : (q : Question) (a : Asked) (e : Entry) → Speaks q a e → In (speaks q a) a.regions.entries e
+is_speaking q a e is =
+    record { among = is.counts.among; passes = speaks_from q a e (top_from q a e is.counts.passes is.highest) is.value }
+
+pub taken_speaks_lowest : TakenSpeaksLowest
+taken_speaks_lowest q a e is = record {
+  speaks = speaks_is q a e (record { among = is.among; passes = (taken_parts q a e is.passes).0 });
+  lowest = λ d speaking. false_from_ne_true _ λ above.
+      true≢false (sym is.passes ∙ child_stands_before_parent q a d e (is_speaking q a d speaking) above);
+}
+
+pub speaks_lowest_is_taken : SpeaksLowestIsTaken
+unfolding is_taken is_lowest is_above_one
+speaks_lowest_is_taken q a e is =
+    let speaking = is_speaking q a e is.speaks in
+    record { among = speaking.among; passes = and_from _ _ speaking.passes (not_from_false _ (false_from_ne_true _ none)) }
+  where
+    none : list_any (λ d. is_above a.regions e.0 d.1 && speaks q a d) a.regions.entries ≡ true → ⊥
+    none some =
+        let found = any_from (λ d. is_above a.regions e.0 d.1 && speaks q a d) a.regions.entries some in
+        let parts = and_parts (is_above a.regions e.0 found.0.1) (speaks q a found.0) found.2 in
+        true≢false (sym parts.0 ∙ is.lowest found.0 (speaks_is q a found.0 (record { among = found.1; passes = parts.1 })))

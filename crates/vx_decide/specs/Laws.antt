@@ -18,7 +18,7 @@ use Rattle.vx_decide.specs.declared.rule.Rule.{Rule}
 use Rattle.vx_decide.specs.declared.rule.Rule.TheVariants as rule
 use Rattle.vx_decide.specs.declared.value.Value.{Value}
 use Rattle.vx_decide.specs.declared.verdict.Verdict.TheVariants as verdicts
-use Rattle.vx_decide.specs.Answers.{In, IsAnswer, IsInherited, MemberDenies, MemberPermits, IsTaken, Counts, IsAtPlace, value_for, state_of}
+use Rattle.vx_decide.specs.Answers.{In, IsAnswer, IsInherited, MemberDenies, MemberPermits, IsTaken, Counts, SpeaksLowest, IsAtPlace, value_for, state_of}
 use Rattle.vx_decide.specs.Asked.{Asked}
 use Rattle.vx_decide.specs.Build.{member_at, ruled, by_membership}
 use Rattle.vx_decide.specs.Effective.{value_at, effective, has_value}
@@ -37,6 +37,14 @@ AnswersAreOne = (q : Question) (a : Asked) (x y : Answer) → IsAnswer q a x →
 -- an answer is decided
 abbrev pub AnswerIsDecided : Type 0
 AnswerIsDecided = (q : Question) (a : Asked) (answer : Answer) → IsAnswer q a answer → decided q a ≡ Some answer
+
+-- a region that is taken speaks, and is no ancestor of another that speaks
+abbrev pub TakenSpeaksLowest : Type 0
+TakenSpeaksLowest = (q : Question) (a : Asked) (e : Entry) → IsTaken q a e → SpeaksLowest q a e
+
+-- and each such region is taken
+abbrev pub SpeaksLowestIsTaken : Type 0
+SpeaksLowestIsTaken = (q : Question) (a : Asked) (e : Entry) → SpeaksLowest q a e → IsTaken q a e
 
 -- where a region that is taken denies, the answer denies
 abbrev pub OneDenialDenies : Type 0

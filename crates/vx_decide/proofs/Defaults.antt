@@ -1,5 +1,5 @@
 -- Where nothing is said, all is permitted.
-use Rattle.std.proofs.Common.{◌≡◌, ℕ, nat_eq, [], ◌∷◌, find, None, Contains, option_map, refl, ap, ◌∙◌, subst}
+use Rattle.std.proofs.Common.{◌≡◌, ℕ, nat_eq, List, [], ◌∷◌, find, None, Contains, option_map, refl, ap, ◌∙◌, subst}
 use Rattle.std.specs.Option.{option_or, option_and_then}
 use Rattle.vx_flag.specs.declared.flag.Flag.{Flag}
 use Rattle.vx_flag.specs.declared.flag.Flag.TheVariants.{Build, BlockBreak, BlockPlace, Usage, ChestAccess, Passthrough, Pistons}
@@ -34,8 +34,11 @@ nothing_said_permits rs s action p none =
 -- without regions there is no parent
 no_parent : (rs : Regions) (n : ℕ) → rs.entries ≡ [] → parent_of rs n ≡ None
 unfolding parent_of region_at
-no_parent rs n none = ap (λ es. option_and_then (λ (r : RegionData). r.parent) (option_map (λ (e : Entry). e.1) (find (λ (e : Entry). nat_eq n e.0) es))) none
+no_parent rs n none =
+    let at = λ (es : List Entry). option_map (λ (e : Entry). e.1) (find (λ (e : Entry). nat_eq n e.0) es) in
+    ap (λ es. option_and_then (λ (r : RegionData). r.parent) (at es)) none
 
+-- no flag is set where none is
 nothing_set : (f : Flag) → setting_of no_settings f ≡ None
 nothing_set Build = refl
 nothing_set BlockBreak = refl
@@ -54,6 +57,7 @@ unset_everywhere rs s f none unset =
     ∙ ap (λ g. option_or (heard 0 a (setting_of g f)) None) unset
     ∙ ap (λ o. option_or (heard 0 a o) None) (nothing_set f)
 
+-- without regions none counts
 nobody_counts : (q : Question) (a : Asked) (e : Entry) → a.regions.entries ≡ [] → Counts q a e → ⊥
 nobody_counts q a e none is = in_none e (subst (λ es. Contains es e) none is.among)
 

@@ -24,6 +24,7 @@ record IsFirst {X : Type 0} (g : ℕ → Option X) (ns : List ℕ) (x : X) : Typ
   answers : g number ≡ Some x
   silent : (m : ℕ) → Contains before m → g m ≡ None
 
+-- what comes first has silent ones before it
 first_is : {X : Type 0} (g : ℕ → Option X) (ns : List ℕ) (x : X) → first_of g ns ≡ Some x → IsFirst g ns x
 first_is g [] x found = cc
 first_is {X = X} g (n ∷ ns) x found = by (g n) refl found (first_is g ns x)
@@ -50,8 +51,8 @@ first_is {X = X} g (n ∷ ns) x found = by (g n) refl found (first_is g ns x)
     by None is same rest = further is (rest same)
 
 -- silent ones are passed over
-first_past : {X : Type 0} (g : ℕ → Option X) (before : List ℕ) (n : ℕ) (after : List ℕ) (x : X) → ((m : ℕ) → Contains before m → g m ≡ None) → g n ≡ Some x
-    → first_of g (before ++ n ∷ after) ≡ Some x
+first_past : {X : Type 0} (g : ℕ → Option X) (before : List ℕ) (n : ℕ) (after : List ℕ) (x : X)
+    → ((m : ℕ) → Contains before m → g m ≡ None) → g n ≡ Some x → first_of g (before ++ n ∷ after) ≡ Some x
 first_past g [] n after x silent answers = ap (λ o. option_or o (first_of g after)) answers
 first_past g (m ∷ before) n after x silent answers =
     ap (λ o. option_or o (first_of g (before ++ n ∷ after))) (silent m (at_head m before))
@@ -74,17 +75,27 @@ record IsHeard (n : ℕ) (a : Association) (o : Option Setting) (v : Value) : Ty
   fitting : fits setting.group a ≡ true
   state : setting.state ≡ v.state
 
+-- what is heard is set, with a group that fits
 is_heard : (n : ℕ) (a : Association) (o : Option Setting) (v : Value) → heard n a o ≡ Some v → IsHeard n a o v
 is_heard n a None v is = cc
 is_heard n a (Some s) v is = by (fits s.group a) refl is
   where
-    by : (b : Bool) → fits s.group a ≡ b → (if b then Some (record { state = s.state; from = region_no n }) else None) ≡ Some v → IsHeard n a (Some s) v
+    by : (b : Bool) → fits s.group a ≡ b → (if b then Some (record { state = s.state; from = region_no n }) else None) ≡ Some v
+        → IsHeard n a (Some s) v
     by true fitting same =
         let one : record { state = s.state; from = region_no n } ≡ v = cc in
-        record { from = ap (λ (x : Value). x.from.0) one; setting = s; set = refl; fitting = fitting; state = ap (λ (x : Value). x.state) one }
+        record {
+          from = ap (λ (x : Value). x.from.0) one;
+          setting = s;
+          set = refl;
+          fitting = fitting;
+          state = ap (λ (x : Value). x.state) one;
+        }
     by false fitting same = cc
 
-heard_is : (a : Association) (o : Option Setting) (s : Setting) (v : Value) → o ≡ Some s → fits s.group a ≡ true → s.state ≡ v.state → heard v.from.0 a o ≡ Some v
+-- what is set with a group that fits is heard
+heard_is : (a : Association) (o : Option Setting) (s : Setting) (v : Value) → o ≡ Some s → fits s.group a ≡ true
+    → s.state ≡ v.state → heard v.from.0 a o ≡ Some v
 heard_is a o s v set fitting state =
     ap (heard v.from.0 a) set
     ∙ ap (λ b. if b then Some (record { state = s.state; from = v.from }) else None) fitting
@@ -110,15 +121,16 @@ pub inherited_is_the_value : InheritedIsTheValue
 unfolding effective value_at
 inherited_is_the_value rs s f n v is =
     let a = association rs s n in
-    ap (first_of (value_at rs f a)) is.ancestry
-    ∙ first_past (value_at rs f a) is.nearer v.from.0 is.farther v is.silent (heard_is a (setting_at rs v.from.0 f) is.setting v is.set is.fitting is.state)
+    let set = heard_is a (setting_at rs v.from.0 f) is.setting v is.set is.fitting is.state in
+    ap (first_of (value_at rs f a)) is.ancestry ∙ first_past (value_at rs f a) is.nearer v.from.0 is.farther v is.silent set
 
 pub value_is_from_the_ancestry : ValueIsFromTheAncestry
 unfolding is_under
 value_is_from_the_ancestry rs s f n v is =
     let it = value_is_inherited rs s f n v is in
     let there = Contains-append_right it.nearer (v.from.0 ∷ it.farther) v.from.0 (at_head v.from.0 it.farther) in
-    ap (list_any (nat_eq v.from.0)) it.ancestry ∙ any_at (nat_eq v.from.0) (it.nearer ++ v.from.0 ∷ it.farther) v.from.0 there (eq-eqb v.from.0 v.from.0 refl)
+    ap (list_any (nat_eq v.from.0)) it.ancestry
+    ∙ any_at (nat_eq v.from.0) (it.nearer ++ v.from.0 ∷ it.farther) v.from.0 there (eq-eqb v.from.0 v.from.0 refl)
 
 pub no_value_is_set : NoValueIsSet
 unfolding effective

@@ -27,7 +27,8 @@ use Rattle.vx_decide.proofs.Taken.{counts_parts, top_parts}
 
 -- a region among those of the set is the one of its number
 entry_known : (rs : Regions) (e : Entry) → IsNumbered rs → Contains rs.entries e → region_at rs e.0 ≡ Some e.1
-entry_known rs e numbered among = region_at_place rs among.0 e.0 e.1 numbered (slice_get-get_or rs.entries among.0 e among.1 ∙ ap Some among.2)
+entry_known rs e numbered among =
+    region_at_place rs among.0 e.0 e.1 numbered (slice_get-get_or rs.entries among.0 e among.1 ∙ ap Some among.2)
 
 -- how long the ancestry of a region is
 abbrev depth : Asked → Entry → ℤ
@@ -46,7 +47,8 @@ deepest_is_lowest q a forest deep above =
     omega (arith, ints)
 
 -- where some speak, one is taken
-pub some_is_taken : (q : Question) (a : Asked) (e : Entry) → IsForest a.regions → In (speaks q a) a.regions.entries e → (t : Entry) × IsTaken q a t
+pub some_is_taken : (q : Question) (a : Asked) (e : Entry) → IsForest a.regions → In (speaks q a) a.regions.entries e
+    → (t : Entry) × IsTaken q a t
 unfolding is_taken is_lowest
 some_is_taken q a e forest is =
     let deep = greatest (depth a) (speaks q a) a.regions.entries e is in
@@ -59,7 +61,8 @@ unfolding has_say
 top_speaks f a e top = speaks_from (OnFlag f) a e top (counts_parts (OnFlag f) a e (top_parts (OnFlag f) a e top).1).1
 
 -- where some count on a flag, one is taken
-pub some_count_some_taken : (f : Flag) (a : Asked) (e : Entry) → IsForest a.regions → Counts (OnFlag f) a e → (t : Entry) × IsTaken (OnFlag f) a t
+pub some_count_some_taken : (f : Flag) (a : Asked) (e : Entry) → IsForest a.regions → Counts (OnFlag f) a e
+    → (t : Entry) × IsTaken (OnFlag f) a t
 some_count_some_taken f a e forest is =
     let top = some_on_top (OnFlag f) a e is in
     some_is_taken (OnFlag f) a top.0 forest (record { among = top.1.among; passes = top_speaks f a top.0 top.1.passes })

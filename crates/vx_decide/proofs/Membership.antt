@@ -25,6 +25,7 @@ use Rattle.vx_decide.proofs.Taken.{counts_parts, top_parts}
 pub top_contains : (a : Asked) (e : Entry) → is_top OnBuilding a e ≡ true → contains a e ≡ true
 top_contains a e is = (counts_parts OnBuilding a e (top_parts OnBuilding a e is).1).0
 
+-- a region that admits the actor, of highest priority
 pub home_parts : (a : Asked) (e : Entry) → is_home a e ≡ true → (admits a e.0 ≡ true) × (is_top OnBuilding a e ≡ true)
 unfolding is_home
 home_parts a e is = and_parts (admits a e.0) (is_top OnBuilding a e) is
@@ -33,11 +34,16 @@ pub home_from : (a : Asked) (e : Entry) → admits a e.0 ≡ true → is_top OnB
 unfolding is_home
 home_from a e insider top = and_from _ _ insider top
 
+-- the test for a region that is satisfied says what it is to be
 satisfied_parts : (a : Asked) (e : Entry) → is_satisfied a e.0 ≡ true → IsSatisfied a e
 unfolding is_satisfied is_above_one
-satisfied_parts a e is = elim (or_cases (admits a e.0) (is_above_one (is_home a) a.regions e.0) is) [ inl insider ↦ inl insider | inr above ↦ inr (by_home above) ]
+satisfied_parts a e is = elim (or_cases (admits a e.0) (is_above_one (is_home a) a.regions e.0) is) [
+  | inl insider ↦ inl insider
+  | inr above ↦ inr (by_home above)
+]
   where
-    by_home : is_above_one (is_home a) a.regions e.0 ≡ true → (d : Entry) × OnTop a d × (admits a d.0 ≡ true) × (is_above a.regions e.0 d.1 ≡ true)
+    by_home : is_above_one (is_home a) a.regions e.0 ≡ true
+        → (d : Entry) × OnTop a d × (admits a d.0 ≡ true) × (is_above a.regions e.0 d.1 ≡ true)
     by_home above =
         let found = any_from (λ d. is_above a.regions e.0 d.1 && is_home a d) a.regions.entries above in
         let parts = and_parts (is_above a.regions e.0 found.0.1) (is_home a found.0) found.2 in
@@ -48,12 +54,18 @@ satisfied_from : (a : Asked) (e : Entry) → IsSatisfied a e → is_satisfied a 
 unfolding is_satisfied is_above_one
 satisfied_from a e is = elim is [
   | inl insider ↦ or_left _ _ insider
-  | inr below ↦ or_right _ _ (any_at (λ d. is_above a.regions e.0 d.1 && is_home a d) a.regions.entries below.0 below.1.among (and_from _ _ below.3 (home_from a below.0 below.2 below.1.passes)))
+  | inr below ↦
+      let home = home_from a below.0 below.2 below.1.passes in
+      let both = and_from _ _ below.3 home in
+      or_right _ _ (any_at (λ d. is_above a.regions e.0 d.1 && is_home a d) a.regions.entries below.0 below.1.among both)
 ]
 
+-- a region that fails is of highest priority and not satisfied
 failing_parts : (a : Asked) (e : Entry) → is_failing a e ≡ true → (is_top OnBuilding a e ≡ true) × (is_satisfied a e.0 ≡ false)
 unfolding is_failing
-failing_parts a e is = let parts = and_parts (is_top OnBuilding a e) (not (is_satisfied a e.0)) is in (parts.0, not-true (is_satisfied a e.0) parts.1)
+failing_parts a e is =
+    let parts = and_parts (is_top OnBuilding a e) (not (is_satisfied a e.0)) is in
+    (parts.0, not-true (is_satisfied a e.0) parts.1)
 
 failing_from : (a : Asked) (e : Entry) → is_top OnBuilding a e ≡ true → is_satisfied a e.0 ≡ false → is_failing a e ≡ true
 unfolding is_failing
@@ -88,13 +100,20 @@ unfolding first_failing
 satisfied_where_none_fails a e none top = satisfied_parts a e (true_from_ne_false _ λ not_so.
     least_none (is_failing a) a.regions.entries e none (record { among = top.among; passes = failing_from a e top.passes not_so }))
 
+-- where one fails, the least denies
 pub denies_membership : (a : Asked) (n : ℕ) → first_failing a ≡ Some n → MemberDenies a n
 unfolding first_failing
 denies_membership a n found =
     let low = least_found (is_failing a) a.regions.entries n found in
     let it = fails a (n, low.region) low.member in
-    record { region = low.region; place = top_contains a (n, low.region) it.top.passes; fails = it; least = λ e also. low.least e (failing a e also) }
+    record {
+      region = low.region;
+      place = top_contains a (n, low.region) it.top.passes;
+      fails = it;
+      least = λ e also. low.least e (failing a e also);
+    }
 
+-- where none fails, the least that admits permits
 pub permits_membership : (a : Asked) (n : ℕ) → first_failing a ≡ None → first_home a ≡ Some n → MemberPermits a n
 unfolding first_home
 permits_membership a n none found =
@@ -118,14 +137,18 @@ built_permits : (s : State) (at from : RegionNo) (n : ℕ) → ruled s (rule.Bui
 built_permits Allow at from n same = cc
 built_permits Deny at from n same = cc
 
-passing_denies : (b : Bool) (n : ℕ) → (if b then verdict.Deny (member_at 0) else verdict.Permit rule.Default) ≡ verdict.Deny (member_at n) → n ≡ 0
+-- so it is with what lets pass
+passing_denies : (b : Bool) (n : ℕ)
+    → (if b then verdict.Deny (member_at 0) else verdict.Permit rule.Default) ≡ verdict.Deny (member_at n) → n ≡ 0
 passing_denies true n same = let number : region_no 0 ≡ region_no n = cc in sym (ap (λ k. k.0) number)
 passing_denies false n same = cc
 
-passing_permits : (b : Bool) (n : ℕ) → (if b then verdict.Deny (member_at 0) else verdict.Permit rule.Default) ≡ verdict.Permit (member_at n) → ⊥
+passing_permits : (b : Bool) (n : ℕ)
+    → (if b then verdict.Deny (member_at 0) else verdict.Permit rule.Default) ≡ verdict.Permit (member_at n) → ⊥
 passing_permits true n same = cc
 passing_permits false n same = cc
 
+-- and so with all that the world at large says
 open_denies : (a : Asked) (n : ℕ) → in_the_open a ≡ verdict.Deny (member_at n) → n ≡ 0
 unfolding in_the_open by_passthrough
 open_denies a n same = by (answer_at a Build 0) same
@@ -155,7 +178,10 @@ pub membership_permits : MembershipPermitsWhereNoneFails
 unfolding by_membership
 membership_permits a n permitted = by (first_failing a) (first_home a) refl refl permitted
   where
-    by : (o h : Option ℕ) → first_failing a ≡ o → first_home a ≡ h → by_members o h (in_the_open a) ≡ verdict.Permit (member_at n) → MemberPermits a n
+    by : (o h : Option ℕ) → first_failing a ≡ o → first_home a ≡ h → by_members o h (in_the_open a) ≡ verdict.Permit (member_at n)
+        → MemberPermits a n
     by (Some m) h found home same = cc
-    by None (Some m) none home same = let number : region_no m ≡ region_no n = cc in permits_membership a n none (home ∙ ap (λ k. Some k.0) number)
+    by None (Some m) none home same =
+        let number : region_no m ≡ region_no n = cc in
+        permits_membership a n none (home ∙ ap (λ k. Some k.0) number)
     by None None none home same = absurd (open_permits a n same)

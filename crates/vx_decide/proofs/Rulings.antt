@@ -18,7 +18,7 @@ use Rattle.vx_decide.specs.declared.verdict.Verdict.{Verdict}
 use Rattle.vx_decide.specs.declared.verdict.Verdict.TheVariants as verdicts
 use Rattle.vx_decide.specs.Answers.{In, Counts, IsAnswer, IsAtPlace, OnTop, IsSatisfied, MemberDenies, MemberPermits, IsLeast}
 use Rattle.vx_decide.specs.Asked.{Asked}
-use Rattle.vx_decide.specs.Build.{is_failing, is_home, first_failing, first_home, member_at, ruled, by_build, by_answer, by_passthrough, in_the_open, by_members, by_membership, build}
+use Rattle.vx_decide.specs.Build.{admits, is_failing, is_home, first_failing, first_home, member_at, ruled, by_build, by_answer, by_passthrough, in_the_open, by_members, by_membership, build}
 use Rattle.vx_decide.specs.Effective.{region_no, effective, is_deny}
 use Rattle.vx_decide.specs.Laws.{RuleOfTheVerdictHolds, RuleThatHoldsIsTheVerdict, VerdictNamesARegionAtThePlace}
 use Rattle.vx_decide.specs.Query.{counts, is_top, answer_at, decided, query}
@@ -59,9 +59,11 @@ none_counts : (a : Asked) → first_failing a ≡ None → first_home a ≡ None
 unfolding first_home
 none_counts a sound homeless e is =
     let top = some_on_top OnBuilding a e is in
+    let nobody = λ (d : Entry) (t : OnTop a d) (insider : admits a d.0 ≡ true).
+    least_none (is_home a) a.regions.entries d homeless (record { among = t.among; passes = home_from a d insider t.passes }) in
     elim (satisfied_where_none_fails a top.0 sound top.1) [
-      | inl insider ↦ least_none (is_home a) a.regions.entries top.0 homeless (record { among = top.1.among; passes = home_from a top.0 insider top.1.passes })
-      | inr below ↦ least_none (is_home a) a.regions.entries below.0 homeless (record { among = below.1.among; passes = home_from a below.0 below.2 below.1.passes })
+      | inl insider ↦ nobody top.0 top.1 insider
+      | inr below ↦ nobody below.0 below.1 below.2
     ]
 
 -- what the world at large answers
@@ -69,8 +71,11 @@ world_answers : (f : Flag) (a : Asked) (answer : Answer) → answer_at a f 0 ≡
 world_answers f a answer is = let parts = answer_parts (OnFlag f) a 0 answer is in record { at = sym parts.0; value = parts.1 }
 
 world_answer_is : (f : Flag) (a : Asked) (answer : Answer) → IsWorldAnswer f a answer → answer_at a f 0 ≡ Some answer
-world_answer_is f a answer is = answer_from (OnFlag f) a 0 answer.value is.value ∙ ap (λ n. Some (record { at = region_no n; value = answer.value })) (sym is.at)
+world_answer_is f a answer is =
+    answer_from (OnFlag f) a 0 answer.value is.value
+    ∙ ap (λ n. Some (record { at = region_no n; value = answer.value })) (sym is.at)
 
+-- where it does not answer, it has no value
 unset_at_large : (f : Flag) (a : Asked) → answer_at a f 0 ≡ None → IsUnsetAtLarge f a
 unfolding answer_at
 unset_at_large f a is = by (effective a.regions a.actor f 0) is
@@ -110,7 +115,9 @@ open_ruling f a silent unset none = by (answer_at a Build 0) refl
       is = refl;
       holds = record { silent = silent; answers = inr (none, world_answers Build a answer is) };
     }
-    by None is = passing (is_deny (effective a.regions a.actor Passthrough 0)) refl (record { regions = none; at_large = unset_at_large Build a is })
+    by None is =
+        let building : BuildIsSilent a = record { regions = none; at_large = unset_at_large Build a is } in
+        passing (is_deny (effective a.regions a.actor Passthrough 0)) refl building
 
 -- so is what membership says
 membership_ruling : (f : Flag) (a : Asked) → FlagIsSilent f a → NoneIsTaken OnBuilding a → Ruling f a (by_membership a)
@@ -159,7 +166,8 @@ ruling f a = by (decided (OnFlag f) a) (answer_at a f 0) refl refl
       holds = record { flag = refl; answers = is };
     }
 
-    by : (o w : Option Answer) → decided (OnFlag f) a ≡ o → answer_at a f 0 ≡ w → Ruling f a (by_answer (by_flag f) (option_or o w) (build a))
+    by : (o w : Option Answer) → decided (OnFlag f) a ≡ o → answer_at a f 0 ≡ w
+        → Ruling f a (by_answer (by_flag f) (option_or o w) (build a))
     by (Some answer) w is world = by_own answer (inl (decided_is (OnFlag f) a answer is))
     by None (Some answer) none world = by_own answer (inr (none_taken (OnFlag f) a none, world_answers f a answer world))
     by None None none world = build_ruling f a (record { regions = none_taken (OnFlag f) a none; at_large = unset_at_large f a world })
@@ -177,13 +185,15 @@ rule_holds rs s action p state r is =
     let a : Asked = record { regions = rs; actor = s; place = p } in
     let it = ruling (flag_of_action action) a in
     let same = one_ruling it.state state it.named r (sym it.is ∙ is) in
-    subst (λ t. RuleHolds (flag_of_action action) a t r) same.0 (subst (λ u. RuleHolds (flag_of_action action) a it.state u) same.1 it.holds)
+    subst (λ t. RuleHolds (flag_of_action action) a t r) same.0
+    (subst (λ u. RuleHolds (flag_of_action action) a it.state u) same.1 it.holds)
 
 -- the other way round: the world at large says what holds there
 open_passing : (a : Asked) → BuildIsSilent a → in_the_open a ≡ by_passthrough a
 unfolding in_the_open
 open_passing a building = ap (λ o. by_answer by_build o (by_passthrough a)) (unset_is Build a building.at_large)
 
+-- and by what lets pass
 closed_denies : (a : Asked) → IsClosedAtLarge a → by_passthrough a ≡ verdicts.Deny (member_at 0)
 unfolding by_passthrough
 closed_denies a closed = ap (λ b. if b then verdicts.Deny (member_at 0) else verdicts.Permit rule.Default) (denied _ closed)
@@ -191,39 +201,55 @@ closed_denies a closed = ap (λ b. if b then verdicts.Deny (member_at 0) else ve
 passing_permits : (a : Asked) → (IsClosedAtLarge a → ⊥) → by_passthrough a ≡ verdicts.Permit rule.Default
 unfolding by_passthrough
 passing_permits a passing =
-    ap (λ b. if b then verdicts.Deny (member_at 0) else verdicts.Permit rule.Default) (false_from_ne_true _ (λ closed. passing (denies _ closed)))
+    let not_closed = false_from_ne_true (is_deny (effective a.regions a.actor Passthrough 0)) (λ closed. passing (denies _ closed)) in
+    ap (λ b. if b then verdicts.Deny (member_at 0) else verdicts.Permit rule.Default) not_closed
+
+-- what is of highest priority counts
+top_counts : (a : Asked) (e : Entry) → OnTop a e → Counts OnBuilding a e
+top_counts a e is = record { among = is.among; passes = (top_parts OnBuilding a e is.passes).1 }
 
 -- where no region counts, none fails and none admits
 none_fails : (a : Asked) → NoneCounts OnBuilding a → first_failing a ≡ None
 unfolding first_failing
-none_fails a none = no_least (is_failing a) a.regions.entries λ e is. none e (record { among = is.among; passes = (top_parts OnBuilding a e (fails a e is).top.passes).1 })
+none_fails a none = no_least (is_failing a) a.regions.entries λ e is. none e (top_counts a e (fails a e is).top)
 
 none_admits : (a : Asked) → NoneCounts OnBuilding a → first_home a ≡ None
 unfolding first_home
-none_admits a none = no_least (is_home a) a.regions.entries λ e is. none e (record { among = is.among; passes = (top_parts OnBuilding a e (home_parts a e is.passes).1).1 })
+none_admits a none = no_least (is_home a) a.regions.entries λ e is.
+    none e (top_counts a e (record { among = is.among; passes = (home_parts a e is.passes).1 }))
 
+-- so membership is what the world at large says
 open_membership : (a : Asked) → NoneCounts OnBuilding a → by_membership a ≡ in_the_open a
 unfolding by_membership
-open_membership a none = ap (λ o. by_members o (first_home a) (in_the_open a)) (none_fails a none) ∙ ap (λ o. by_members None o (in_the_open a)) (none_admits a none)
+open_membership a none =
+    ap (λ o. by_members o (first_home a) (in_the_open a)) (none_fails a none)
+    ∙ ap (λ o. by_members None o (in_the_open a)) (none_admits a none)
 
 -- where no region counts, none is taken
 pub none_counts_taken : (q : Question) (a : Asked) → NoneCounts q a → NoneIsTaken q a
 none_counts_taken q a none e taken = none e (record { among = taken.among; passes = (top_parts q a e (taken_top q a e taken.passes)).1 })
 
+-- and so is what is said on building
 open_build : (a : Asked) → NoneCounts OnBuilding a → build a ≡ in_the_open a
 unfolding build
 open_build a none =
-    ap (λ o. by_answer by_build o (by_membership a)) (none_decided OnBuilding a (none_counts_taken OnBuilding a none)) ∙ open_membership a none
+    let unset = none_decided OnBuilding a (none_counts_taken OnBuilding a none) in
+    ap (λ o. by_answer by_build o (by_membership a)) unset ∙ open_membership a none
 
 -- membership is what is asked where no region is taken
 build_by_membership : (a : Asked) → NoneIsTaken OnBuilding a → build a ≡ by_membership a
 unfolding build
 build_by_membership a none = ap (λ o. by_answer by_build o (by_membership a)) (none_decided OnBuilding a none)
 
+-- where membership denies, the verdict by it is a denial
 member_denied : (a : Asked) (n : ℕ) → MemberDenies a n → by_membership a ≡ verdicts.Deny (member_at n)
 unfolding by_membership first_failing
 member_denied a n is =
-    let low : IsLeast (is_failing a) a.regions.entries n = record { region = is.region; member = failing a (n, is.region) is.fails; least = λ e also. is.least e (fails a e also) } in
+    let low : IsLeast (is_failing a) a.regions.entries n = record {
+      region = is.region;
+      member = failing a (n, is.region) is.fails;
+      least = λ e also. is.least e (fails a e also);
+    } in
     ap (λ o. by_members o (first_home a) (in_the_open a)) (least_at (is_failing a) a.regions.entries n low)
 
 -- where each is satisfied, none fails
@@ -231,6 +257,7 @@ satisfied_sound : (a : Asked) → ((e : Entry) → OnTop a e → IsSatisfied a e
 unfolding first_failing
 satisfied_sound a each = no_least (is_failing a) a.regions.entries λ e is. unsatisfied a e (fails a e is) (each e (fails a e is).top)
 
+-- where it permits, the verdict by it is a permit
 member_permitted : (a : Asked) (n : ℕ) → MemberPermits a n → by_membership a ≡ verdicts.Permit (member_at n)
 unfolding by_membership first_home
 member_permitted a n is =
@@ -242,18 +269,23 @@ member_permitted a n is =
     ap (λ o. by_members o (first_home a) (in_the_open a)) (satisfied_sound a is.satisfied)
     ∙ ap (λ o. by_members None o (in_the_open a)) (least_at (is_home a) a.regions.entries n low)
 
+-- where `build` answers, it is what is said on building
 build_answered : (a : Asked) (answer : Answer) → BuildAnswers a answer → build a ≡ by_build answer
 unfolding build in_the_open
 build_answered a answer (inl is) = ap (λ o. by_answer by_build o (by_membership a)) (answer_decided OnBuilding a answer is)
-build_answered a answer (inr world) = open_build a world.0 ∙ ap (λ o. by_answer by_build o (by_passthrough a)) (world_answer_is Build a answer world.1)
+build_answered a answer (inr world) =
+    open_build a world.0 ∙ ap (λ o. by_answer by_build o (by_passthrough a)) (world_answer_is Build a answer world.1)
 
+-- where the action's own flag answers, it is the verdict
 flag_answered : (f : Flag) (a : Asked) (answer : Answer) → FlagAnswers f a answer → decided_by f a ≡ by_flag f answer
 unfolding decided_by query
-flag_answered f a answer (inl is) = ap (λ o. by_answer (by_flag f) (option_or o (answer_at a f 0)) (build a)) (answer_decided (OnFlag f) a answer is)
+flag_answered f a answer (inl is) =
+    ap (λ o. by_answer (by_flag f) (option_or o (answer_at a f 0)) (build a)) (answer_decided (OnFlag f) a answer is)
 flag_answered f a answer (inr world) =
     ap (λ o. by_answer (by_flag f) (option_or o (answer_at a f 0)) (build a)) (none_decided (OnFlag f) a world.0)
     ∙ ap (λ o. by_answer (by_flag f) o (build a)) (world_answer_is f a answer world.1)
 
+-- and where it does not, the verdict is what is said on building
 flag_silent : (f : Flag) (a : Asked) → FlagIsSilent f a → decided_by f a ≡ build a
 unfolding decided_by query
 flag_silent f a silent =
@@ -262,15 +294,19 @@ flag_silent f a silent =
 
 -- the verdict where nothing is said
 pub silent_default : (f : Flag) (a : Asked) → ByDefault f a → decided_by f a ≡ verdicts.Permit rule.Default
-silent_default f a is = flag_silent f a is.silent ∙ open_build a is.building.regions ∙ open_passing a is.building ∙ passing_permits a is.passing
+silent_default f a is =
+    flag_silent f a is.silent ∙ open_build a is.building.regions ∙ open_passing a is.building ∙ passing_permits a is.passing
 
 -- a rule that holds is that of the verdict
 held : (f : Flag) (a : Asked) (state : State) (r : Rule) → RuleHolds f a state r → decided_by f a ≡ ruled state r
-held f a s (rule.Flag at from g) is = flag_answered f a (answer_of at s from) is.answers ∙ ap (λ h. ruled s (rule.Flag at from h)) (sym is.flag)
+held f a s (rule.Flag at from g) is =
+    flag_answered f a (answer_of at s from) is.answers ∙ ap (λ h. ruled s (rule.Flag at from h)) (sym is.flag)
 held f a s (rule.Build at from) is = flag_silent f a is.silent ∙ build_answered a (answer_of at s from) is.answers
 held f a Deny (rule.Member at) is = flag_silent f a is.silent ∙ build_by_membership a is.unset ∙ elim is.denies [
   | inl one ↦ member_denied a at.0 one
-  | inr world ↦ open_membership a world.1.regions ∙ open_passing a world.1 ∙ closed_denies a world.2 ∙ ap (λ n. verdicts.Deny (member_at n)) (sym world.0)
+  | inr world ↦
+      open_membership a world.1.regions ∙ open_passing a world.1 ∙ closed_denies a world.2
+      ∙ ap (λ n. verdicts.Deny (member_at n)) (sym world.0)
 ]
 held f a Allow (rule.Member at) is = flag_silent f a is.silent ∙ build_by_membership a is.unset ∙ member_permitted a at.0 is.permits
 held f a Deny rule.Default is = absurd is
@@ -284,10 +320,21 @@ held_is_the_verdict rs s action p state r is = held (flag_of_action action) (rec
 answer_at_place : (q : Question) (a : Asked) (answer : Answer) → IsAnswer q a answer → IsAtPlace a answer.at.0
 answer_at_place q a answer is = (is.region, is.taken.among, taken_contains q a (answer.at.0, is.region) is.taken.passes)
 
-rule_at_place : (f : Flag) (a : Asked) (state : State) (r : Rule) → RuleHolds f a state r → number_of_rule r ≢ 0 → IsAtPlace a (number_of_rule r)
-rule_at_place f a s (rule.Flag at from g) is some = elim is.answers [ inl one ↦ answer_at_place (OnFlag f) a (answer_of at s from) one | inr world ↦ absurd (some world.1.at) ]
-rule_at_place f a s (rule.Build at from) is some = elim is.answers [ inl one ↦ answer_at_place OnBuilding a (answer_of at s from) one | inr world ↦ absurd (some world.1.at) ]
-rule_at_place f a Deny (rule.Member at) is some = elim is.denies [ inl one ↦ (one.region, one.fails.top.among, one.place) | inr world ↦ absurd (some world.0) ]
+-- the region that a rule names contains the place
+rule_at_place : (f : Flag) (a : Asked) (state : State) (r : Rule) → RuleHolds f a state r → number_of_rule r ≢ 0
+    → IsAtPlace a (number_of_rule r)
+rule_at_place f a s (rule.Flag at from g) is some = elim is.answers [
+  | inl one ↦ answer_at_place (OnFlag f) a (answer_of at s from) one
+  | inr world ↦ absurd (some world.1.at)
+]
+rule_at_place f a s (rule.Build at from) is some = elim is.answers [
+  | inl one ↦ answer_at_place OnBuilding a (answer_of at s from) one
+  | inr world ↦ absurd (some world.1.at)
+]
+rule_at_place f a Deny (rule.Member at) is some = elim is.denies [
+  | inl one ↦ (one.region, one.fails.top.among, one.place)
+  | inr world ↦ absurd (some world.0)
+]
 rule_at_place f a Allow (rule.Member at) is some = (is.permits.region, is.permits.top.among, is.permits.place)
 rule_at_place f a Deny rule.Default is some = absurd is
 rule_at_place f a Allow rule.Default is some = absurd (some refl)

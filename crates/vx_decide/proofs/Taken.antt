@@ -34,13 +34,16 @@ pub taken_parts : (q : Question) (a : Asked) (e : Entry) → is_taken q a e ≡ 
     → (speaks q a e ≡ true) × (is_above_one (speaks q a) a.regions e.0 ≡ false)
 unfolding is_taken is_lowest
 taken_parts q a e is =
-    let parts = and_parts (speaks q a e) (not (is_above_one (speaks q a) a.regions e.0)) is in (parts.0, not-true (is_above_one (speaks q a) a.regions e.0) parts.1)
+    let parts = and_parts (speaks q a e) (not (is_above_one (speaks q a) a.regions e.0)) is in
+    (parts.0, not-true (is_above_one (speaks q a) a.regions e.0) parts.1)
 
 -- what denies has a value that denies and is taken
-pub denying_parts : (q : Question) (a : Asked) (e : Entry) → is_denying q a e ≡ true → (is_deny (value_for q a e.0) ≡ true) × (is_taken q a e ≡ true)
+pub denying_parts : (q : Question) (a : Asked) (e : Entry) → is_denying q a e ≡ true
+    → (is_deny (value_for q a e.0) ≡ true) × (is_taken q a e ≡ true)
 unfolding is_denying
 denying_parts q a e is = and_parts (is_deny (value_for q a e.0)) (is_taken q a e) is
 
+-- what is there is something
 some_there : {X : Type 0} (o : Option X) → is_some o ≡ true → (x : X) × (o ≡ Some x)
 some_there None there = cc
 some_there (Some x) there = (x, refl)

@@ -1,4 +1,4 @@
-use Rattle.std.specs.Prelude.{◌≡◌, ℕ, ◌≤◌, ◌⊎◌, true, false, List, ◌∷◌, ◌++◌, Option, Some, None, option_map, Contains}
+use Rattle.std.specs.Prelude.{◌≡◌, ℕ, ◌≤◌, ◌≤ℤ◌, ◌⊎◌, true, false, List, ◌∷◌, ◌++◌, Option, Some, None, option_map, Contains}
 use Rattle.vx_flag.specs.declared.flag.Flag.{Flag}
 use Rattle.vx_flag.specs.declared.setting.Setting.{Setting}
 use Rattle.vx_flag.specs.declared.state.State.{State}
@@ -14,7 +14,7 @@ use Rattle.vx_decide.specs.declared.question.Question.TheVariants.{OnBuilding}
 use Rattle.vx_decide.specs.declared.value.Value.{Value}
 use Rattle.vx_decide.specs.Asked.{Asked}
 use Rattle.vx_decide.specs.Build.{admits}
-use Rattle.vx_decide.specs.Effective.{value_at, effective}
+use Rattle.vx_decide.specs.Effective.{value_at, effective, has_value}
 use Rattle.vx_decide.specs.Query.{flag_of_question, contains, counts, is_top, is_taken}
 use Rattle.vx_decide.specs.RegionGroups.{Members}
 
@@ -48,6 +48,17 @@ IsAtPlace a n = (r : RegionData) × Contains a.regions.entries (n, r) × (contai
 -- the region is among those that contain the place and have a say on the question
 abbrev pub Counts : Question → Asked → Entry → Type 0
 Counts q a e = In (counts q a) a.regions.entries e
+
+-- the region counts, none that counts has a higher priority, and it has a value for the flag that is asked for
+pub record Speaks (q : Question) (a : Asked) (e : Entry) : Type 0 where
+  pub counts : Counts q a e
+  pub highest : (d : Entry) → Counts q a d → d.1.priority ≤ℤ e.1.priority
+  pub value : has_value a.regions a.actor (flag_of_question q) e.0 ≡ true
+
+-- the region speaks, and is no ancestor of another that speaks
+pub record SpeaksLowest (q : Question) (a : Asked) (e : Entry) : Type 0 where
+  pub speaks : Speaks q a e
+  pub lowest : (d : Entry) → Speaks q a d → is_above a.regions e.0 d.1 ≡ false
 
 -- the answer is that of a region taken; it denies where one that is taken denies; and it names the least of those that say the same
 pub record IsAnswer (q : Question) (a : Asked) (answer : Answer) : Type 0 where

@@ -18,7 +18,7 @@ use Rattle.vx_decide.specs.declared.rule.Rule.{Rule}
 use Rattle.vx_decide.specs.declared.rule.Rule.TheVariants as rule
 use Rattle.vx_decide.specs.declared.value.Value.{Value}
 use Rattle.vx_decide.specs.declared.verdict.Verdict.TheVariants as verdicts
-use Rattle.vx_decide.specs.Answers.{In, IsAnswer, IsInherited, MemberDenies, MemberPermits, IsTaken, Counts, IsAtPlace, value_for, state_of}
+use Rattle.vx_decide.specs.Answers.{In, IsAnswer, IsInherited, MemberDenies, MemberPermits, IsTaken, Counts, SpeaksLowest, IsAtPlace, value_for, state_of}
 use Rattle.vx_decide.specs.Asked.{Asked}
 use Rattle.vx_decide.specs.Build.{member_at, ruled, by_membership}
 use Rattle.vx_decide.specs.Effective.{value_at, effective, has_value}
@@ -37,6 +37,14 @@ AnswersAreOne = (q : Question) (a : Asked) (x y : Answer) → IsAnswer q a x →
 -- an answer is decided
 abbrev pub AnswerIsDecided : Type 0
 AnswerIsDecided = (q : Question) (a : Asked) (answer : Answer) → IsAnswer q a answer → decided q a ≡ Some answer
+
+-- a region that is taken speaks, and is no ancestor of another that speaks
+abbrev pub TakenSpeaksLowest : Type 0
+TakenSpeaksLowest = (q : Question) (a : Asked) (e : Entry) → IsTaken q a e → SpeaksLowest q a e
+
+-- and each such region is taken
+abbrev pub SpeaksLowestIsTaken : Type 0
+SpeaksLowestIsTaken = (q : Question) (a : Asked) (e : Entry) → SpeaksLowest q a e → IsTaken q a e
 
 -- where a region that is taken denies, the answer denies
 abbrev pub OneDenialDenies : Type 0
@@ -76,7 +84,8 @@ InheritedIsTheValue = (rs : Regions) (s : Actor) (f : Flag) (n : ℕ) (v : Value
 
 -- a value is set in the region itself or in one of its ancestors
 abbrev pub ValueIsFromTheAncestry : Type 0
-ValueIsFromTheAncestry = (rs : Regions) (s : Actor) (f : Flag) (n : ℕ) (v : Value) → effective rs s f n ≡ Some v → is_under rs n v.from.0 ≡ true
+ValueIsFromTheAncestry = (rs : Regions) (s : Actor) (f : Flag) (n : ℕ) (v : Value) → effective rs s f n ≡ Some v
+    → is_under rs n v.from.0 ≡ true
 
 -- where there is no value, none of the ancestry sets one
 abbrev pub NoValueIsSet : Type 0
@@ -93,7 +102,8 @@ MembershipPermitsWhereNoneFails = (a : Asked) (n : ℕ) → by_membership a ≡ 
 
 -- the rule that a verdict names holds
 abbrev pub RuleOfTheVerdictHolds : Type 0
-RuleOfTheVerdictHolds = (rs : Regions) (s : Actor) (action : Action) (p : Pos) (state : State) (r : Rule) → verdict rs s action p ≡ ruled state r
+RuleOfTheVerdictHolds = (rs : Regions) (s : Actor) (action : Action) (p : Pos) (state : State) (r : Rule)
+    → verdict rs s action p ≡ ruled state r
     → RuleHolds (flag_of_action action) (record { regions = rs; actor = s; place = p }) state r
 
 -- and no other does
@@ -103,13 +113,15 @@ RuleThatHoldsIsTheVerdict = (rs : Regions) (s : Actor) (action : Action) (p : Po
 
 -- the region that a verdict names contains the place
 abbrev pub VerdictNamesARegionAtThePlace : Type 0
-VerdictNamesARegionAtThePlace = (rs : Regions) (s : Actor) (action : Action) (p : Pos) (state : State) (r : Rule) → verdict rs s action p ≡ ruled state r
+VerdictNamesARegionAtThePlace = (rs : Regions) (s : Actor) (action : Action) (p : Pos) (state : State) (r : Rule)
+    → verdict rs s action p ≡ ruled state r
     → number_of_rule r ≢ 0 → IsAtPlace (record { regions = rs; actor = s; place = p }) (number_of_rule r)
 
 -- where nothing is said, all is permitted
 abbrev pub NothingSaidPermits : Type 0
 NothingSaidPermits = (rs : Regions) (s : Actor) (action : Action) (p : Pos)
-    → NothingIsSaid (flag_of_action action) (record { regions = rs; actor = s; place = p }) → verdict rs s action p ≡ verdicts.Permit rule.Default
+    → NothingIsSaid (flag_of_action action) (record { regions = rs; actor = s; place = p })
+    → verdict rs s action p ≡ verdicts.Permit rule.Default
 
 -- where there is no region and the world at large sets nothing, everything is permitted to everyone everywhere
 abbrev pub EmptyWorldPermitsAll : Type 0

@@ -67,19 +67,20 @@ pub record ByBuild (f : Flag) (a : Asked) (answer : Answer) : Type 0 where
   pub silent : FlagIsSilent f a
   pub answers : BuildAnswers a answer
 
--- neither answers by a region, and membership denies, or no region counts and the world at large does not let pass
+-- the action's own flag does not answer, no region is taken on building, and membership denies; or no region counts there, and
+-- the world at large does not let pass
 pub record ByNoMember (f : Flag) (a : Asked) (n : ℕ) : Type 0 where
   pub silent : FlagIsSilent f a
   pub unset : NoneIsTaken OnBuilding a
   pub denies : MemberDenies a n ⊎ ((n ≡ 0) × BuildIsSilent a × IsClosedAtLarge a)
 
--- neither answers by a region, and membership permits
+-- the action's own flag does not answer, no region is taken on building, and membership permits
 pub record ByMember (f : Flag) (a : Asked) (n : ℕ) : Type 0 where
   pub silent : FlagIsSilent f a
   pub unset : NoneIsTaken OnBuilding a
   pub permits : MemberPermits a n
 
--- nothing is said
+-- the action's own flag and `build` do not answer, and the world at large lets pass
 pub record ByDefault (f : Flag) (a : Asked) : Type 0 where
   pub silent : FlagIsSilent f a
   pub building : BuildIsSilent a

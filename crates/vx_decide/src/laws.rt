@@ -1,10 +1,16 @@
-ghost use Rattle.vx_decide.specs.Laws.{DecidedIsAnswer, AnswersAreOne, AnswerIsDecided, OneDenialDenies, DeciderContainsThePlace, TopIsHighest, HigherPriorityDecides, ChildStandsBeforeParent, ChildAtTheSamePriority, ValueIsInherited, InheritedIsTheValue, ValueIsFromTheAncestry, NoValueIsSet, MembershipDeniesWhereOneFails, MembershipPermitsWhereNoneFails, RuleOfTheVerdictHolds, RuleThatHoldsIsTheVerdict, VerdictNamesARegionAtThePlace, NothingSaidPermits, EmptyWorldPermitsAll, ValuesAtThePlaceDecide, DefaultOnlyWhereNothingIsSaid};
+ghost use Rattle.vx_decide.specs.Laws.{DecidedIsAnswer, AnswersAreOne, AnswerIsDecided, TakenSpeaksLowest, SpeaksLowestIsTaken, OneDenialDenies, DeciderContainsThePlace, TopIsHighest, HigherPriorityDecides, ChildStandsBeforeParent, ChildAtTheSamePriority, ValueIsInherited, InheritedIsTheValue, ValueIsFromTheAncestry, NoValueIsSet, MembershipDeniesWhereOneFails, MembershipPermitsWhereNoneFails, RuleOfTheVerdictHolds, RuleThatHoldsIsTheVerdict, VerdictNamesARegionAtThePlace, NothingSaidPermits, EmptyWorldPermitsAll, ValuesAtThePlaceDecide, DefaultOnlyWhereNothingIsSaid};
 
 /// What the regions at a place decide is the one answer: of those taken, the least that denies, else the least.
 pub fn one_answer()
     ensures answer { DecidedIsAnswer }
     ensures one { AnswersAreOne }
     ensures decided { AnswerIsDecided }
+{}
+
+/// A region is taken exactly where none that counts has a higher priority, it has a value, and it is no ancestor of another such.
+pub fn taken_speaks_lowest()
+    ensures lowest { TakenSpeaksLowest }
+    ensures taken { SpeaksLowestIsTaken }
 {}
 
 /// Where one region that is taken denies, the answer denies.

@@ -18,7 +18,7 @@ pub use decide::Decide;
 pub use laws::{
     child_stands_before_parent, decider_contains_the_place, default_only_where_nothing_is_said,
     highest_priority_decides, membership_is_grounded, nothing_said_permits, one_answer,
-    one_denial_denies,
+    one_denial_denies, taken_speaks_lowest, value_is_inherited, verdict_names_its_region,
 };
 pub use plain::Plain;
 pub use rule::Rule;

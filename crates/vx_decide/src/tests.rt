@@ -382,8 +382,10 @@ fn land(
     for plot in plots {
         settle(rt, &mut set, plot)?;
     }
-    for (i, plot) in plots.iter().enumerate() {
-        adopt(rt, &mut set, i as u32 + 1, plot.parent);
+    let mut number = 0_u32;
+    for plot in plots {
+        number = number.saturating_add(1);
+        adopt(rt, &mut set, RegionNo(number), RegionNo(plot.parent));
     }
     flag(rt, &mut set, RegionNo(0), global);
     Ok(set)
@@ -415,9 +417,8 @@ fn settle(
     Ok(())
 }
 
-fn adopt(rt: &impl Abort, set: &mut RegionSet, child: u32, parent: u32) {
-    if parent != 0 {
-        let (child, parent) = (RegionNo(child), RegionNo(parent));
+fn adopt(rt: &impl Abort, set: &mut RegionSet, child: RegionNo, parent: RegionNo) {
+    if parent != RegionNo(0) {
         assert!(rt; set.get(child).is_some());
         assert!(rt; set.get(parent).is_some());
         assert!(rt; !set.under(parent, child));

@@ -101,32 +101,32 @@ fn rate(
     let mut decisions = 0_u64;
     let mut permits = 0_u64;
     let mut spent = Duration::from_millis(0);
-    for _ in 0..100_000 {
+    for turn in 0..1_000_000_u32 {
         if spent > Duration::from_millis(400) {
             break;
         }
-        permits = permits.saturating_add(batch(set, &subject, layout, count, decisions as u32));
+        permits = permits.saturating_add(batch(set, &subject, layout, count, turn));
         decisions = decisions.saturating_add(20);
         spent = start.elapsed(rt)?;
     }
     if permits > decisions {
         return Ok(0);
     }
-    let micros = spent.as_micros() as u64;
+    let micros = u64::try_from(spent.as_micros()).unwrap_or(u64::MAX);
     Ok(decisions.saturating_mul(1_000_000) / micros.max(1))
 }
 
 /// How many of 20 questions are permitted.
-fn batch(set: &RegionSet, subject: &Subject, layout: Layout, count: u32, from: u32) -> u64 {
+fn batch(set: &RegionSet, subject: &Subject, layout: Layout, count: u32, turn: u32) -> u64 {
     let mut permits = 0;
     for i in 0..20_u32 {
-        let n = from.wrapping_add(i).wrapping_mul(2_654_435_761) % count.max(1);
+        let n = turn.wrapping_mul(20).wrapping_add(i).wrapping_mul(2_654_435_761) % count.max(1);
         let place = match layout {
             Layout::Spread => Pos::new((n % 64 * 4) as i32, 1, (n / 64 % 64 * 4) as i32),
             _ => Pos::new(1, 1, 1),
         };
         if permitted(&Plain::new(set).decide(subject, Action::Placing, place)) {
-            permits = permits + 1;
+            permits = u64::saturating_add(permits, 1);
         }
     }
     permits

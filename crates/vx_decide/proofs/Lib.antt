@@ -9,4 +9,5 @@ pub mod Nearest
 pub mod Picks
 pub mod Ranks
 pub mod Rulings
+pub mod Shortcuts
 pub mod Taken

@@ -230,7 +230,7 @@ pub none_counts_taken : (q : Question) (a : Asked) → NoneCounts q a → NoneIs
 none_counts_taken q a none e taken = none e (record { among = taken.among; passes = (top_parts q a e (taken_top q a e taken.passes)).1 })
 
 -- and so is what is said on building
-open_build : (a : Asked) → NoneCounts OnBuilding a → build a ≡ in_the_open a
+pub open_build : (a : Asked) → NoneCounts OnBuilding a → build a ≡ in_the_open a
 unfolding build
 open_build a none =
     let unset = none_decided OnBuilding a (none_counts_taken OnBuilding a none) in

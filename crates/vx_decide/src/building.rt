@@ -19,11 +19,14 @@ use vx_region::{Region, RegionNo};
 impl Inquiry<'_> {
     /// What the policy says on building at the place: the regions of highest priority there by the flag, and where none of
     /// them sets it by membership; where no region counts, the world at large.
-    #[tactic(auto, unfolding(crate::specs::Build::build))]
+    #[tactic(auto, unfolding(crate::specs::Build::build), using(crate::proofs::Shortcuts::none_builds))]
     pub fn build(&self) -> Verdict
         ensures { result ≡ build (asked self.now) }
     {
         let best = self.top(Question::OnBuilding);
+        if best.is_none() {
+            return self.in_the_open();
+        }
         match self.decided(Question::OnBuilding, best) {
             Some(answer) => by_build(answer),
             None => self.by_membership(best),
@@ -139,8 +142,17 @@ impl Inquiry<'_> {
     }
 
     // Whether the region is of highest priority and admits the subject.
-    #[tactic(auto, unfolding(crate::specs::Build::is_home))]
+    #[tactic(auto, unfolding(crate::specs::Query::contains), using(crate::proofs::Shortcuts::home_there))]
     fn is_home(&self, best: Option<i32>, number: RegionNo, region: &Region) -> bool
+        requires { best ≡ top (counts OnBuilding (asked self.now)) self.now.regions.now.entries }
+        ensures { result ≡ is_home (asked self.now) (number.0, region.now) }
+    {
+        region.contains(self.place) && self.admits_on_top(best, number, region)
+    }
+
+    // The same, with the subject asked about before the priority.
+    #[tactic(auto, unfolding(crate::specs::Build::is_home))]
+    fn admits_on_top(&self, best: Option<i32>, number: RegionNo, region: &Region) -> bool
         requires { best ≡ top (counts OnBuilding (asked self.now)) self.now.regions.now.entries }
         ensures { result ≡ is_home (asked self.now) (number.0, region.now) }
     {

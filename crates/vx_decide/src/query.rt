@@ -28,11 +28,14 @@ impl Inquiry<'_> {
 
     /// What the regions at the place answer: of those of highest priority that have a value, ancestors of others left out, the
     /// least that denies, else the least. `best` is the highest priority.
-    #[tactic(auto, unfolding(crate::specs::Query::decided))]
+    #[tactic(auto, unfolding(crate::specs::Query::decided), using(crate::proofs::Shortcuts::none_decides))]
     pub fn decided(&self, question: Question, best: Option<i32>) -> Option<Answer>
         requires { best ≡ top (counts question (asked self.now)) self.now.regions.now.entries }
         ensures { result ≡ decided question (asked self.now) }
     {
+        if best.is_none() {
+            return None;
+        }
         let decider = self.decider(question, best)?;
         self.answer_at(question.flag(), decider)
     }
@@ -120,8 +123,23 @@ impl Inquiry<'_> {
     }
 
     // Whether the region is taken and its value denies.
-    #[tactic(auto, unfolding(crate::specs::Query::is_denying))]
+    #[tactic(auto, unfolding(crate::specs::Query::contains), using(crate::proofs::Shortcuts::denying_there))]
     fn is_denying(
+        &self,
+        question: Question,
+        best: Option<i32>,
+        number: RegionNo,
+        region: &Region,
+    ) -> bool
+        requires { best ≡ top (counts question (asked self.now)) self.now.regions.now.entries }
+        ensures { result ≡ is_denying question (asked self.now) (number.0, region.now) }
+    {
+        region.contains(self.place) && self.denies_if_taken(question, best, number, region)
+    }
+
+    // The same, with the value asked for before the regions below.
+    #[tactic(auto, unfolding(crate::specs::Query::is_denying))]
+    fn denies_if_taken(
         &self,
         question: Question,
         best: Option<i32>,

@@ -1,0 +1,46 @@
+-- What the walks over the regions may leave out: regions elsewhere, and all of them where none has a say.
+use Rattle.std.proofs.Common.{◌≡◌, pos, ◌-ℤ◌, Bool, true, false, ◌&&◌, None, refl, ap, sym, ◌∙◌, arith}
+use Rattle.std.proofs.lemmas.Bool.{true≢false}
+use Rattle.std.proofs.lemmas.Int.{ints}
+use Rattle.vx_region.specs.Regions.{Entry}
+use Rattle.vx_decide.specs.declared.question.Question.{Question}
+use Rattle.vx_decide.specs.declared.question.Question.TheVariants.{OnBuilding}
+use Rattle.vx_decide.specs.Asked.{Asked}
+use Rattle.vx_decide.specs.Build.{is_home, in_the_open, build}
+use Rattle.vx_decide.specs.Query.{contains, counts, is_denying, decided}
+use Rattle.vx_decide.specs.Rulings.{NoneCounts}
+use Rattle.vx_decide.specs.Tops.{top, is_at_most}
+use Rattle.vx_decide.proofs.Highest.{highest}
+use Rattle.vx_decide.proofs.Membership.{home_parts, top_contains}
+use Rattle.vx_decide.proofs.Ranks.{none_higher_at}
+use Rattle.vx_decide.proofs.Rulings.{none_decided, none_counts_taken, open_build}
+use Rattle.vx_decide.proofs.Taken.{denying_parts, taken_contains}
+
+-- a test that holds only where another does may be asked after it
+after : (a b : Bool) → (b ≡ true → a ≡ true) → b ≡ (a && b)
+after true b only = refl
+after false true only = absurd (true≢false (sym (only refl)))
+after false false only = refl
+
+-- what denies contains the place
+pub denying_there : (q : Question) (a : Asked) (e : Entry) → is_denying q a e ≡ (contains a e && is_denying q a e)
+denying_there q a e = after (contains a e) (is_denying q a e) (λ is. taken_contains q a e (denying_parts q a e is).1)
+
+-- and so does what is a home
+pub home_there : (a : Asked) (e : Entry) → is_home a e ≡ (contains a e && is_home a e)
+home_there a e = after (contains a e) (is_home a e) (λ is. top_contains a e (home_parts a e is).1)
+
+-- where there is no highest priority, no region counts
+pub none_on_top : (q : Question) (a : Asked) → top (counts q a) a.regions.entries ≡ None → NoneCounts q a
+unfolding is_at_most
+none_on_top q a none e is =
+    let below = e.1.priority -ℤ pos 1 in
+    let all = highest (counts q a) a.regions.entries below ∙ ap (λ best. is_at_most best below) none in
+    let low = none_higher_at (counts q a) a.regions.entries below e all is in
+    omega (arith, ints)
+
+pub none_decides : (q : Question) (a : Asked) → top (counts q a) a.regions.entries ≡ None → decided q a ≡ None
+none_decides q a none = none_decided q a (none_counts_taken q a (none_on_top q a none))
+
+pub none_builds : (a : Asked) → top (counts OnBuilding a) a.regions.entries ≡ None → build a ≡ in_the_open a
+none_builds a none = open_build a (none_on_top OnBuilding a none)

@@ -88,6 +88,7 @@ pub record EndsIn (rs : Regions) (a : ℕ) (l : List ℕ) : Type 0 where
 on_tail : (a b : ℕ) (l : List ℕ) → nat_eq a b ≡ false → list_any (nat_eq a) (b ∷ l) ≡ true → list_any (nat_eq a) l ≡ true
 on_tail a b l other is = sym (ap (λ t. t || list_any (nat_eq a) l) other) ∙ is
 
+-- no number is on an empty list
 not_on_none : (a : ℕ) (l : List ℕ) → l ≡ [] → list_any (nat_eq a) l ≡ true → ⊥
 not_on_none a l none is = true≢false (sym is ∙ ap (list_any (nat_eq a)) none)
 
@@ -117,11 +118,12 @@ no_return rs r a l chain = not_true (list_any (nat_eq r) l) (by (parent_of rs r)
         let same = same_chain rs r (a ∷ l) up.rest chain up.chain in
         omega (arith, ap length same, ap length up.whole, length-append up.front up.rest)
 
--- each number of a list is another, where none is the same
+-- where neither holds, each fails
 pub neither : (a b : Bool) → (a || b) ≡ false → (a ≡ false) × (b ≡ false)
 neither true b none = absurd (true≢false none)
 neither false b none = (refl, none)
 
+-- a number apart from a list, and the list without doubles
 all_apart : (r : ℕ) (l : List ℕ) → list_any (nat_eq r) l ≡ false → AllByRecursion (λ k. nat_eq r k ≡ false) l
 all_apart r [] none = tt
 all_apart r (k ∷ l) none = let parts = neither (nat_eq r k) (list_any (nat_eq r) l) none in (parts.0, all_apart r l parts.1)
@@ -193,6 +195,7 @@ pub ancestors_whole : (rs : Regions) → IsForest rs → (r : ℕ) (l : List ℕ
 unfolding ancestors
 ancestors_whole rs forest r l whole = chain_whole rs (suc rs.last) r l whole (chain_fits rs forest r l whole)
 
+-- and so its ancestry is a chain
 pub ancestors_chain : (rs : Regions) → IsForest rs → (r : ℕ) → IsChain rs r (ancestors rs r)
 ancestors_chain rs forest r = let l = forest.ends r in subst (IsChain rs r) (sym (ancestors_whole rs forest r l.0 l.1)) l.1
 

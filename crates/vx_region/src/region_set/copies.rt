@@ -2,11 +2,11 @@
 ghost use Rattle.std.specs.Prelude.{◌≡◌, IfOk};
 
 use super::RegionSet;
-use std::alloc::{AllocError, Global};
+use std::alloc::AllocError;
 
 impl RegionSet {
     /// A copy with the same regions under the same numbers. A change of one is no change of the other.
-    pub fn try_clone(&self, _alloc: Global) -> Result<RegionSet, AllocError>
+    pub fn try_clone(&self) -> Result<RegionSet, AllocError>
         ensures { IfOk result (λ copy. copy ≡ self.now) }
     {
         self.clone()
@@ -40,7 +40,7 @@ mod tests {
         let mut set = RegionSet::new(rt.alloc());
         assert_eq!(rt; set.find(&farm), None);
         let number = set.define(rt.alloc(), farm, Shape::cuboid(place, place))?;
-        let copy = set.try_clone(rt.alloc())?;
+        let copy = set.try_clone()?;
         assert!(rt; copy == set);
         assert!(rt; set.get(number).is_some());
         set.set_priority(number, 7);

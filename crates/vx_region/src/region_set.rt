@@ -10,6 +10,8 @@ mod copies;
 mod edits;
 mod equality;
 mod family;
+#[cfg(test)]
+mod tests;
 
 use crate::id::Id;
 use crate::name::Name;
@@ -276,53 +278,4 @@ fn is_global_id(id: &Id) -> bool
     ensures { result ≡ is_global_id id.now.text.bytes }
 {
     id.as_str() == "__global__"
-}
-
-#[cfg(test)]
-mod tests {
-    use super::*;
-    use std::test::Fail;
-
-    #[test]
-    fn regions_are_defined_and_found(rt: HostRuntime) -> Result<(), Fail> {
-        let (spawn, farm) = (Id::read("spawn")?, Id::read("Farm")?);
-        let place = Pos::new(1, 1, 1);
-
-        let mut set = RegionSet::new(rt.alloc());
-        assert_eq!(rt; set.find(&spawn), None);
-        let first = set.define(rt.alloc(), spawn, Shape::cuboid(place, place))?;
-        assert_eq!(rt; set.find(&farm), None);
-        assert_eq!(rt; set.last(), 1);
-        let second = set.define(rt.alloc(), farm, Shape::cuboid(place, place))?;
-
-        assert_eq!(rt; [first.0, second.0], [1, 2]);
-        assert_eq!(rt; [set.count(), set.last()], [2, 2]);
-        assert_eq!(rt; set.find(&farm), Some(second));
-        assert!(rt; set.get(RegionNo(0)).is_none() && set.get(RegionNo(3)).is_none());
-        Ok(())
-    }
-
-    #[test]
-    fn owners_and_members_are_named(rt: HostRuntime) -> Result<(), Fail> {
-        let farm = Id::read("Farm")?;
-        let (ann, bob) = (Name::read("Ann")?, Name::read("bob")?);
-        let shape = Shape::cuboid(Pos::new(0, 0, 0), Pos::new(9, 9, 9));
-
-        let mut set = RegionSet::new(rt.alloc());
-        assert_eq!(rt; set.find(&farm), None);
-        let number = set.define(rt.alloc(), farm, shape)?;
-        assert!(rt; set.get(number).is_some());
-        set.add_owner(number, ann)?;
-        assert!(rt; set.get(number).is_some());
-        set.add_member(number, bob)?;
-
-        assert_eq!(rt; set.count(), 1);
-        let (first, region) = set.nth(0);
-        assert_eq!(rt; first, number);
-        assert_eq!(rt; region.id().as_str(), "farm");
-        assert!(rt; region.is_owner(&ann) && !region.is_owner(&bob));
-        assert!(rt; region.is_member(&bob) && !region.is_member(&ann));
-        assert!(rt; region.contains(Pos::new(9, 0, 9)) && !region.contains(Pos::new(10, 0, 9)));
-        Ok(())
-    }
 }

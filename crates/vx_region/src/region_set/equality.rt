@@ -67,33 +67,3 @@ impl Eq for RegionSet {
 
     ghost laws = { regions_equiv };
 }
-
-#[cfg(test)]
-mod tests {
-    use super::*;
-    use indexmap::IndexMap;
-    use vx_flag::{Flag, Group, Setting, State};
-
-    #[test]
-    fn the_last_number_and_the_flags_at_large_count(rt: HostRuntime) {
-        let deny = Setting {
-            state: State::Deny,
-            group: Group::All,
-        };
-
-        let mut set = RegionSet::new(rt.alloc());
-        let mut other = RegionSet::new(rt.alloc());
-        assert!(rt; set == other);
-        set.set_flag(RegionNo(0), Flag::Pistons, deny);
-        assert!(rt; set != other);
-        other.set_flag(RegionNo(0), Flag::Pistons, deny);
-        assert!(rt; set == other);
-
-        let later = RegionSet {
-            last: 1,
-            regions: IndexMap::new(rt.alloc()),
-            global: set.global,
-        };
-        assert!(rt; set != later);
-    }
-}

@@ -167,8 +167,7 @@ fn building_is_asked_where_no_flag_is_set(rt: HostRuntime) -> Result<(), Fail> {
     let field = defined(&rt, &mut regions, "field", 9)?;
     flagged(&rt, &mut regions, field, Flag::Build, State::Allow);
 
-    let script =
-        "world 1 1 1\nplayer ann\nas ann place 7 1 7 stone\nas ann place 12 1 5 stone\n";
+    let script = "world 1 1 1\nplayer ann\nas ann place 7 1 7 stone\nas ann place 12 1 5 stone\n";
     let mut output = paper(alloc);
     let got = run(alloc, &mut pieces(script, 7), &mut output, regions);
     assert_eq!(rt; got, Ok(()));
@@ -191,13 +190,7 @@ fn defined(
     Ok(regions.define(rt.alloc(), id, shape)?)
 }
 
-fn flagged(
-    rt: &impl Abort,
-    regions: &mut RegionSet,
-    number: RegionNo,
-    flag: Flag,
-    state: State,
-) {
+fn flagged(rt: &impl Abort, regions: &mut RegionSet, number: RegionNo, flag: Flag, state: State) {
     let setting = Setting {
         state,
         group: Group::All,

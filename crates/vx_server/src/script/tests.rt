@@ -135,45 +135,50 @@ fn a_region_stands_against_a_stranger(rt: HostRuntime) -> Result<(), Fail> {
     Ok(())
 }
 
-// A spawn that anybody may add to and nobody take from, and a square in it that asks `build`.
 #[test]
 fn each_reply_names_its_rule(rt: HostRuntime) -> Result<(), Fail> {
-    let alloc = rt.alloc();
-    let mut regions = RegionSet::new(alloc);
-    let spawn = defined(&rt, &mut regions, "spawn", 9)?;
-    flagged(&rt, &mut regions, spawn, Flag::BlockPlace, State::Allow);
-    flagged(&rt, &mut regions, spawn, Flag::BlockBreak, State::Deny);
-    let square = defined(&rt, &mut regions, "square", 5)?;
-    flagged(&rt, &mut regions, square, Flag::Build, State::Deny);
-    adopted(&rt, &mut regions, square, spawn);
-    let wild = RegionNo(0);
-    flagged(&rt, &mut regions, wild, Flag::Passthrough, State::Deny);
-
     let script =
         "world 1 1 1\nplayer ann\nas ann place 7 1 7 stone\nas ann break 7 1 7\nas ann break 5 1 5\nas ann place 12 1 5 stone\nas ann look 7 1 7\n";
-    let mut output = paper(alloc);
-    let got = run(alloc, &mut pieces(script, 7), &mut output, regions);
-    assert_eq!(rt; got, Ok(()));
-    let want =
+    let replies =
         "ok flag block-place at 1 from 1\nrefused 2 flag block-break at 1 from 1\nrefused 2 flag block-break at 2 from 1\nrefused 2 member at 0\nseen stone\ndone ticks 0 calls 5\n";
-    assert_eq!(rt; output.text.as_slice(), want.as_bytes());
+    ruled(&rt, spawn(&rt)?, script, replies);
     Ok(())
 }
 
 #[test]
 fn building_is_asked_where_no_flag_is_set(rt: HostRuntime) -> Result<(), Fail> {
-    let alloc = rt.alloc();
-    let mut regions = RegionSet::new(alloc);
-    let field = defined(&rt, &mut regions, "field", 9)?;
-    flagged(&rt, &mut regions, field, Flag::Build, State::Allow);
-
     let script = "world 1 1 1\nplayer ann\nas ann place 7 1 7 stone\nas ann place 12 1 5 stone\n";
-    let mut output = paper(alloc);
-    let got = run(alloc, &mut pieces(script, 7), &mut output, regions);
-    assert_eq!(rt; got, Ok(()));
-    let want = "ok build at 1 from 1\nok default\ndone ticks 0 calls 2\n";
-    assert_eq!(rt; output.text.as_slice(), want.as_bytes());
+    let replies = "ok build at 1 from 1\nok default\ndone ticks 0 calls 2\n";
+    ruled(&rt, field(&rt)?, script, replies);
     Ok(())
+}
+
+fn ruled(rt: &(impl Abort + Alloc<A = Global>), regions: RegionSet, script: &str, replies: &str) {
+    let mut output = paper(rt.alloc());
+    let got = run(rt.alloc(), &mut pieces(script, 7), &mut output, regions);
+    assert_eq!(rt; got, Ok(()));
+    assert_eq!(rt; output.text.as_slice(), replies.as_bytes());
+}
+
+// A spawn that anybody may add to and nobody take from, with a square in it, in a wilderness where only builders may act.
+fn spawn(rt: &(impl Abort + Alloc<A = Global>)) -> Result<RegionSet, Fail> {
+    let mut regions = RegionSet::new(rt.alloc());
+    defined(rt, &mut regions, "spawn", 9)?;
+    defined(rt, &mut regions, "square", 5)?;
+    let (spawn, square, wild) = (RegionNo(1), RegionNo(2), RegionNo(0));
+    flagged(rt, &mut regions, spawn, Flag::BlockPlace, State::Allow);
+    flagged(rt, &mut regions, spawn, Flag::BlockBreak, State::Deny);
+    flagged(rt, &mut regions, square, Flag::Build, State::Deny);
+    adopted(rt, &mut regions, square, spawn);
+    flagged(rt, &mut regions, wild, Flag::Passthrough, State::Deny);
+    Ok(regions)
+}
+
+fn field(rt: &(impl Abort + Alloc<A = Global>)) -> Result<RegionSet, Fail> {
+    let mut regions = RegionSet::new(rt.alloc());
+    defined(rt, &mut regions, "field", 9)?;
+    flagged(rt, &mut regions, RegionNo(1), Flag::Build, State::Allow);
+    Ok(regions)
 }
 
 // A region of all columns with x and z from 0 to the greatest.
@@ -182,12 +187,13 @@ fn defined(
     regions: &mut RegionSet,
     id: &str,
     most: i32,
-) -> Result<RegionNo, Fail> {
+) -> Result<(), Fail> {
     let id = Id::read(id)?;
     let shape = Shape::cuboid(Pos::new(0, 0, 0), Pos::new(most, 63, most));
     assert_eq!(rt; regions.find(&id), None);
     assert!(rt; regions.last() < 9);
-    Ok(regions.define(rt.alloc(), id, shape)?)
+    regions.define(rt.alloc(), id, shape)?;
+    Ok(())
 }
 
 fn flagged(rt: &impl Abort, regions: &mut RegionSet, number: RegionNo, flag: Flag, state: State) {

@@ -53,7 +53,9 @@ mod tests {
     #[test]
     fn reads_ids(rt: HostRuntime) -> Result<(), Fail> {
         assert_eq!(rt; Id::read("Spawn-2_x")?.as_str(), "spawn-2_x");
-        assert!(rt; Id::read("abcdefghijklmnopqrstuvwxyz-_1234").is_ok());
+        let long = Id::read("ABCDEFGHIJKLMNOPQRSTUVWXYZ-_1234")?;
+        let text = format!(in rt.alloc(); "{long}")?;
+        assert_eq!(rt; text.as_str(), "abcdefghijklmnopqrstuvwxyz-_1234");
         for text in ["", "abcdefghijklmnopqrstuvwxyz-_12345", "a!b", "é"] {
             assert_eq!(rt; Id::read(text), Err(BadId), "at {text:?}");
         }

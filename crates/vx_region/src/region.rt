@@ -1,4 +1,4 @@
-ghost use Rattle.std.specs.Prelude.{◌≡◌, option_map, Some, None, OnOk, OnErr};
+ghost use Rattle.std.specs.Prelude.{◌≡◌, false, option_map, Some, None, OnOk, OnErr};
 ghost use Rattle.std.specs.Bool.{Decides};
 ghost use Rattle.vx_flag.specs.Settings.{setting_of, with_setting};
 ghost use Rattle.vx_geom.specs.Outline.{is_in};
@@ -123,6 +123,8 @@ impl Region {
     pub(crate) fn add_owner(&mut self, name: Name) -> Result<(), AllocError>
         ensures ok { OnOk result (self.new ≡ record self.old { owners = with_name self.old.owners name.text.bytes }) }
         ensures err { OnErr result (self.new ≡ self.old) }
+        // A name that is there needs no room.
+        ensures absent { OnErr result (names self.old.owners name.text.bytes ≡ false) }
         ensures parent { self.new.parent ≡ self.old.parent }
     {
         let _added = self.owners.insert(name)?;
@@ -133,6 +135,8 @@ impl Region {
     pub(crate) fn add_member(&mut self, name: Name) -> Result<(), AllocError>
         ensures ok { OnOk result (self.new ≡ record self.old { members = with_name self.old.members name.text.bytes }) }
         ensures err { OnErr result (self.new ≡ self.old) }
+        // A name that is there needs no room.
+        ensures absent { OnErr result (names self.old.members name.text.bytes ≡ false) }
         ensures parent { self.new.parent ≡ self.old.parent }
     {
         let _added = self.members.insert(name)?;

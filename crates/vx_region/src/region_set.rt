@@ -1,5 +1,5 @@
 ghost use Rattle.std.specs.List.{list_any};
-ghost use Rattle.std.specs.Prelude.{◌≡◌, ◌+◌, ◌-◌, ◌^◌, ◌<◌, length, slice_get, option_map, option_copied, None, Some, IsSome, IfOk, OnOk, OnErr};
+ghost use Rattle.std.specs.Prelude.{◌≡◌, ◌+◌, ◌-◌, ◌^◌, ◌<◌, false, length, slice_get, option_map, option_copied, None, Some, IsSome, IfOk, OnOk, OnErr};
 ghost use Rattle.vx_region.specs.Ancestry.{ancestors, is_under, is_above};
 ghost use Rattle.vx_region.specs.Association.{owns, belongs, player_association, machine_association, association};
 ghost use Rattle.vx_region.specs.Forest.{IsForest};
@@ -258,6 +258,8 @@ impl RegionSet {
         requires { IsSome (region_at self.old number.0) }
         ensures ok { OnOk result (self.new ≡ with_owner self.old number.0 name.text.bytes) }
         ensures err { OnErr result (self.new ≡ self.old) }
+        // A name that is there needs no room.
+        ensures absent { OnErr result (owns self.old name.text.bytes number.0 ≡ false) }
     {
         self.regions.get_mut(&number.0).unwrap().add_owner(name)
     }
@@ -267,6 +269,8 @@ impl RegionSet {
         requires { IsSome (region_at self.old number.0) }
         ensures ok { OnOk result (self.new ≡ with_member self.old number.0 name.text.bytes) }
         ensures err { OnErr result (self.new ≡ self.old) }
+        // A name that is there needs no room.
+        ensures absent { OnErr result (belongs self.old name.text.bytes number.0 ≡ false) }
     {
         self.regions.get_mut(&number.0).unwrap().add_member(name)
     }

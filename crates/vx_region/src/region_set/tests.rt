@@ -157,6 +157,14 @@ fn a_copy_stays_as_it_was(rt: HostRuntime) -> Result<(), Fail> {
     Ok(())
 }
 
+#[test]
+fn a_set_without_regions_is_copied(rt: HostRuntime) -> Result<(), Fail> {
+    let set = RegionSet::new(rt.alloc());
+    let copy = set.try_clone()?;
+    assert!(rt; copy == set);
+    Ok(())
+}
+
 // Regions with these ids, numbered from 1, each at one position.
 fn land(rt: &(impl Abort + Alloc<A = Global>), ids: &[&str]) -> Result<RegionSet, Fail> {
     let mut set = RegionSet::new(rt.alloc());

@@ -44,16 +44,12 @@ impl Shape {
 
     /// The polygon over the columns with these points, each an x and a z, from the height `y0` up to `y1`. It keeps the list
     /// handed in. Edges may cross one another: the even-odd rule in docs/RULES.md says what is inside.
-    #[tactic(auto, unfolding(crate::specs::Outline::is_polygon))]
     pub fn poly(points: Vec<(i32, i32)>, y0: i32, y1: i32) -> Result<Shape, BadShape>
         ensures ok { IfOk result (λ shape. shape ≡ Polygon points.items y0 y1) }
         ensures good { OnOk result (is_polygon points.items y0 y1 ≡ true) }
         ensures bad { OnErr result (is_polygon points.items y0 y1 ≡ false) }
     {
-        if !(3..=64).contains(&points.len()) {
-            return Err(BadShape);
-        }
-        if y0 > y1 {
+        if !is_polygon(&points, y0, y1) {
             return Err(BadShape);
         }
         Ok(Shape {
@@ -126,6 +122,17 @@ impl Eq for Shape {
     ghost use Rattle.vx_geom.specs.OutlineLaws.{outlines_equiv};
 
     ghost laws = { outlines_equiv };
+}
+
+/// Whether these points between these heights are a polygon.
+#[tactic(auto, unfolding(crate::specs::Outline::is_polygon))]
+pub(crate) fn is_polygon(points: &[(i32, i32)], y0: i32, y1: i32) -> bool
+    ensures { result ≡ is_polygon points.now y0 y1 }
+{
+    if !(3..=64).contains(&points.len()) {
+        return false;
+    }
+    y0 <= y1
 }
 
 impl ShapeKind {

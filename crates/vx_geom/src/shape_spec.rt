@@ -1,10 +1,10 @@
-ghost use Rattle.std.specs.Prelude.{◌≡◌, IfOk};
+ghost use Rattle.std.specs.Prelude.{◌≡◌, is_some, IfOk};
 ghost use Rattle.std.specs.Result.{result_ok};
 ghost use Rattle.vx_geom.specs.Written.{written, outline_asked};
 
 use crate::bad_shape::BadShape;
 use crate::pos::Pos;
-use crate::shape::Shape;
+use crate::shape::{Shape, is_polygon};
 use std::alloc::{AllocError, Global};
 
 /// A shape as an edit or a file names it, before anything is asked of it.
@@ -17,6 +17,17 @@ pub enum ShapeSpec {
 }
 
 impl ShapeSpec {
+    /// Whether what is specified is a shape.
+    #[tactic(auto, unfolding(crate::specs::Written::outline_asked))]
+    pub fn is_shape(&self) -> bool
+        ensures { result ≡ is_some (outline_asked (written self.now)) }
+    {
+        match self {
+            ShapeSpec::Cuboid(_, _) => true,
+            ShapeSpec::Poly(points, low, high) => is_polygon(points, *low, *high),
+        }
+    }
+
     /// The shape that is specified. It takes no memory.
     #[tactic(auto, unfolding(crate::specs::Written::outline_asked))]
     pub fn shape(self) -> Result<Shape, BadShape>
@@ -58,6 +69,7 @@ mod tests {
             2,
             6,
         );
+        assert!(rt; polygon.is_shape());
         let copy = polygon.try_clone(rt.alloc())?.shape()?;
         assert!(rt; copy.contains(Pos::new(1, 2, 1)));
         assert!(rt; copy == polygon.shape()?);

@@ -1,0 +1,4 @@
+pub mod Asked
+pub mod Edits
+pub mod Refusals
+pub mod Texts

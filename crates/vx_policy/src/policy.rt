@@ -1,0 +1,60 @@
+ghost use Rattle.std.specs.Prelude.{◌≡◌, IfOk};
+ghost use Rattle.std.specs.Bool.{Decides};
+ghost use Rattle.vx_region.specs.Regions.{no_regions};
+
+mod changes;
+mod refusals;
+
+use std::alloc::{AllocError, Global};
+use std::marker::Model;
+use std::sync::Arc;
+use vx_region::RegionSet;
+
+/// The written policy: a set of regions that is changed by edits. Copies share it until one of them is changed.
+#[derive(Debug, Drop)]
+pub struct Policy {
+    regions: Arc<RegionSet>,
+}
+
+impl Model for Policy {
+    ghost use Rattle.std.specs.Arc.{arc_value};
+    ghost use Rattle.vx_region.specs.Regions.{Regions};
+
+    ghost Value = { Regions };
+
+    ghost view = { λ a. arc_value a.regions };
+}
+
+impl Policy {
+    /// The policy without regions.
+    pub fn new(alloc: Global) -> Result<Policy, AllocError>
+        ensures { IfOk result (λ policy. policy ≡ no_regions) }
+    {
+        Ok(Policy {
+            regions: Arc::new(alloc, RegionSet::new(alloc))?,
+        })
+    }
+
+    /// The regions as they are now.
+    pub fn regions(&self) -> &RegionSet
+        ensures { result.now ≡ self.now }
+    {
+        &self.regions
+    }
+
+    /// A copy of the policy, which shares its regions. A change of one is no change of the other.
+    pub fn try_clone(&self) -> Result<Policy, AllocError>
+        ensures { IfOk result (λ copy. copy ≡ self.now) }
+    {
+        Ok(Policy {
+            regions: Arc::try_clone(&self.regions)?,
+        })
+    }
+
+    /// Whether both have the same regions, in every part, and the same flags of the world at large.
+    pub fn same(&self, other: &Policy) -> bool
+        ensures { Decides result (self.now ≡ other.now) }
+    {
+        self.regions.same(&other.regions)
+    }
+}

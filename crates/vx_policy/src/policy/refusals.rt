@@ -1,0 +1,223 @@
+//! Why an edit is refused. Nothing here takes memory or changes anything.
+ghost use Rattle.std.specs.Prelude.{◌≡◌, ◌≢◌, Some, None, option_map, MatchResult, OnOk};
+ghost use Rattle.vx_geom.specs.Written.{written};
+ghost use Rattle.vx_policy.specs.Asked.{Define, Reshape, Remove, Priority, Parent, SetFlag, ClearFlag, Owner, Member, asked};
+ghost use Rattle.vx_policy.specs.Refusals.{refusal, is_full, is_name, numbered};
+ghost use Rattle.vx_region.specs.Regions.{number_of};
+
+use crate::edit::Edit;
+use crate::edit_refusal::EditRefusal;
+use crate::listing::Listing;
+use crate::policy::Policy;
+use vx_flag::{Flag, Setting};
+use vx_geom::ShapeSpec;
+use vx_region::{Id, Name, RegionNo, RegionSet};
+
+/// How many regions there may be.
+const REGIONS: u32 = 4_096;
+
+impl Policy {
+    /// Why the edit is refused as things stand: the first cause that stands against it, in the order of docs/RULES.md.
+    pub fn refusal(&self, edit: &Edit) -> Option<EditRefusal>
+        ensures { result ≡ refusal self.now (asked edit.now) }
+    {
+        let regions = self.regions();
+        match edit {
+            Edit::Define(id, shape) => of_definition(regions, id, shape),
+            Edit::Reshape(id, shape) => of_reshape(regions, id, shape),
+            Edit::Remove(id) => of_removal(regions, id),
+            Edit::Priority(id, priority) => of_priority(regions, id, *priority),
+            Edit::Parent(id, None) => of_orphaning(regions, id),
+            Edit::Parent(id, Some(parent)) => of_parent(regions, id, parent),
+            Edit::SetFlag(id, flag, setting) => of_flag(regions, id, *flag, *setting),
+            Edit::ClearFlag(id, flag) => of_clearing(regions, id, *flag),
+            Edit::Owner(id, listing, name) => of_owner(regions, id, *listing, name),
+            Edit::Member(id, listing, name) => of_member(regions, id, *listing, name),
+        }
+    }
+}
+
+#[tactic(auto, unfolding(crate::specs::Refusals::refusal, crate::specs::Refusals::is_id, crate::specs::Refusals::is_known, crate::specs::Refusals::is_at_large, crate::specs::Refusals::numbered))]
+fn of_definition(regions: &RegionSet, id: &str, shape: &ShapeSpec) -> Option<EditRefusal>
+    ensures { result ≡ refusal regions.now (Define id.now (written shape.now)) }
+{
+    let Ok(id) = Id::read(id) else {
+        return Some(EditRefusal::BadId);
+    };
+    if !shape.is_shape() {
+        return Some(EditRefusal::BadShape);
+    }
+    if regions.find(&id).is_some() {
+        return Some(EditRefusal::Known);
+    }
+    if is_full(regions) {
+        return Some(EditRefusal::TooManyRegions);
+    }
+    None
+}
+
+#[tactic(auto, unfolding(crate::specs::Refusals::refusal, crate::specs::Refusals::is_id, crate::specs::Refusals::is_known, crate::specs::Refusals::is_at_large, crate::specs::Refusals::numbered))]
+fn of_reshape(regions: &RegionSet, id: &str, shape: &ShapeSpec) -> Option<EditRefusal>
+    ensures { result ≡ refusal regions.now (Reshape id.now (written shape.now)) }
+{
+    let Ok(id) = Id::read(id) else {
+        return Some(EditRefusal::BadId);
+    };
+    if !shape.is_shape() {
+        return Some(EditRefusal::BadShape);
+    }
+    let Some(number) = regions.find(&id) else {
+        return Some(EditRefusal::Unknown);
+    };
+    if number.0 == 0 {
+        return Some(EditRefusal::GlobalHasNone);
+    }
+    None
+}
+
+#[tactic(auto, unfolding(crate::specs::Refusals::refusal, crate::specs::Refusals::is_id, crate::specs::Refusals::is_known, crate::specs::Refusals::is_at_large, crate::specs::Refusals::numbered))]
+fn of_removal(regions: &RegionSet, id: &str) -> Option<EditRefusal>
+    ensures { result ≡ refusal regions.now (Remove id.now) }
+{
+    let Ok(id) = Id::read(id) else {
+        return Some(EditRefusal::BadId);
+    };
+    let Some(number) = regions.find(&id) else {
+        return Some(EditRefusal::Unknown);
+    };
+    if number.0 == 0 {
+        return Some(EditRefusal::GlobalHasNone);
+    }
+    if regions.has_child(number) {
+        return Some(EditRefusal::HasChildren);
+    }
+    None
+}
+
+#[tactic(auto, unfolding(crate::specs::Refusals::refusal, crate::specs::Refusals::is_id, crate::specs::Refusals::is_known, crate::specs::Refusals::is_at_large, crate::specs::Refusals::numbered))]
+fn of_priority(regions: &RegionSet, id: &str, priority: i32) -> Option<EditRefusal>
+    ensures { result ≡ refusal regions.now (Priority id.now priority) }
+{
+    let Ok(id) = Id::read(id) else {
+        return Some(EditRefusal::BadId);
+    };
+    let Some(number) = regions.find(&id) else {
+        return Some(EditRefusal::Unknown);
+    };
+    if number.0 == 0 {
+        return Some(EditRefusal::GlobalHasNone);
+    }
+    None
+}
+
+#[tactic(auto, unfolding(crate::specs::Refusals::refusal, crate::specs::Refusals::is_id, crate::specs::Refusals::is_known, crate::specs::Refusals::is_at_large, crate::specs::Refusals::numbered))]
+fn of_orphaning(regions: &RegionSet, id: &str) -> Option<EditRefusal>
+    ensures { result ≡ refusal regions.now (Parent id.now None) }
+{
+    let Ok(id) = Id::read(id) else {
+        return Some(EditRefusal::BadId);
+    };
+    let Some(number) = regions.find(&id) else {
+        return Some(EditRefusal::Unknown);
+    };
+    if number.0 == 0 {
+        return Some(EditRefusal::GlobalHasNone);
+    }
+    None
+}
+
+#[tactic(auto, unfolding(crate::specs::Refusals::refusal, crate::specs::Refusals::is_id, crate::specs::Refusals::is_known, crate::specs::Refusals::is_at_large, crate::specs::Refusals::numbered))]
+fn of_parent(regions: &RegionSet, id: &str, parent: &str) -> Option<EditRefusal>
+    ensures { result ≡ refusal regions.now (Parent id.now (Some parent.now)) }
+{
+    let Ok(id) = Id::read(id) else {
+        return Some(EditRefusal::BadId);
+    };
+    let Ok(parent) = Id::read(parent) else {
+        return Some(EditRefusal::BadId);
+    };
+    let Some(number) = regions.find(&id) else {
+        return Some(EditRefusal::Unknown);
+    };
+    let Some(above) = regions.find(&parent) else {
+        return Some(EditRefusal::Unknown);
+    };
+    if number.0 == 0 || above.0 == 0 {
+        return Some(EditRefusal::GlobalHasNone);
+    }
+    if regions.under(above, number) {
+        return Some(EditRefusal::Cycle);
+    }
+    None
+}
+
+#[tactic(auto, unfolding(crate::specs::Refusals::refusal, crate::specs::Refusals::is_id, crate::specs::Refusals::is_known, crate::specs::Refusals::is_at_large, crate::specs::Refusals::numbered))]
+fn of_flag(regions: &RegionSet, id: &str, flag: Flag, setting: Setting) -> Option<EditRefusal>
+    ensures { result ≡ refusal regions.now (SetFlag id.now flag setting) }
+{
+    let Ok(id) = Id::read(id) else {
+        return Some(EditRefusal::BadId);
+    };
+    match regions.find(&id) {
+        Some(_) => None,
+        None => Some(EditRefusal::Unknown),
+    }
+}
+
+#[tactic(auto, unfolding(crate::specs::Refusals::refusal, crate::specs::Refusals::is_id, crate::specs::Refusals::is_known, crate::specs::Refusals::is_at_large, crate::specs::Refusals::numbered))]
+fn of_clearing(regions: &RegionSet, id: &str, flag: Flag) -> Option<EditRefusal>
+    ensures { result ≡ refusal regions.now (ClearFlag id.now flag) }
+{
+    let Ok(id) = Id::read(id) else {
+        return Some(EditRefusal::BadId);
+    };
+    match regions.find(&id) {
+        Some(_) => None,
+        None => Some(EditRefusal::Unknown),
+    }
+}
+
+#[tactic(auto, unfolding(crate::specs::Refusals::refusal, crate::specs::Refusals::is_id, crate::specs::Refusals::is_name, crate::specs::Refusals::is_known, crate::specs::Refusals::is_at_large, crate::specs::Refusals::numbered))]
+fn of_owner(regions: &RegionSet, id: &str, listing: Listing, name: &str) -> Option<EditRefusal>
+    ensures { result ≡ refusal regions.now (Owner id.now listing name.now) }
+{
+    let Ok(id) = Id::read(id) else {
+        return Some(EditRefusal::BadId);
+    };
+    if Name::read(name).is_err() {
+        return Some(EditRefusal::BadName);
+    }
+    let Some(number) = regions.find(&id) else {
+        return Some(EditRefusal::Unknown);
+    };
+    if number.0 == 0 {
+        return Some(EditRefusal::GlobalHasNone);
+    }
+    None
+}
+
+#[tactic(auto, unfolding(crate::specs::Refusals::refusal, crate::specs::Refusals::is_id, crate::specs::Refusals::is_name, crate::specs::Refusals::is_known, crate::specs::Refusals::is_at_large, crate::specs::Refusals::numbered))]
+fn of_member(regions: &RegionSet, id: &str, listing: Listing, name: &str) -> Option<EditRefusal>
+    ensures { result ≡ refusal regions.now (Member id.now listing name.now) }
+{
+    let Ok(id) = Id::read(id) else {
+        return Some(EditRefusal::BadId);
+    };
+    if Name::read(name).is_err() {
+        return Some(EditRefusal::BadName);
+    }
+    let Some(number) = regions.find(&id) else {
+        return Some(EditRefusal::Unknown);
+    };
+    if number.0 == 0 {
+        return Some(EditRefusal::GlobalHasNone);
+    }
+    None
+}
+
+#[tactic(auto, unfolding(crate::specs::Refusals::is_full))]
+fn is_full(regions: &RegionSet) -> bool
+    ensures { result ≡ is_full regions.now }
+{
+    REGIONS <= regions.count() || regions.last() == u32::MAX
+}

@@ -1,13 +1,11 @@
 //! The server: runs the script that comes on standard input, and writes the replies to standard output.
 #![tactic(auto)]
 
-mod script;
-
-use script::{Fault, run};
 use std::io;
 use std::io::BufWriter;
 use std::process::ExitCode;
 use vx_region::RegionSet;
+use vx_script::{Fault, run};
 
 /// How many bytes of replies are kept before they are written.
 const OUTPUT_BYTES: usize = 65_536;

@@ -1,0 +1,170 @@
+-- A run faults at its first faulty line.
+use Rattle.std.proofs.Common.{◌≡◌, ◌≢◌, ℕ, ◌+◌, Bool, true, false, List, [], ◌∷◌, ◌++◌, length, Option, Some, None, is_some, nat_lt, Result, Ok, Err, if◌then◌else◌, refl, ap, sym, ◌∙◌, subst, arith}
+use Rattle.vx_region.specs.Regions.{Regions}
+use Rattle.std.proofs.lemmas.Bool.{and_parts}
+use Rattle.vx_cells.specs.SectorCells.{SectorCells}
+use Rattle.vx_sector.specs.SectorData.{SeatData}
+use Rattle.vx_sector.specs.Acting.{answer_of, sector_after}
+use Rattle.vx_sector.specs.declared.cmd.Cmd.{Cmd}
+use Rattle.vx_script.specs.declared.fault.Fault.{Fault}
+use Rattle.vx_script.specs.declared.fault.Fault.TheVariants.{Syntax, TooManyPlayers}
+use Rattle.vx_script.specs.ScriptLines.{Said, Nothing, World, Player, Set, Act}
+use Rattle.vx_script.specs.Lines.{lines_of}
+use Rattle.vx_script.specs.Transcript.{Opening, Play, read_of, prepend, or_syntax, played, seat_named, body_turn, body_run, and_play, begun, begun_with, first_command, is_named, header_after, header_turn, header_end, is_peopled, done_text, most_players, line_text, answer_text, header_run, no_opening, transcript}
+use Rattle.vx_script.specs.FirstFault.{IsFirstFault, FirstFault}
+
+-- the fault is at the first line
+at_once : (run : List (List ℕ) → Result (List ℕ) Fault) (n k : ℕ) (line : List ℕ) (lines : List (List ℕ)) → k ≡ n → ((j : ℕ) → run [] ≢ Err (Syntax j))
+    → IsFirstFault run n (line ∷ lines) k
+at_once run n k line lines same sound = record { before = []; faulty = line; behind = lines; parts = refl; number = omega (arith, same); sound = sound }
+
+-- the fault is further on
+further_on : (run next : List (List ℕ) → Result (List ℕ) Fault) (n k : ℕ) (line : List ℕ) (lines : List (List ℕ)) → IsFirstFault next (n + 1) lines k
+    → ((before : List (List ℕ)) (j : ℕ) → run (line ∷ before) ≡ Err (Syntax j) → next before ≡ Err (Syntax j)) → IsFirstFault run n (line ∷ lines) k
+further_on run next n k line lines first same = record {
+  before = line ∷ first.before;
+  faulty = first.faulty;
+  behind = first.behind;
+  parts = ap (λ ls. line ∷ ls) first.parts;
+  number = omega (arith, first.number);
+  sound = λ j fault. first.sound j (same first.before j fault);
+}
+
+behind_text : (text : List ℕ) (r : Result (List ℕ) Fault) (k : ℕ) → prepend text r ≡ Err (Syntax k) → r ≡ Err (Syntax k)
+behind_text text (Ok t) k same = cc
+behind_text text (Err fault) k same = same
+
+module _ (play : Play) (n : ℕ) (line : List ℕ) (lines : List (List ℕ)) (k : ℕ) where
+  body_done : (j : ℕ) → body_run play n [] ≢ Err (Syntax j)
+  body_done j fault = cc
+
+  -- a line of the body, by what it says
+  body_line : (said : Option Said) → read_of line ≡ said → ((next : Play) → body_run next (n + 1) lines ≡ Err (Syntax k) → IsFirstFault (body_run next (n + 1)) (n + 1) lines k)
+      → body_turn play n said (λ next. body_run next (n + 1) lines) ≡ Err (Syntax k) → IsFirstFault (body_run play n) n (line ∷ lines) k
+  unfolding body_turn
+  body_line None reads later fault = at_once _ n k line lines (cc) body_done
+  body_line (Some Nothing) reads later fault =
+      further_on _ (body_run play (n + 1)) n k line lines (later play fault)
+      (λ before j at. sym (ap (λ said. body_turn play n said (λ next. body_run next (n + 1) before)) reads) ∙ at)
+  body_line (Some (World sizes)) reads later fault = at_once _ n k line lines (cc) body_done
+  body_line (Some (Player name)) reads later fault = at_once _ n k line lines (cc) body_done
+  body_line (Some (Set p part)) reads later fault = at_once _ n k line lines (cc) body_done
+  body_line (Some (Act name cmd)) reads later fault = by (seat_named play name) refl fault
+    where
+      by : (seat : Option SeatData) → seat_named play name ≡ seat → or_syntax n seat (played play cmd (λ next. body_run next (n + 1) lines)) ≡ Err (Syntax k)
+          → IsFirstFault (body_run play n) n (line ∷ lines) k
+      by None none at = at_once _ n k line lines (cc) body_done
+      by (Some seat) found at =
+          let next = record play { sector = sector_after play.sector seat cmd (answer_of play.sector seat cmd) } in
+          let text = line_text (answer_text (answer_of play.sector seat cmd)) in
+          further_on _ (body_run next (n + 1)) n k line lines (later next (behind_text text _ k at))
+          (λ before j fault. behind_text text _ j (sym (turned before) ∙ fault))
+        where
+          turned : (before : List (List ℕ)) → body_run play n (line ∷ before) ≡ played play cmd (λ next. body_run next (n + 1) before) seat
+          turned before = ap (λ said. body_turn play n said (λ next. body_run next (n + 1) before)) reads
+              ∙ ap (λ o. or_syntax n o (played play cmd (λ next. body_run next (n + 1) before))) found
+
+-- the body faults at its first faulty line
+body_fault : (play : Play) (n : ℕ) (lines : List (List ℕ)) (k : ℕ) → body_run play n lines ≡ Err (Syntax k) → IsFirstFault (body_run play n) n lines k
+body_fault play n [] k fault = cc
+body_fault play n (line ∷ lines) k fault = body_line play n line lines k (read_of line) refl (λ next at. body_fault next (n + 1) lines k at) fault
+
+abbrev world_of : Regions → List (List ℕ) → SectorCells → Play
+world_of rs players cells = record { sector = record { cells = cells; regions = rs; entries = [] }; names = players }
+
+begun_sound : (rs : Regions) (players : List (List ℕ)) (n : ℕ) (cells : Option SectorCells) (body : Play → Result (List ℕ) Fault) (k : ℕ)
+    → is_some cells ≡ true → ((play : Play) → body play ≢ Err (Syntax k)) → and_play (begun_with rs players n cells) body ≢ Err (Syntax k)
+begun_sound rs players n None body k some sound fault = cc
+begun_sound rs players n (Some cells) body k some sound fault = by (nat_lt most_players (length players)) fault
+  where
+    by : (b : Bool) → and_play (if b then Err TooManyPlayers else Ok (world_of rs players cells)) body ≡ Err (Syntax k) → ⊥
+    by true at = cc
+    by false at = sound _ at
+
+-- a script that ends in its header has no faulty line
+end_sound : (rs : Regions) (o : Opening) (n k : ℕ) → header_end rs o n ≢ Err (Syntax k)
+unfolding header_end begun
+end_sound rs o n k fault = by (is_peopled o) refl fault
+  where
+    by : (b : Bool) → is_peopled o ≡ b → (if b then and_play (begun_with rs o.names n o.cells) (λ play. Ok (done_text play)) else Ok []) ≡ Err (Syntax k) → ⊥
+    by true peopled at = begun_sound rs o.names n o.cells _ k (and_parts _ _ peopled).0 (λ play wrong. cc) at
+    by false empty at = cc
+
+module _ (rs : Regions) (o : Opening) (n : ℕ) (line : List ℕ) (lines : List (List ℕ)) (k : ℕ) where
+  -- a line that the header takes, and what follows it
+  header_on : (said : Said) → read_of line ≡ Some said
+      → ((go : Opening → Result (List ℕ) Fault) (body : Play → Result (List ℕ) Fault) → header_turn rs o n (Some said) go body ≡ or_syntax n (header_after o said) go)
+      → ((next : Opening) → header_run rs next (n + 1) lines ≡ Err (Syntax k) → IsFirstFault (header_run rs next (n + 1)) (n + 1) lines k)
+      → or_syntax n (header_after o said) (λ next. header_run rs next (n + 1) lines) ≡ Err (Syntax k) → IsFirstFault (header_run rs o n) n (line ∷ lines) k
+  header_on said reads turns later fault = by (header_after o said) refl fault
+    where
+      by : (after : Option Opening) → header_after o said ≡ after → or_syntax n after (λ next. header_run rs next (n + 1) lines) ≡ Err (Syntax k)
+          → IsFirstFault (header_run rs o n) n (line ∷ lines) k
+      by None none at = at_once _ n k line lines (cc) (λ j. end_sound rs o n j)
+      by (Some next) taken at =
+          further_on _ (header_run rs next (n + 1)) n k line lines (later next at)
+          (λ before j fault. sym (ap (λ read. header_turn rs o n read (λ next. header_run rs next (n + 1) before) (λ play. body_run play n (line ∷ before))) reads
+          ∙ turns (λ next. header_run rs next (n + 1) before) (λ play. body_run play n (line ∷ before))
+          ∙ ap (λ a. or_syntax n a (λ next. header_run rs next (n + 1) before)) taken)
+          ∙ fault)
+
+  -- a fault of the body is one of the script, where the header hands it the first command
+  handed_on : (play : Play) → ((before : List (List ℕ)) → header_run rs o n (line ∷ before) ≡ body_run play n (line ∷ before))
+      → IsFirstFault (body_run play n) n (line ∷ lines) k → IsFirstFault (header_run rs o n) n (line ∷ lines) k
+  handed_on play same first = record {
+    before = first.before;
+    faulty = first.faulty;
+    behind = first.behind;
+    parts = first.parts;
+    number = first.number;
+    sound = λ j. sound first.before j first.parts (first.sound j);
+  }
+    where
+      sound : (before : List (List ℕ)) (j : ℕ) → line ∷ lines ≡ before ++ first.faulty ∷ first.behind → body_run play n before ≢ Err (Syntax j) → header_run rs o n before ≢ Err (Syntax j)
+      sound [] j parts runs fault = end_sound rs o n j fault
+      sound (own ∷ before) j parts runs fault =
+          let own_is : line ≡ own = cc in
+          runs (sym (subst (λ l. header_run rs o n (l ∷ before) ≡ body_run play n (l ∷ before)) own_is (same before)) ∙ fault)
+
+  begun_fault : (cells : Option SectorCells) → (fault : Fault) → begun_with rs o.names n cells ≡ Err fault → fault ≡ Syntax k → k ≡ n
+  begun_fault None fault made is = cc
+  begun_fault (Some cells) fault made is = by (nat_lt most_players (length o.names)) made
+    where
+      by : (b : Bool) → (if b then Err TooManyPlayers else Ok (world_of rs o.names cells)) ≡ Err fault → k ≡ n
+      by true at = cc
+      by false at = cc
+
+  -- the first command: the body faults from there on
+  header_last : (name : List ℕ) (cmd : Cmd) → read_of line ≡ Some (Act name cmd)
+      → first_command rs o n name (λ play. body_run play n (line ∷ lines)) ≡ Err (Syntax k) → IsFirstFault (header_run rs o n) n (line ∷ lines) k
+  unfolding header_turn begun
+  header_last name cmd reads fault = by (is_named o.names name) refl (begun_with rs o.names n o.cells) refl fault
+    where
+      by : (b : Bool) → is_named o.names name ≡ b → (made : Result Play Fault) → begun_with rs o.names n o.cells ≡ made
+          → (if b then and_play made (λ play. body_run play n (line ∷ lines)) else Err (Syntax n)) ≡ Err (Syntax k) → IsFirstFault (header_run rs o n) n (line ∷ lines) k
+      by false unknown made makes at = at_once _ n k line lines (cc) (λ j. end_sound rs o n j)
+      by true known (Err fault) makes at = at_once _ n k line lines (let is : fault ≡ Syntax k = cc in begun_fault o.cells fault makes is) (λ j. end_sound rs o n j)
+      by true known (Ok play) makes at = handed_on play same (body_fault play n (line ∷ lines) k at)
+        where
+          same : (before : List (List ℕ)) → header_run rs o n (line ∷ before) ≡ body_run play n (line ∷ before)
+          same before = ap (λ read. header_turn rs o n read (λ next. header_run rs next (n + 1) before) (λ play. body_run play n (line ∷ before))) reads
+              ∙ ap (λ b. if b then and_play (begun_with rs o.names n o.cells) (λ play. body_run play n (line ∷ before)) else Err (Syntax n)) known
+              ∙ ap (λ made. and_play made (λ play. body_run play n (line ∷ before))) makes
+
+  header_line : (said : Option Said) → read_of line ≡ said → ((next : Opening) → header_run rs next (n + 1) lines ≡ Err (Syntax k) → IsFirstFault (header_run rs next (n + 1)) (n + 1) lines k)
+      → header_turn rs o n said (λ next. header_run rs next (n + 1) lines) (λ play. body_run play n (line ∷ lines)) ≡ Err (Syntax k) → IsFirstFault (header_run rs o n) n (line ∷ lines) k
+  unfolding header_turn
+  header_line None reads later fault = at_once _ n k line lines (cc) (λ j. end_sound rs o n j)
+  header_line (Some Nothing) reads later fault = header_on Nothing reads (λ go body. refl) later fault
+  header_line (Some (World sizes)) reads later fault = header_on (World sizes) reads (λ go body. refl) later fault
+  header_line (Some (Player name)) reads later fault = header_on (Player name) reads (λ go body. refl) later fault
+  header_line (Some (Set p part)) reads later fault = header_on (Set p part) reads (λ go body. refl) later fault
+  header_line (Some (Act name cmd)) reads later fault = header_last name cmd reads fault
+
+header_fault : (rs : Regions) (o : Opening) (n : ℕ) (lines : List (List ℕ)) (k : ℕ) → header_run rs o n lines ≡ Err (Syntax k) → IsFirstFault (header_run rs o n) n lines k
+header_fault rs o n [] k fault = absurd (end_sound rs o n k fault)
+header_fault rs o n (line ∷ lines) k fault = header_line rs o n line lines k (read_of line) refl (λ next at. header_fault rs next (n + 1) lines k at) fault
+
+pub first_fault : FirstFault
+unfolding transcript
+first_fault rs script k fault = header_fault rs no_opening 1 (lines_of script) k fault

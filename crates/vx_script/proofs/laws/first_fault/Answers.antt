@@ -1,0 +1,5 @@
+use Rattle.vx_script.proofs.Faults.{first_fault}
+use Rattle.vx_script.proofs.laws.first_fault.Goals as goal
+
+pub returns : goal.returns
+returns c = first_fault

@@ -1,0 +1,9 @@
+use Rattle.std.proofs.Common.{◌≡◌, drop}
+use Rattle.vx_region.specs.Texts.{texts}
+use Rattle.vx_script.specs.Transcript.{number_from}
+use Rattle.vx_script.proofs.names.number_of.Given as goal
+
+-- no name so far is the one
+abbrev pub invariant-loop-number : goal.invariant-loop-number
+invariant-loop-number l =
+    number_from l.number (texts (drop l.number l.names)) l.name.text.bytes ≡ number_from 0 (texts l.names) l.name.text.bytes

@@ -1,0 +1,21 @@
+//! The script: its lines, what they mean, and the replies to them.
+#![tactic(auto)]
+
+mod arguments;
+mod fault;
+mod header;
+mod input;
+pub mod laws;
+mod line;
+mod lines;
+mod names;
+mod number;
+mod play;
+mod reading;
+mod running;
+#[cfg(test)]
+mod tests;
+mod words;
+
+pub use fault::Fault;
+pub use running::run;

@@ -1,6 +1,0 @@
-ghost use Rattle.vx_server.specs.FirstFault.{FirstFault};
-
-/// A script faults at its first faulty line, which it has; no line before it is faulty.
-pub fn first_fault()
-    ensures { FirstFault }
-{}

@@ -1,5 +1,5 @@
 -- What is known of an edit that nothing stands against.
-use Rattle.std.proofs.Common.{◌≡◌, ◌≢◌, ℕ, zero, suc, Bool, true, false, not, ◌&&◌, ◌||◌, ◌<◌, nat_eq,  bytes_eq, if◌then◌else◌, List, [], ◌∷◌, find, Option, Some, None, IsSome, is_some, option_map, refl, sym, ap, ◌∙◌, inl, inr}
+use Rattle.std.proofs.Common.{◌≡◌, ◌≢◌, ℕ, zero, suc, Bool, true, false, not, ◌&&◌, ◌||◌, ◌<◌, nat_eq, bytes_eq, if◌then◌else◌, List, [], ◌∷◌, find, Option, Some, None, IsSome, is_some, option_map, refl, sym, ap, ◌∙◌, inl, inr}
 use Rattle.std.specs.List.{slice_get, list_any}
 use Rattle.std.specs.Option.{option_and_then}
 use Rattle.std.proofs.lemmas.Bool.{cases_Bool, eq-eqb, leb-false}

@@ -242,7 +242,6 @@ fn region(regions: &RegionSet, id: &str) -> RegionNo
 }
 
 // The number of the region whose id the text spells, 0 for the world at large.
-#[tactic(auto, unfolding(crate::specs::Refusals::is_known, crate::specs::Refusals::numbered))]
 fn known(regions: &RegionSet, id: &str) -> RegionNo
     requires { is_known regions.now id.now ≡ true }
     ensures number { numbered regions.now id.now ≡ Some result.0 }

@@ -1,5 +1,5 @@
 -- What is known of an edit that nothing stands against.
-use Rattle.std.proofs.Common.{◌≡◌, ◌≢◌, ℕ, zero, suc, Bool, true, false, not, ◌&&◌, ◌||◌, ◌<◌, nat_eq,  bytes_eq, if◌then◌else◌, List, [], ◌∷◌, find, Option, Some, None, IsSome, is_some, option_map, refl, sym, ap, ◌∙◌, inl, inr}
+use Rattle.std.proofs.Common.{◌≡◌, ℕ, zero, suc, Bool, true, false, not, ◌&&◌, ◌||◌, ◌<◌, nat_eq, bytes_eq, List, [], ◌∷◌, find, Option, Some, None, IsSome, is_some, option_map, refl, sym, ap, ◌∙◌, inl, inr}
 use Rattle.std.specs.List.{slice_get, list_any}
 use Rattle.std.specs.Option.{option_and_then}
 use Rattle.std.proofs.lemmas.Bool.{cases_Bool, eq-eqb, leb-false}
@@ -9,7 +9,7 @@ use Rattle.vx_region.specs.Ancestry.{has_child, is_under}
 use Rattle.vx_region.specs.Regions.{Entry, Regions, region_at, number_of, is_global_id, HasSettings}
 use Rattle.vx_region.specs.Words.{read_id, read_name}
 use Rattle.vx_policy.specs.Asked.{Asked, Define, Reshape, Remove, Priority, Parent, SetFlag, ClearFlag, Owner, Member, target}
-use Rattle.vx_policy.specs.Refusals.{last_number, is_known, is_at_large, numbered, is_such, is_definition, is_of_flags, some_id, is_id, is_name, is_full, holds, causes, refusal}
+use Rattle.vx_policy.specs.Refusals.{last_number, is_known, is_at_large, numbered, is_such, is_definition, is_of_flags, some_id, is_full, holds, causes, refusal}
 use Rattle.vx_policy.specs.declared.listing.Listing.{Listing}
 use Rattle.vx_policy.specs.declared.edit_refusal.EditRefusal.{EditRefusal}
 use Rattle.vx_policy.specs.declared.edit_refusal.EditRefusal.TheVariants.{BadId, Known, Unknown, HasChildren, Cycle, BadShape, BadName, GlobalHasNone, TooManyRegions}
@@ -72,7 +72,6 @@ number_there rs id n found =
 
 -- so is the number that a text has
 pub numbered_there : (rs : Regions) (text : List ℕ) (n : ℕ) → numbered rs text ≡ Some n → HasSettings rs n
-unfolding numbered
 numbered_there rs text n found = of_id (read_id text) found
   where
     of_id : (word : Option (List ℕ)) → option_and_then (number_of rs) word ≡ Some n → HasSettings rs n
@@ -81,7 +80,6 @@ numbered_there rs text n found = of_id (read_id text) found
 
 -- a number that is not 0 is that of a region
 pub region_there : (rs : Regions) (text : List ℕ) (n : ℕ) → numbered rs text ≡ Some n → is_at_large rs text ≡ false → HasSettings rs n → IsSome (region_at rs n)
-unfolding is_at_large
 region_there rs text n found local (inr there) = there
 region_there rs text n found local (inl none) = let zero : nat_eq 0 n ≡ false = rw found at local in absurd (no_zero n none zero)
   where
@@ -135,7 +133,6 @@ absent (Some n) h = cc
 module _ (rs : Regions) (id : List ℕ) (shape : Written) (none : refusal rs (Define id shape) ≡ None) where
   -- a new id is spelled, and free
   pub new_id : (word : List ℕ) → read_id id ≡ Some word → number_of rs word ≡ None
-  unfolding is_known numbered
   new_id word spelled = absent (number_of rs word) (rw spelled at (nothing_against rs (Define id shape) none Known))
 
   -- there is a number for it
@@ -145,7 +142,6 @@ module _ (rs : Regions) (id : List ℕ) (shape : Written) (none : refusal rs (De
 
   -- the id is spelled, and the shape is one
   pub id_spelled : read_id id ≡ None → ⊥
-  unfolding is_id
   id_spelled misspelled = spelled_or (read_id id) misspelled (holds_not _ (nothing_against rs (Define id shape) none BadId))
 
   pub shape_there : outline_asked shape ≡ None → ⊥
@@ -157,9 +153,7 @@ new_shape rs id shape none nothing = spelled_or (outline_asked shape) nothing (h
 
 -- the name is spelled
 pub owner_spelled : (rs : Regions) (id : List ℕ) (listing : Listing) (name : List ℕ) → refusal rs (Owner id listing name) ≡ None → read_name name ≡ None → ⊥
-unfolding is_name
 owner_spelled rs id listing name none misspelled = spelled_or (read_name name) misspelled (holds_not _ (nothing_against rs (Owner id listing name) none BadName))
 
 pub member_spelled : (rs : Regions) (id : List ℕ) (listing : Listing) (name : List ℕ) → refusal rs (Member id listing name) ≡ None → read_name name ≡ None → ⊥
-unfolding is_name
 member_spelled rs id listing name none misspelled = spelled_or (read_name name) misspelled (holds_not _ (nothing_against rs (Member id listing name) none BadName))

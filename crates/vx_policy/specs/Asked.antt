@@ -1,4 +1,4 @@
-use Rattle.std.specs.Prelude.{ℕ, ℤ, List, Option, None, option_map, string_bytes}
+use Rattle.std.specs.Prelude.{ℕ, ℤ, List, Option, option_map, string_bytes}
 use Rattle.vx_flag.specs.declared.flag.Flag.{Flag}
 use Rattle.vx_flag.specs.declared.setting.Setting.{Setting}
 use Rattle.vx_geom.specs.Written.{Written, written}

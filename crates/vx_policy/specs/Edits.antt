@@ -1,6 +1,5 @@
 use Rattle.std.specs.Prelude.{ℕ, ◌≡◌, ◌+◌, List, [], ◌∷◌, Option, Some, None}
 use Rattle.std.specs.Option.{option_and_then}
-use Rattle.vx_geom.specs.Outline.{Outline}
 use Rattle.vx_geom.specs.Written.{outline_asked}
 use Rattle.vx_region.specs.Regions.{Regions, with_region, without_region, with_shape, with_priority, with_parent, with_flag, with_owner, without_owner, with_member, without_member}
 use Rattle.vx_region.specs.Words.{read_id, read_name}

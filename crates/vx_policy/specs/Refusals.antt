@@ -4,7 +4,7 @@ use Rattle.vx_geom.specs.Written.{outline_asked}
 use Rattle.vx_region.specs.Ancestry.{has_child, is_under}
 use Rattle.vx_region.specs.Regions.{Regions, number_of}
 use Rattle.vx_region.specs.Words.{read_id, read_name}
-use Rattle.vx_policy.specs.Asked.{Asked, Define, Reshape, Remove, Priority, Parent, SetFlag, ClearFlag, Owner, Member, target}
+use Rattle.vx_policy.specs.Asked.{Asked, Define, Reshape, Remove, Parent, SetFlag, ClearFlag, Owner, Member, target}
 use Rattle.vx_policy.specs.declared.edit_refusal.EditRefusal.{EditRefusal}
 use Rattle.vx_policy.specs.declared.edit_refusal.EditRefusal.TheVariants.{BadId, Known, Unknown, HasChildren, Cycle, BadShape, BadName, GlobalHasNone, TooManyRegions}
 
@@ -17,19 +17,19 @@ abbrev pub last_number : ℕ
 last_number = 4294967295
 
 -- the text spells an id
-unfoldable pub is_id : List ℕ → Bool
+abbrev pub is_id : List ℕ → Bool
 is_id text = is_some (read_id text)
 
 -- the text spells a name
-unfoldable pub is_name : List ℕ → Bool
+abbrev pub is_name : List ℕ → Bool
 is_name text = is_some (read_name text)
 
 -- the number of the region whose id the text spells, 0 for the world at large
-unfoldable pub numbered : Regions → List ℕ → Option ℕ
+abbrev pub numbered : Regions → List ℕ → Option ℕ
 numbered rs text = option_and_then (number_of rs) (read_id text)
 
 -- the text spells the id of a region that is there, or of the world at large
-unfoldable pub is_known : Regions → List ℕ → Bool
+abbrev pub is_known : Regions → List ℕ → Bool
 is_known rs text = is_some (numbered rs text)
 
 -- the test of a value that may be there, false without one
@@ -38,7 +38,7 @@ is_such test None = false
 is_such test (Some x) = test x
 
 -- the text spells the id of the world at large
-unfoldable pub is_at_large : Regions → List ℕ → Bool
+abbrev pub is_at_large : Regions → List ℕ → Bool
 is_at_large rs text = is_such (nat_eq 0) (numbered rs text)
 
 -- a new region is asked for

@@ -45,7 +45,10 @@ impl Edit {
                 Ok(Edit::Reshape(id, shape.try_clone(alloc)?))
             }
             Edit::Remove(id) => Ok(Edit::Remove(String::from_str(alloc, id)?)),
-            Edit::Priority(id, priority) => Ok(Edit::Priority(String::from_str(alloc, id)?, *priority)),
+            Edit::Priority(id, priority) => Ok(Edit::Priority(
+                String::from_str(alloc, id)?,
+                *priority,
+            )),
             Edit::Parent(id, parent) => {
                 let id = String::from_str(alloc, id)?;
                 match parent {

@@ -47,7 +47,11 @@ impl Policy {
 }
 
 // Makes an edit of the regions that nothing stands against.
-fn change(regions: &mut RegionSet, alloc: Global, edit: Edit) -> Result<Option<RegionNo>, AllocError>
+fn change(
+    regions: &mut RegionSet,
+    alloc: Global,
+    edit: Edit,
+) -> Result<Option<RegionNo>, AllocError>
     requires { refusal regions.old (asked edit) ≡ None }
     ensures ok { IfOk result (λ n. (regions.new ≡ edited regions.old (asked edit)) × (option_map (λ n. n.0) n ≡ number_given regions.old (asked edit))) }
     ensures err { OnErr result (regions.new ≡ regions.old) }
@@ -93,7 +97,12 @@ fn change(regions: &mut RegionSet, alloc: Global, edit: Edit) -> Result<Option<R
 }
 
 #[tactic(auto, unfolding(crate::specs::Edits::edited))]
-fn define(regions: &mut RegionSet, alloc: Global, id: &str, shape: ShapeSpec) -> Result<RegionNo, AllocError>
+fn define(
+    regions: &mut RegionSet,
+    alloc: Global,
+    id: &str,
+    shape: ShapeSpec,
+) -> Result<RegionNo, AllocError>
     requires { refusal regions.old (Define id.now (written shape)) ≡ None }
     ensures ok { IfOk result (λ n. (regions.new ≡ edited regions.old (Define id.now (written shape))) × (n.0 ≡ regions.old.last + 1)) }
     ensures err { OnErr result (regions.new ≡ regions.old) }
@@ -175,7 +184,12 @@ fn clear_flag(regions: &mut RegionSet, id: &str, flag: Flag)
 }
 
 #[tactic(auto, unfolding(crate::specs::Edits::edited))]
-fn list_owner(regions: &mut RegionSet, id: &str, listing: Listing, name: &str) -> Result<(), AllocError>
+fn list_owner(
+    regions: &mut RegionSet,
+    id: &str,
+    listing: Listing,
+    name: &str,
+) -> Result<(), AllocError>
     requires { refusal regions.old (Owner id.now listing name.now) ≡ None }
     ensures ok { OnOk result (regions.new ≡ edited regions.old (Owner id.now listing name.now)) }
     ensures err { OnErr result (regions.new ≡ regions.old) }
@@ -194,7 +208,12 @@ fn list_owner(regions: &mut RegionSet, id: &str, listing: Listing, name: &str) -
 }
 
 #[tactic(auto, unfolding(crate::specs::Edits::edited))]
-fn list_member(regions: &mut RegionSet, id: &str, listing: Listing, name: &str) -> Result<(), AllocError>
+fn list_member(
+    regions: &mut RegionSet,
+    id: &str,
+    listing: Listing,
+    name: &str,
+) -> Result<(), AllocError>
     requires { refusal regions.old (Member id.now listing name.now) ≡ None }
     ensures ok { OnOk result (regions.new ≡ edited regions.old (Member id.now listing name.now)) }
     ensures err { OnErr result (regions.new ≡ regions.old) }
@@ -223,7 +242,6 @@ fn region(regions: &RegionSet, id: &str) -> RegionNo
 }
 
 // The number of the region whose id the text spells, 0 for the world at large.
-#[tactic(auto, unfolding(crate::specs::Refusals::is_known, crate::specs::Refusals::numbered))]
 fn known(regions: &RegionSet, id: &str) -> RegionNo
     requires { is_known regions.now id.now ≡ true }
     ensures number { numbered regions.now id.now ≡ Some result.0 }

@@ -37,7 +37,7 @@ impl Policy {
     }
 }
 
-#[tactic(auto, unfolding(crate::specs::Refusals::refusal, crate::specs::Refusals::is_id, crate::specs::Refusals::is_known, crate::specs::Refusals::is_at_large, crate::specs::Refusals::numbered))]
+#[tactic(auto, unfolding(crate::specs::Refusals::refusal))]
 fn of_definition(regions: &RegionSet, id: &str, shape: &ShapeSpec) -> Option<EditRefusal>
     ensures { result ≡ refusal regions.now (Define id.now (written shape.now)) }
 {
@@ -56,7 +56,7 @@ fn of_definition(regions: &RegionSet, id: &str, shape: &ShapeSpec) -> Option<Edi
     None
 }
 
-#[tactic(auto, unfolding(crate::specs::Refusals::refusal, crate::specs::Refusals::is_id, crate::specs::Refusals::is_known, crate::specs::Refusals::is_at_large, crate::specs::Refusals::numbered))]
+#[tactic(auto, unfolding(crate::specs::Refusals::refusal))]
 fn of_reshape(regions: &RegionSet, id: &str, shape: &ShapeSpec) -> Option<EditRefusal>
     ensures { result ≡ refusal regions.now (Reshape id.now (written shape.now)) }
 {
@@ -75,7 +75,7 @@ fn of_reshape(regions: &RegionSet, id: &str, shape: &ShapeSpec) -> Option<EditRe
     None
 }
 
-#[tactic(auto, unfolding(crate::specs::Refusals::refusal, crate::specs::Refusals::is_id, crate::specs::Refusals::is_known, crate::specs::Refusals::is_at_large, crate::specs::Refusals::numbered))]
+#[tactic(auto, unfolding(crate::specs::Refusals::refusal))]
 fn of_removal(regions: &RegionSet, id: &str) -> Option<EditRefusal>
     ensures { result ≡ refusal regions.now (Remove id.now) }
 {
@@ -94,7 +94,7 @@ fn of_removal(regions: &RegionSet, id: &str) -> Option<EditRefusal>
     None
 }
 
-#[tactic(auto, unfolding(crate::specs::Refusals::refusal, crate::specs::Refusals::is_id, crate::specs::Refusals::is_known, crate::specs::Refusals::is_at_large, crate::specs::Refusals::numbered))]
+#[tactic(auto, unfolding(crate::specs::Refusals::refusal))]
 fn of_priority(regions: &RegionSet, id: &str, priority: i32) -> Option<EditRefusal>
     ensures { result ≡ refusal regions.now (Priority id.now priority) }
 {
@@ -110,7 +110,7 @@ fn of_priority(regions: &RegionSet, id: &str, priority: i32) -> Option<EditRefus
     None
 }
 
-#[tactic(auto, unfolding(crate::specs::Refusals::refusal, crate::specs::Refusals::is_id, crate::specs::Refusals::is_known, crate::specs::Refusals::is_at_large, crate::specs::Refusals::numbered))]
+#[tactic(auto, unfolding(crate::specs::Refusals::refusal))]
 fn of_orphaning(regions: &RegionSet, id: &str) -> Option<EditRefusal>
     ensures { result ≡ refusal regions.now (Parent id.now None) }
 {
@@ -126,7 +126,7 @@ fn of_orphaning(regions: &RegionSet, id: &str) -> Option<EditRefusal>
     None
 }
 
-#[tactic(auto, unfolding(crate::specs::Refusals::refusal, crate::specs::Refusals::is_id, crate::specs::Refusals::is_known, crate::specs::Refusals::is_at_large, crate::specs::Refusals::numbered))]
+#[tactic(auto, unfolding(crate::specs::Refusals::refusal))]
 fn of_parent(regions: &RegionSet, id: &str, parent: &str) -> Option<EditRefusal>
     ensures { result ≡ refusal regions.now (Parent id.now (Some parent.now)) }
 {
@@ -151,7 +151,7 @@ fn of_parent(regions: &RegionSet, id: &str, parent: &str) -> Option<EditRefusal>
     None
 }
 
-#[tactic(auto, unfolding(crate::specs::Refusals::refusal, crate::specs::Refusals::is_id, crate::specs::Refusals::is_known, crate::specs::Refusals::is_at_large, crate::specs::Refusals::numbered))]
+#[tactic(auto, unfolding(crate::specs::Refusals::refusal))]
 fn of_flag(regions: &RegionSet, id: &str, flag: Flag, setting: Setting) -> Option<EditRefusal>
     ensures { result ≡ refusal regions.now (SetFlag id.now flag setting) }
 {
@@ -164,7 +164,7 @@ fn of_flag(regions: &RegionSet, id: &str, flag: Flag, setting: Setting) -> Optio
     }
 }
 
-#[tactic(auto, unfolding(crate::specs::Refusals::refusal, crate::specs::Refusals::is_id, crate::specs::Refusals::is_known, crate::specs::Refusals::is_at_large, crate::specs::Refusals::numbered))]
+#[tactic(auto, unfolding(crate::specs::Refusals::refusal))]
 fn of_clearing(regions: &RegionSet, id: &str, flag: Flag) -> Option<EditRefusal>
     ensures { result ≡ refusal regions.now (ClearFlag id.now flag) }
 {
@@ -177,7 +177,7 @@ fn of_clearing(regions: &RegionSet, id: &str, flag: Flag) -> Option<EditRefusal>
     }
 }
 
-#[tactic(auto, unfolding(crate::specs::Refusals::refusal, crate::specs::Refusals::is_id, crate::specs::Refusals::is_name, crate::specs::Refusals::is_known, crate::specs::Refusals::is_at_large, crate::specs::Refusals::numbered))]
+#[tactic(auto, unfolding(crate::specs::Refusals::refusal))]
 fn of_owner(regions: &RegionSet, id: &str, listing: Listing, name: &str) -> Option<EditRefusal>
     ensures { result ≡ refusal regions.now (Owner id.now listing name.now) }
 {
@@ -196,7 +196,7 @@ fn of_owner(regions: &RegionSet, id: &str, listing: Listing, name: &str) -> Opti
     None
 }
 
-#[tactic(auto, unfolding(crate::specs::Refusals::refusal, crate::specs::Refusals::is_id, crate::specs::Refusals::is_name, crate::specs::Refusals::is_known, crate::specs::Refusals::is_at_large, crate::specs::Refusals::numbered))]
+#[tactic(auto, unfolding(crate::specs::Refusals::refusal))]
 fn of_member(regions: &RegionSet, id: &str, listing: Listing, name: &str) -> Option<EditRefusal>
     ensures { result ≡ refusal regions.now (Member id.now listing name.now) }
 {

@@ -28,12 +28,10 @@ impl<J: Naming> Model for DeskState<J> {
 }
 
 impl<J: Naming> DeskState<J> {
-    ghost use Rattle.std.specs.Prelude.{◌≡◌, ◌+◌, ◌++◌, ◌∷◌, [], None, Err, length, option_map, IfOk, OnErr};
-    ghost use Rattle.vx_board.specs.Accepted.{IsRefused};
-    ghost use Rattle.vx_board.specs.declared.desk_error.DeskError.{DeskError};
+    ghost use Rattle.std.specs.Prelude.{◌≡◌, ◌++◌, ◌∷◌, [], length, IfOk, OnOk, OnErr};
+    ghost use Rattle.vx_board.specs.Accepted.{IsAnswer};
     ghost use Rattle.vx_policy.specs.Asked.{asked};
-    ghost use Rattle.vx_policy.specs.Edits.{after, AreAccepted, number_given};
-    ghost use Rattle.vx_policy.specs.Refusals.{refusal};
+    ghost use Rattle.vx_policy.specs.Edits.{after, AreAccepted};
 
     /// A desk on its first policy, with no edit accepted. It takes no memory.
     pub fn new(alloc: Global, policy: Policy) -> DeskState<J>
@@ -50,11 +48,10 @@ impl<J: Naming> DeskState<J> {
     /// Accepts an edit and applies it, or refuses it: where as many were accepted as may be, else by the first cause that stands
     /// against it as things are now. A refusal, for want of memory too, leaves all as it was.
     pub fn apply(&mut self, alloc: Global, edit: Edit) -> Result<Edited, DeskError>
-        ensures ok { IfOk result (λ edited. (refusal (after J.first self.old) (asked edit) ≡ None) × (self.new ≡ self.old ++ asked edit ∷ [])
-            × (edited.count ≡ length self.old + 1)
-            × (option_map (λ n. n.0) edited.region ≡ number_given (after J.first self.old) (asked edit))) }
-        ensures refused { (e : DeskError) → result ≡ Err e → IsRefused (after J.first self.old) (length self.old) (asked edit) e }
+        ensures answer { IsAnswer (after J.first self.old) (length self.old) (asked edit) result }
+        ensures ok { OnOk result (self.new ≡ self.old ++ asked edit ∷ []) }
         ensures err { OnErr result (self.new ≡ self.old) }
+        ensures accepted { AreAccepted J.first self.old }
     {
         let ready = make_ready(alloc, &mut self.policy, &mut self.accepted, edit)?;
         Ok(settle(&mut self.accepted, ready))

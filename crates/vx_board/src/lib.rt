@@ -10,6 +10,7 @@ mod naming;
 
 
 pub use desk_state::DeskState;
+pub use desk::Desk;
 pub use desk_error::DeskError;
 
 pub use edited::Edited;

@@ -1,5 +1,6 @@
 -- What a command's answer says of the sector.
-use Rattle.std.proofs.Common.{◌≡◌, ◌≢◌, Bool, true, false, not, if◌then◌else◌, List, ◌∷◌, Option, Result, Ok, Err, is_ok, refl, ap}
+use Rattle.std.proofs.Common.{◌≡◌, ◌≢◌, ◌+◌, ◌<◌, length, Bool, true, false, not, if◌then◌else◌, List, ◌∷◌, Option, Result, Ok, Err, is_ok, refl, ap}
+use Rattle.std.proofs.lemmas.Bool.{leb-false}
 use Rattle.vx_geom.specs.declared.pos.Pos.{Pos}
 use Rattle.vx_geom.specs.Sizes.{AreSizes}
 use Rattle.vx_block.specs.declared.cell.Cell.TheVariants.{Air}
@@ -11,8 +12,8 @@ use Rattle.vx_sector.specs.declared.cmd.Cmd.{Cmd}
 use Rattle.vx_sector.specs.declared.cmd.Cmd.TheVariants.{Look, Place, Break}
 use Rattle.vx_sector.specs.declared.reply.Reply.{Reply}
 use Rattle.vx_sector.specs.declared.refusal.Refusal.{Refusal}
-use Rattle.vx_sector.specs.declared.refusal.Refusal.TheVariants.{OutOfWorld}
-use Rattle.vx_sector.specs.Acting.{place_of, ok_unless, refuse_if, first_some, answer_of, cells_by, leaves_trace, sector_after}
+use Rattle.vx_sector.specs.declared.refusal.Refusal.TheVariants.{OutOfWorld, HistoryFull}
+use Rattle.vx_sector.specs.Acting.{place_of, ok_unless, refuse_if, first_some, answer_of, cells_by, leaves_trace, most_entries, is_full, is_recorded, sector_after}
 use Rattle.vx_sector.specs.Laws.{OneCellChanges, RefusalLeavesCells}
 
 first_fails : (b : Bool) (rest : List (Option Refusal)) (x : Reply) → is_ok (ok_unless (first_some (refuse_if (not b) OutOfWorld ∷ rest)) x) ≡ true → b ≡ true
@@ -25,6 +26,23 @@ unfolding answer_of
 held_where_done s seat (Look p) ok = first_fails (holds s.cells p) _ _ ok
 held_where_done s seat (Place p part) ok = first_fails (holds s.cells p) _ _ ok
 held_where_done s seat (Break p) ok = first_fails (holds s.cells p) _ _ ok
+
+recorded_has_room : (b full : Bool) (rest : List (Option Refusal)) (x : Reply)
+    → is_recorded (ok_unless (first_some (refuse_if (not b) OutOfWorld ∷ refuse_if full HistoryFull ∷ rest)) x) ≡ true → full ≡ false
+recorded_has_room true false rest x h = refl
+recorded_has_room true true rest x h = cc
+recorded_has_room false full rest x h = cc
+
+not_full : (s : SectorData) (seat : SeatData) (cmd : Cmd) → is_recorded (answer_of s seat cmd) ≡ true → is_full s ≡ false
+unfolding answer_of
+not_full s seat (Look p) h = recorded_has_room (holds s.cells p) (is_full s) _ _ h
+not_full s seat (Place p part) h = recorded_has_room (holds s.cells p) (is_full s) _ _ h
+not_full s seat (Break p) h = recorded_has_room (holds s.cells p) (is_full s) _ _ h
+
+-- a command that is recorded finds room in the record
+pub room_where_recorded : (s : SectorData) (seat : SeatData) (cmd : Cmd) → is_recorded (answer_of s seat cmd) ≡ true → length s.entries + s.closed < most_entries
+unfolding is_full
+room_where_recorded s seat cmd h = leb-false _ _ (not_full s seat cmd h)
 
 others_stay : (c : SectorCells) (cmd : Cmd) (answer : Result Reply Refusal) (q : Pos) → AreSizes c.bounds
     → holds c (place_of cmd) ≡ true → holds c q ≡ true → q ≢ place_of cmd → cell_at (cells_by c cmd answer) q ≡ cell_at c q

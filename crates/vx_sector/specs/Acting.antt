@@ -1,4 +1,4 @@
-use Rattle.std.specs.Prelude.{Bool, true, false, not, if◌then◌else◌, List, [], ◌∷◌, ◌++◌, Option, Some, None, Result, Ok, Err}
+use Rattle.std.specs.Prelude.{ℕ, ◌+◌, ◌^◌, nat_le, Bool, true, false, not, if◌then◌else◌, length, List, [], ◌∷◌, ◌++◌, Option, Some, None, Result, Ok, Err}
 use Rattle.vx_geom.specs.declared.pos.Pos.{Pos}
 use Rattle.vx_flag.specs.declared.action.Action.{Action}
 use Rattle.vx_flag.specs.declared.action.Action.TheVariants.{Placing, Breaking}
@@ -11,13 +11,14 @@ use Rattle.vx_decide.specs.declared.rule.Rule.{Rule}
 use Rattle.vx_decide.specs.declared.verdict.Verdict.{Verdict}
 use Rattle.vx_decide.specs.declared.verdict.Verdict.TheVariants.{Permit, Deny}
 use Rattle.vx_decide.specs.Verdict.{verdict}
+use Rattle.vx_policy.specs.declared.version.Version.{Version}
 use Rattle.vx_sector.specs.SectorData.{SectorData, SeatData, EntryData}
 use Rattle.vx_sector.specs.declared.cmd.Cmd.{Cmd}
 use Rattle.vx_sector.specs.declared.cmd.Cmd.TheVariants.{Look, Place, Break}
 use Rattle.vx_sector.specs.declared.reply.Reply.{Reply}
 use Rattle.vx_sector.specs.declared.reply.Reply.TheVariants.{Seen, Done}
 use Rattle.vx_sector.specs.declared.refusal.Refusal.{Refusal}
-use Rattle.vx_sector.specs.declared.refusal.Refusal.TheVariants.{OutOfWorld, Denied, Occupied, Nothing, Unbreakable, NoMemory}
+use Rattle.vx_sector.specs.declared.refusal.Refusal.TheVariants.{OutOfWorld, HistoryFull, Denied, Occupied, Nothing, Unbreakable, NoMemory}
 
 -- the position that a command speaks of
 abbrev pub place_of : Cmd → Pos
@@ -39,9 +40,17 @@ abbrev pub rule_of : Verdict → Rule
 rule_of (Permit rule) = rule
 rule_of (Deny rule) = rule
 
+-- how many entries a sector records
+abbrev pub most_entries : ℕ
+most_entries = 2 ^ 40
+
+-- as many entries were recorded as may be
+unfoldable pub is_full : SectorData → Bool
+is_full s = nat_le most_entries (length s.entries + s.closed)
+
 -- what the policy says to the player of the seat on the action at the place
 abbrev pub judged : SectorData → SeatData → Action → Pos → Verdict
-judged s seat action p = verdict s.regions (Named seat.name) action p
+judged s seat action p = verdict s.version.policy (Named seat.name) action p
 
 -- nothing is there
 abbrev pub is_air : Cell → Bool
@@ -61,18 +70,25 @@ ok_unless None x = Ok x
 -- the rule that permits the player of the seat the action at the place, or the refusal
 unfoldable pub permitted : SectorData → SeatData → Action → Pos → Result Rule Refusal
 permitted s seat action p =
-    if holds s.cells p then ok_unless (refuse_denied (judged s seat action p)) (rule_of (judged s seat action p)) else Err OutOfWorld
+    if not (holds s.cells p) then Err OutOfWorld
+    else if is_full s then Err HistoryFull
+    else ok_unless (refuse_denied (judged s seat action p)) (rule_of (judged s seat action p))
 
 -- what stands against a command, in the order in which it is looked for
 abbrev pub objections : SectorData → SeatData → Cmd → List (Option Refusal)
-objections s seat (Look p) = refuse_if (not (holds s.cells p)) OutOfWorld ∷ []
+objections s seat (Look p) =
+    refuse_if (not (holds s.cells p)) OutOfWorld
+    ∷ refuse_if (is_full s) HistoryFull
+    ∷ []
 objections s seat (Place p part) =
     refuse_if (not (holds s.cells p)) OutOfWorld
+    ∷ refuse_if (is_full s) HistoryFull
     ∷ refuse_denied (judged s seat Placing p)
     ∷ refuse_if (not (is_air (cell_at s.cells p))) Occupied
     ∷ []
 objections s seat (Break p) =
     refuse_if (not (holds s.cells p)) OutOfWorld
+    ∷ refuse_if (is_full s) HistoryFull
     ∷ refuse_denied (judged s seat Breaking p)
     ∷ refuse_if (is_air (cell_at s.cells p)) Nothing
     ∷ refuse_if (is_bedrock (cell_at s.cells p)) Unbreakable
@@ -109,9 +125,10 @@ cells_by c cmd (Err refusal) = c
 abbrev pub recorded : SectorData → EntryData → SectorData
 recorded s entry = record s { cells = cells_by s.cells entry.cmd entry.answer; entries = s.entries ++ entry ∷ [] }
 
--- a refusal leaves no trace where the position is not of the sector, or where memory was wanting
+-- a refusal leaves no trace where the position is not of the sector, where the record is full, or where memory was wanting
 abbrev pub leaves_trace : Refusal → Bool
 leaves_trace OutOfWorld = false
+leaves_trace HistoryFull = false
 leaves_trace NoMemory = false
 leaves_trace _ = true
 
@@ -123,3 +140,7 @@ is_recorded (Err refusal) = leaves_trace refusal
 -- the sector after a command and its answer
 unfoldable pub sector_after : SectorData → SeatData → Cmd → Result Reply Refusal → SectorData
 sector_after s seat cmd answer = if is_recorded answer then recorded s (record { seat = seat; cmd = cmd; answer = answer }) else s
+
+-- the sector as its next window begins: judged by another version, with nothing recorded in it yet
+unfoldable pub renewed : SectorData → Version → SectorData
+renewed s version = record s { version = version; entries = []; closed = length s.entries + s.closed }

@@ -1,6 +1,6 @@
 use Rattle.std.specs.Prelude.{ℕ, List, Result}
 use Rattle.vx_cells.specs.SectorCells.{SectorCells}
-use Rattle.vx_region.specs.Regions.{Regions}
+use Rattle.vx_policy.specs.declared.version.Version.{Version}
 use Rattle.vx_sector.specs.declared.cmd.Cmd.{Cmd}
 use Rattle.vx_sector.specs.declared.reply.Reply.{Reply}
 use Rattle.vx_sector.specs.declared.refusal.Refusal.{Refusal}
@@ -18,11 +18,12 @@ pub record EntryData : Type 0 where
   pub cmd : Cmd
   pub answer : Result Reply Refusal
 
--- a sector: its cells, the regions that judge its commands, and the record of its commands
+-- a sector: its cells, the version that judges the commands of its window, their record, and how many were recorded before
 pub record SectorData : Type 0 where
   pub cells : SectorCells
-  pub regions : Regions
+  pub version : Version
   pub entries : List EntryData
+  pub closed : ℕ
 
 -- what a seat is
 abbrev pub seat_of : Seat → SeatData

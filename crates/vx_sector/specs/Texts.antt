@@ -14,6 +14,7 @@ reply_text (Done rule) = codes "ok " ++ rule_text rule
 -- a refusal as it is written: its number and its words; a denial's words are the rule that denies
 abbrev pub refusal_text : Refusal → List ℕ
 refusal_text refusal.OutOfWorld = codes "refused 1 out of world"
+refusal_text refusal.HistoryFull = codes "refused 13 history"
 refusal_text (refusal.Denied rule) = codes "refused 2 " ++ rule_text rule
 refusal_text refusal.Occupied = codes "refused 3 occupied"
 refusal_text refusal.Nothing = codes "refused 4 nothing"

@@ -9,6 +9,8 @@ use vx_decide::Rule;
 pub enum Refusal {
     /// The position is not of this sector.
     OutOfWorld,
+    /// As many commands were recorded as may be: 2^40.
+    HistoryFull,
     /// The policy denies it, by this rule.
     Denied(Rule),
     /// Something stands where a part was to be placed.
@@ -29,6 +31,7 @@ impl fmt::Display for Refusal {
     fn fmt<W: fmt::Write>(&self, f: &mut fmt::Formatter<W>) -> fmt::Result {
         match self {
             Refusal::OutOfWorld => write!(f, "refused 1 out of world"),
+            Refusal::HistoryFull => write!(f, "refused 13 history"),
             Refusal::Denied(rule) => write!(f, "refused 2 {rule}"),
             Refusal::Occupied => write!(f, "refused 3 occupied"),
             Refusal::Nothing => write!(f, "refused 4 nothing"),

@@ -1,6 +1,6 @@
-ghost use Rattle.std.specs.Prelude.{◌≡◌, ◌⊎◌, true, is_ok, Err, IfErr, OnOk, OnErr};
+ghost use Rattle.std.specs.Prelude.{◌≡◌, ◌⊎◌, true, false, is_ok, Err, IfErr, OnOk, OnErr};
 ghost use Rattle.vx_cells.specs.SectorCells.{holds};
-ghost use Rattle.vx_sector.specs.Acting.{place_of, cells_after, is_recorded, is_air, is_bedrock};
+ghost use Rattle.vx_sector.specs.Acting.{place_of, most_entries, cells_by, is_recorded, is_full, is_air, is_bedrock};
 
 use crate::cmd::Cmd;
 use crate::entry::Entry;
@@ -9,47 +9,83 @@ use crate::reply::Reply;
 use crate::seat::Seat;
 use std::alloc::Global;
 use std::marker::Model;
+use std::mem;
 use vx_block::Cell;
 use vx_cells::Cells;
 use vx_decide::{Decide, Plain, Rule, Verdict};
 use vx_flag::Action;
 use vx_geom::Pos;
-use vx_region::{RegionSet, Subject};
+use vx_policy::Version;
+use vx_region::Subject;
 
-/// One sector of the world: its cells, the regions that judge its commands, and the record of its commands.
+/// How many commands a sector records, in all its windows.
+const ENTRIES: u64 = 1_099_511_627_776;
+
+/// One sector of the world: its cells, the version of the policy that judges the commands of its window, and their record.
 #[derive(Drop)]
 pub struct Sector {
     cells: Cells,
-    regions: RegionSet,
+    version: Version,
     entries: Vec<Entry>,
+    closed: u64,
 }
 
 impl Model for Sector {
-    ghost use Rattle.std.specs.Prelude.{map};
+    ghost use Rattle.std.specs.Prelude.{map, ◌+◌, ◌≤◌, vec_len};
+    ghost use Rattle.vx_sector.specs.Acting.{most_entries};
     ghost use Rattle.vx_sector.specs.SectorData.{SectorData, entry_of};
 
     ghost Value = { SectorData };
 
-    ghost view = { λ a. record { cells = a.cells; regions = a.regions; entries = map entry_of a.entries.items } };
+    ghost view = { λ a. record { cells = a.cells; version = a.version; entries = map entry_of a.entries.items; closed = a.closed } };
+
+    ghost invariant = { λ a. vec_len a.entries + a.closed ≤ most_entries };
 }
 
 impl Sector {
-    ghost use Rattle.std.specs.Prelude.{[], map};
+    ghost use Rattle.std.specs.Prelude.{[], ◌+◌, ◌<◌, length, map};
     ghost use Rattle.vx_sector.specs.SectorData.{seat_of, entry_of};
-    ghost use Rattle.vx_sector.specs.Acting.{place_of, permitted, answer_of, recorded, sector_after};
+    ghost use Rattle.vx_sector.specs.Acting.{place_of, permitted, answer_of, recorded, renewed, sector_after};
 
-    /// A sector with these cells, judged by these regions, and nothing recorded.
-    pub fn new(alloc: Global, cells: Cells, regions: RegionSet) -> Sector
-        ensures { result ≡ record { cells = cells; regions = regions; entries = [] } }
+    /// A sector with these cells, judged by this version, and nothing recorded. It takes no memory.
+    pub fn new(alloc: Global, cells: Cells, version: Version) -> Sector
+        ensures { result ≡ record { cells = cells; version = version; entries = []; closed = 0 } }
     {
         Sector {
             cells,
-            regions,
+            version,
             entries: Vec::new(alloc),
+            closed: 0,
         }
     }
 
-    /// The record, oldest first.
+    /// Begins the next window, judged by this version, and hands out the record of the one that it closes. It takes no memory.
+    #[tactic(auto, unfolding(crate::specs::Acting::renewed))]
+    pub fn renew(&mut self, version: Version) -> Vec<Entry>
+        ensures entries { map entry_of result.items ≡ self.old.entries }
+        ensures next { self.new ≡ renewed self.old version }
+    {
+        let next = Vec::new(*self.entries.allocator());
+        self.closed += self.entries.len() as u64;
+        self.version = version;
+        mem::replace(&mut self.entries, next)
+    }
+
+    /// The version that judges the commands of this window.
+    pub fn version(&self) -> &Version
+        ensures { result.now ≡ self.now.version }
+    {
+        &self.version
+    }
+
+    /// How many commands were recorded, in closed windows too.
+    pub fn count(&self) -> u64
+        ensures { result ≡ length self.now.entries + self.now.closed }
+    {
+        self.entries.len() as u64 + self.closed
+    }
+
+    /// The record of this window, oldest first.
     pub fn entries(&self) -> &[Entry]
         ensures { map entry_of result.now ≡ self.now.entries }
     {
@@ -76,15 +112,14 @@ impl Sector {
 
     // Does what the command does where it was carried out, and puts it at the end of the record.
     fn record(&mut self, entry: Entry) -> Result<(), Refusal>
-        requires { is_ok entry.answer ≡ true → holds self.old.cells (place_of entry.cmd) ≡ true }
+        requires room { length self.old.entries + self.old.closed < most_entries }
+        requires held { is_ok entry.answer ≡ true → holds self.old.cells (place_of entry.cmd) ≡ true }
         ensures ok { OnOk result (self.new ≡ recorded self.old (entry_of entry)) }
         ensures err { OnErr result (self.new ≡ self.old) }
         ensures memory { IfErr result (λ refusal. refusal ≡ Refusal.NoMemory) }
     {
         self.entries.reserve(1).map_err(|_| Refusal::NoMemory)?;
-        if entry.answer.is_ok() {
-            change(&mut self.cells, &entry.cmd);
-        }
+        change(&mut self.cells, &entry);
         self.entries.push_reserved(entry);
         Ok(())
     }
@@ -98,6 +133,9 @@ impl Sector {
             Cmd::Look(p) => {
                 if !self.cells.holds(*p) {
                     return Err(Refusal::OutOfWorld);
+                }
+                if self.is_full() {
+                    return Err(Refusal::HistoryFull);
                 }
                 Ok(Reply::Seen(self.cells.get(*p)))
             }
@@ -131,22 +169,40 @@ impl Sector {
         if !self.cells.holds(p) {
             return Err(Refusal::OutOfWorld);
         }
-        match Plain::new(&self.regions).decide(&Subject::Player(seat.name), action, p) {
+        if self.is_full() {
+            return Err(Refusal::HistoryFull);
+        }
+        match Plain::new(self.version.policy.regions()).decide(
+            &Subject::Player(seat.name),
+            action,
+            p,
+        ) {
             Verdict::Permit(rule) => Ok(rule),
             Verdict::Deny(rule) => Err(Refusal::Denied(rule)),
         }
     }
+
+    // Whether as many commands were recorded as may be.
+    #[tactic(auto, unfolding(crate::specs::Acting::is_full))]
+    fn is_full(&self) -> bool
+        ensures { result ≡ is_full self.now }
+    {
+        ENTRIES <= self.count()
+    }
 }
 
-// What the command does to the cells.
-fn change(cells: &mut Cells, cmd: &Cmd)
-    requires { holds cells.old (place_of cmd.now) ≡ true }
-    ensures { cells.new ≡ cells_after cells.old cmd.now }
+// What a command does to the cells, where it was carried out.
+fn change(cells: &mut Cells, entry: &Entry)
+    requires { is_ok entry.now.answer ≡ true → holds cells.old (place_of entry.now.cmd) ≡ true }
+    ensures { cells.new ≡ cells_by cells.old entry.now.cmd entry.now.answer }
 {
-    match cmd {
+    if entry.answer.is_err() {
+        return;
+    }
+    match entry.cmd {
         Cmd::Look(_) => {}
-        Cmd::Place(p, part) => cells.set(*p, part.cell()),
-        Cmd::Break(p) => cells.set(*p, Cell::Air),
+        Cmd::Place(p, part) => cells.set(p, part.cell()),
+        Cmd::Break(p) => cells.set(p, Cell::Air),
     }
 }
 
@@ -154,7 +210,10 @@ fn change(cells: &mut Cells, cmd: &Cmd)
 fn is_recorded(answer: &Result<Reply, Refusal>) -> bool
     ensures { result ≡ is_recorded answer.now }
 {
-    !matches!(answer, Err(Refusal::OutOfWorld | Refusal::NoMemory))
+    !matches!(
+        answer,
+        Err(Refusal::OutOfWorld | Refusal::HistoryFull | Refusal::NoMemory)
+    )
 }
 
 // Whether nothing is there.
@@ -177,8 +236,9 @@ mod tests {
     use std::process::Abort;
     use std::test::Fail;
     use vx_block::Part;
-    use vx_geom::{Bounds, Shape};
-    use vx_region::{Id, Name, RegionNo};
+    use vx_geom::{Bounds, ShapeSpec};
+    use vx_policy::{Edit, Listing, Policy};
+    use vx_region::{Name, RegionNo};
 
     #[test]
     fn commands_are_judged_carried_out_and_recorded(rt: HostRuntime) -> Result<(), Fail> {
@@ -262,20 +322,58 @@ mod tests {
         Ok(())
     }
 
+    #[test]
+    fn a_window_is_judged_by_its_version(rt: HostRuntime) -> Result<(), Fail> {
+        let mut sector = opened(&rt)?;
+        let bob = &seat(1, "bob")?;
+        let home = Pos::new(5, 1, 5);
+        let denied = Err(Refusal::Denied(Rule::Member { at: RegionNo(1) }));
+        assert_eq!(rt; sector.act(*bob, Cmd::Break(home)), denied);
+        let open = version(2, Policy::new(rt.alloc())?);
+        let closed = sector.renew(open);
+        assert_eq!(rt; closed.as_slice(), &[entry(bob, Cmd::Break(home), denied)]);
+        assert_eq!(rt;
+            (
+                sector.entries().len(),
+                sector.count(),
+                sector.version().tick
+            ),
+            (0, 1, 2)
+        );
+        assert_eq!(rt; sector.act(*bob, Cmd::Break(home)), Err(Refusal::Nothing));
+        assert_eq!(rt; (sector.entries().len(), sector.count()), (1, 2));
+        Ok(())
+    }
+
     // A sector of one chunk with nothing but air. One column of it is of region 1, which is ann's, with cyd as a member.
     fn opened(rt: &(impl Abort + Alloc<A = Global>)) -> Result<Sector, Fail> {
-        let mut regions = RegionSet::new(rt.alloc());
-        let id = Id::read("home")?;
-        let column = Shape::cuboid(Pos::new(5, 0, 5), Pos::new(5, 63, 5));
-        assert_eq!(rt; regions.find(&id), None);
-        let number = regions.define(rt.alloc(), id, column)?;
-        assert!(rt; regions.get(number).is_some());
-        regions.add_owner(number, Name::read("ann")?)?;
-        assert!(rt; regions.get(number).is_some());
-        regions.add_member(number, Name::read("cyd")?)?;
         let bounds = Bounds::new(1, 1, 1).ok_or("no bounds")?;
         let cells = Cells::new(rt.alloc(), bounds, 0)?;
-        Ok(Sector::new(rt.alloc(), cells, regions))
+        let version = version(1, home(rt)?);
+        Ok(Sector::new(rt.alloc(), cells, version))
+    }
+
+    fn home(rt: &(impl Abort + Alloc<A = Global>)) -> Result<Policy, Fail> {
+        let alloc = rt.alloc();
+        let mut policy = Policy::new(alloc)?;
+        let column = ShapeSpec::Cuboid(Pos::new(5, 0, 5), Pos::new(5, 63, 5));
+        let define = Edit::Define(String::from_str(alloc, "home")?, column);
+        assert_eq!(rt; policy.apply(alloc, define), Ok(Some(RegionNo(1))));
+        let owner = String::from_str(alloc, "ann")?;
+        let owned = Edit::Owner(String::from_str(alloc, "home")?, Listing::Add, owner);
+        assert_eq!(rt; policy.apply(alloc, owned), Ok(None));
+        let member = String::from_str(alloc, "cyd")?;
+        let joined = Edit::Member(String::from_str(alloc, "home")?, Listing::Add, member);
+        assert_eq!(rt; policy.apply(alloc, joined), Ok(None));
+        Ok(policy)
+    }
+
+    fn version(tick: u64, policy: Policy) -> Version {
+        Version {
+            tick,
+            edits: 0,
+            policy,
+        }
     }
 
     fn seat(number: u8, name: &str) -> Result<Seat, Fail> {

@@ -1,4 +1,6 @@
+pub mod EditLines
 pub mod FirstFault
+pub mod Grounds
 pub mod Known
 pub mod Lines
 pub mod Numbers
@@ -6,4 +8,5 @@ pub mod Readings
 pub mod ScriptLines
 pub mod Statuses
 pub mod Transcript
+pub mod Unread
 pub mod Words

@@ -4,20 +4,24 @@ use Rattle.vx_block.specs.declared.part.Part.{Part}
 use Rattle.vx_geom.specs.declared.pos.Pos.{Pos}
 use Rattle.vx_geom.specs.Sizes.{Sizes}
 use Rattle.vx_region.specs.Words.{is_amid}
+use Rattle.vx_policy.specs.Asked.{Asked, asked}
 use Rattle.vx_sector.specs.declared.cmd.Cmd.{Cmd}
 use Rattle.vx_sector.specs.declared.cmd.Cmd.TheVariants.{Look, Place, Break}
+use Rattle.vx_script.specs.EditLines.{edit_of}
 use Rattle.vx_script.specs.Words.{words_of}
 use Rattle.vx_script.specs.Readings.{Rest, ◌>>=◌, next_of, at_end, byte_at, position_at, part_at, name_at}
 use Rattle.vx_script.specs.declared.line.Line.{Line}
 use Rattle.vx_script.specs.declared.line.Line.TheVariants as line
 
--- what a line says: nothing, the size of the world, a player, a cell of the opening, or a player's command
+-- what a line says: nothing, the size of the world, a player, a cell of the opening, a player's command, an edit, or a tick
 pub data Said : Type 0 where
   Nothing : Said
   World : Sizes → Said
   Player : List ℕ → Said
   Set : Pos → Part → Said
   Act : List ℕ → Cmd → Said
+  Region : Asked → Said
+  Tick : Said
 
 -- what a line that was read says
 abbrev pub said : Line → Said
@@ -26,6 +30,8 @@ said (line.World bounds) = World bounds
 said (line.Player name) = Player name.text.bytes
 said (line.Set p part) = Set p part
 said (line.As name cmd) = Act name.text.bytes cmd
+said (line.Region edit) = Region (asked edit)
+said line.Tick = Tick
 
 -- the sizes of a world: 1 to 8 sectors each way, of 1 or 2 chunks each way
 abbrev pub sizes_of : ℕ → ℕ → ℕ → Option Sizes
@@ -88,10 +94,22 @@ as_line words = do
   cmd ← command_of verb.0 verb.1
   Some (Act name.0 cmd)
 
+-- `region` and an edit
+unfoldable pub region_line : Rest → Option Said
+region_line words = do
+  e ← edit_of words
+  Some (Region e)
+
+-- `tick`
+unfoldable pub tick_line : Rest → Option Said
+tick_line words = at_end words Tick
+
 -- a line by its first word
 unfoldable pub line_by : List ℕ → Rest → Option Said
 line_by first words =
     if bytes_eq first (codes "as") then as_line words
+    else if bytes_eq first (codes "tick") then tick_line words
+    else if bytes_eq first (codes "region") then region_line words
     else if bytes_eq first (codes "set") then set_line words
     else if bytes_eq first (codes "player") then player_line words
     else if bytes_eq first (codes "world") then world_line words

@@ -52,8 +52,9 @@ pub fn at_end<X: Drop>(words: &mut Words, value: X) -> Option<X>
     }
 }
 
+/// Reads a number of 32 bits.
 #[tactic(auto, unfolding(crate::specs::Readings::coordinate_at))]
-fn coordinate(words: &mut Words) -> Option<i32>
+pub fn coordinate(words: &mut Words) -> Option<i32>
     ensures { Reads result words.new (coordinate_at words.old) }
 {
     read_i32(words.next()?)

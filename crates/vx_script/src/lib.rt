@@ -2,6 +2,7 @@
 #![tactic(auto)]
 
 mod arguments;
+mod edit_reading;
 mod fault;
 mod header;
 mod input;
@@ -15,6 +16,7 @@ mod reading;
 mod running;
 #[cfg(test)]
 mod tests;
+mod unread;
 mod words;
 
 pub use fault::Fault;

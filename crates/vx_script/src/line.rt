@@ -1,10 +1,11 @@
 use vx_block::Part;
 use vx_geom::{Bounds, Pos};
+use vx_policy::Edit;
 use vx_region::Name;
 use vx_sector::Cmd;
 
 /// What a line of a script says. docs/FORMATS.md has the table of the lines.
-#[derive(Clone, Copy, Debug)]
+#[derive(Debug, Drop)]
 pub enum Line {
     /// A blank line or a comment.
     Skipped,
@@ -16,4 +17,8 @@ pub enum Line {
     Set(Pos, Part),
     /// A command of the player of that name.
     As(Name, Cmd),
+    /// An edit of the policy.
+    Region(Edit),
+    /// The end of a window.
+    Tick,
 }

@@ -1,29 +1,33 @@
-ghost use Rattle.std.specs.Prelude.{◌≡◌, option_map, ◌==◌};
+ghost use Rattle.std.specs.Prelude.{◌≡◌, ◌==◌, option_map};
 ghost use Rattle.std.specs.List.{list_all};
-ghost use Rattle.vx_script.specs.ScriptLines.{said, is_printable, is_comment, world_line, player_line, set_line, look_of, place_of, break_of, command_of, as_line, line_by, line_in, line_of, sizes_of};
+ghost use Rattle.vx_script.specs.ScriptLines.{said, is_printable, is_comment, world_line, player_line, set_line, look_of, place_of, break_of, command_of, as_line, region_line, tick_line, line_by, line_in, line_of, sizes_of};
+ghost use Rattle.vx_script.specs.Unread.{Gives};
 
 use crate::arguments::{at_end, byte, name, part, position};
+use crate::edit_reading::read_edit;
 use crate::line::Line;
+use crate::unread::Unread;
 use crate::words::Words;
+use std::alloc::Global;
 use std::str;
 use vx_geom::Bounds;
 use vx_sector::Cmd;
 
-/// Reads a line; `None` where it is none of the lines of a script.
+/// Reads a line. This is the one table of the lines of a script.
 #[tactic(auto, unfolding(crate::specs::ScriptLines::line_of))]
-pub fn read_line(text: &[u8]) -> Option<Line>
-    ensures { option_map said result ≡ line_of text.now }
+pub fn read_line(alloc: Global, text: &[u8]) -> Result<Line, Unread>
+    ensures { Gives said result (line_of text.now) }
 {
     if !is_printable(text) {
-        return None;
+        return Err(Unread::Faulty);
     }
     if is_comment(text) {
-        return Some(Line::Skipped);
+        return Ok(Line::Skipped);
     }
     let Ok(text) = str::from_utf8(text) else {
-        return None;
+        return Err(Unread::Faulty);
     };
-    line_in(&mut Words::new(text))
+    line_in(alloc, &mut Words::new(text))
 }
 
 fn is_printable(text: &[u8]) -> bool
@@ -42,26 +46,43 @@ fn is_comment(text: &[u8]) -> bool
 }
 
 #[tactic(auto, unfolding(crate::specs::ScriptLines::line_in))]
-fn line_in(words: &mut Words) -> Option<Line>
-    ensures { option_map said result ≡ line_in words.old }
+fn line_in(alloc: Global, words: &mut Words) -> Result<Line, Unread>
+    ensures { Gives said result (line_in words.old) }
 {
     match words.next() {
-        None => Some(Line::Skipped),
-        Some(first) => line_by(first, words),
+        None => Ok(Line::Skipped),
+        Some(first) => line_by(alloc, first, words),
     }
 }
 
 #[tactic(auto, unfolding(crate::specs::ScriptLines::line_by))]
-fn line_by(first: &str, words: &mut Words) -> Option<Line>
-    ensures { option_map said result ≡ line_by first.now words.old }
+fn line_by(alloc: Global, first: &str, words: &mut Words) -> Result<Line, Unread>
+    ensures { Gives said result (line_by first.now words.old) }
 {
     match first {
-        "as" => as_line(words),
-        "set" => set_line(words),
-        "player" => player_line(words),
-        "world" => world_line(words),
-        _ => None,
+        "as" => as_line(words).ok_or(Unread::Faulty),
+        "tick" => tick_line(words).ok_or(Unread::Faulty),
+        "region" => region_line(alloc, words),
+        "set" => set_line(words).ok_or(Unread::Faulty),
+        "player" => player_line(words).ok_or(Unread::Faulty),
+        "world" => world_line(words).ok_or(Unread::Faulty),
+        _ => Err(Unread::Faulty),
     }
+}
+
+#[tactic(auto, unfolding(crate::specs::ScriptLines::region_line))]
+fn region_line(alloc: Global, words: &mut Words) -> Result<Line, Unread>
+    ensures { Gives said result (region_line words.old) }
+{
+    let edit = read_edit(alloc, words)?;
+    Ok(Line::Region(edit))
+}
+
+#[tactic(auto, unfolding(crate::specs::ScriptLines::tick_line))]
+fn tick_line(words: &mut Words) -> Option<Line>
+    ensures { option_map said result ≡ tick_line words.old }
+{
+    at_end(words, Line::Tick)
 }
 
 #[tactic(auto, unfolding(crate::specs::ScriptLines::world_line))]

@@ -331,7 +331,8 @@ mod tests {
         assert_eq!(rt; sector.act(*bob, Cmd::Break(home)), denied);
         let open = version(2, Policy::new(rt.alloc())?);
         let closed = sector.renew(open);
-        assert_eq!(rt; closed.as_slice(), &[entry(bob, Cmd::Break(home), denied)]);
+        let recorded = [entry(bob, Cmd::Break(home), denied)];
+        assert_eq!(rt; closed.as_slice(), recorded.as_slice());
         assert_eq!(rt;
             (
                 sector.entries().len(),

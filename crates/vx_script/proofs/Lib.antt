@@ -6,3 +6,4 @@ pub mod Printables
 pub mod Runs
 pub mod Spelled
 pub mod Taking
+pub mod Points

@@ -13,14 +13,24 @@ use Rattle.vx_policy.specs.Asked.{Asked, Define, Reshape, Remove, Priority, Pare
 use Rattle.vx_policy.specs.declared.listing.Listing.{Listing}
 use Rattle.vx_policy.specs.declared.listing.Listing.TheVariants.{Add, Drop}
 use Rattle.vx_script.specs.Numbers.{i32_of}
-use Rattle.vx_script.specs.Readings.{Rest, ◌>>=◌, next_of, at_end, coordinate_at, position_at}
+use Rattle.vx_script.specs.Readings.{Rest, ◌>>=◌, next_of, coordinate_at, position_at}
+
+-- no word is left
+pub data End : Type 0 where
+  Ended : End
+
+-- that no word is left
+abbrev pub end_of : Rest → Option End
+end_of [] = Some Ended
+end_of (word ∷ words) = None
 
 -- `X1 Y1 Z1 X2 Y2 Z2`, to the end of the line
 unfoldable pub corners_of : Rest → Option Written
 corners_of words = do
   a ← position_at words
   b ← position_at a.1
-  at_end b.1 (Corners a.0 b.0)
+  end ← end_of b.1
+  Some (Corners a.0 b.0)
 
 -- points to the end of the line, each an x and a z
 abbrev pub points_of : Rest → Option (List Column)
@@ -71,14 +81,16 @@ reshape_of words = do
 unfoldable pub remove_of : Rest → Option Asked
 remove_of words = do
   id ← next_of words
-  at_end id.1 (Remove id.0)
+  end ← end_of id.1
+  Some (Remove id.0)
 
 -- `priority ID N`
 unfoldable pub priority_of : Rest → Option Asked
 priority_of words = do
   id ← next_of words
   n ← coordinate_at id.1
-  at_end n.1 (Priority id.0 n.0)
+  end ← end_of n.1
+  Some (Priority id.0 n.0)
 
 -- the parent that a word names: none for `*`
 abbrev pub parent_named : List ℕ → Option (List ℕ)
@@ -89,7 +101,8 @@ unfoldable pub parent_of : Rest → Option Asked
 parent_of words = do
   id ← next_of words
   parent ← next_of id.1
-  at_end parent.1 (Parent id.0 (parent_named parent.0))
+  end ← end_of parent.1
+  Some (Parent id.0 (parent_named parent.0))
 
 -- a flag by its text
 unfoldable pub flag_at : Rest → Option (Flag × Rest)
@@ -110,7 +123,8 @@ unfoldable pub group_at_end : Rest → Option Group
 group_at_end [] = Some All
 group_at_end (word ∷ words) = do
   group ← group_of word
-  at_end words group
+  end ← end_of words
+  Some group
 
 -- `flag ID FLAG STATE` or `flag ID FLAG STATE GROUP`
 unfoldable pub set_flag_of : Rest → Option Asked
@@ -126,7 +140,8 @@ unfoldable pub clear_flag_of : Rest → Option Asked
 clear_flag_of words = do
   id ← next_of words
   flag ← flag_at id.1
-  at_end flag.1 (ClearFlag id.0 flag.0)
+  end ← end_of flag.1
+  Some (ClearFlag id.0 flag.0)
 
 -- `add` or `drop`
 unfoldable pub listing_of : List ℕ → Option Listing
@@ -145,7 +160,8 @@ owner_of words = do
   id ← next_of words
   listing ← listing_at id.1
   name ← next_of listing.1
-  at_end name.1 (Owner id.0 listing.0 name.0)
+  end ← end_of name.1
+  Some (Owner id.0 listing.0 name.0)
 
 -- `member ID add NAME` or `member ID drop NAME`
 unfoldable pub member_of : Rest → Option Asked
@@ -153,7 +169,8 @@ member_of words = do
   id ← next_of words
   listing ← listing_at id.1
   name ← next_of listing.1
-  at_end name.1 (Member id.0 listing.0 name.0)
+  end ← end_of name.1
+  Some (Member id.0 listing.0 name.0)
 
 -- an edit by its first word
 unfoldable pub edit_by : List ℕ → Rest → Option Asked

@@ -2,11 +2,11 @@
 ghost use Rattle.std.specs.Prelude.{◌≡◌, string_bytes, IfOk, IfErr};
 ghost use Rattle.vx_geom.specs.Written.{written};
 ghost use Rattle.vx_policy.specs.Asked.{asked};
-ghost use Rattle.vx_script.specs.EditLines.{corners_of, points_of, path_of, shape_by, shape_of, define_of, reshape_of, remove_of, priority_of, parent_of, flag_at, state_at, group_at_end, set_flag_of, clear_flag_of, listing_of, listing_at, owner_of, member_of, edit_by, edit_of};
-ghost use Rattle.vx_script.specs.Readings.{at_end, next_of, coordinate_at, position_at};
+ghost use Rattle.vx_script.specs.EditLines.{Ended, end_of, corners_of, points_of, path_of, shape_by, shape_of, define_of, reshape_of, remove_of, priority_of, parent_of, flag_at, state_at, group_at_end, set_flag_of, clear_flag_of, listing_of, listing_at, owner_of, member_of, edit_by, edit_of};
+ghost use Rattle.vx_script.specs.Readings.{next_of, coordinate_at, position_at};
 ghost use Rattle.vx_script.specs.Unread.{Gives, GivesWith};
 
-use crate::arguments::{at_end, coordinate, position};
+use crate::arguments::{coordinate, position};
 use crate::number::read_i32;
 use crate::unread::Unread;
 use crate::words::Words;
@@ -182,10 +182,16 @@ fn points(alloc: Global, words: &mut Words) -> Result<Vec<(i32, i32)>, Unread>
     ensures { Gives (λ v. v.items) result (points_of words.old) }
 {
     let mut points = Vec::new(alloc);
-    while let Some(x) = words.next() {
-        let x = read_i32(x).ok_or(Unread::Faulty)?;
-        let z = number(words)?;
-        points.push((x, z)).map_err(|_| Unread::NoMemory)?;
+    while let Some(word) = words.next() {
+        let Some(x) = read_i32(word) else {
+            return Err(Unread::Faulty);
+        };
+        let Some(z) = coordinate(words) else {
+            return Err(Unread::Faulty);
+        };
+        let Ok(()) = points.push((x, z)) else {
+            return Err(Unread::NoMemory);
+        };
     }
     Ok(points)
 }
@@ -258,9 +264,12 @@ fn word<'a>(words: &mut Words<'a>) -> Result<&'a str, Unread>
 
 // That no word is left.
 fn end(words: &mut Words) -> Result<(), Unread>
-    ensures { Gives (λ _. tt) result (at_end words.old tt) }
+    ensures { Gives (λ _. Ended) result (end_of words.old) }
 {
-    at_end(words, ()).ok_or(Unread::Faulty)
+    match words.next() {
+        None => Ok(()),
+        Some(_) => Err(Unread::Faulty),
+    }
 }
 
 fn text(alloc: Global, word: &str) -> Result<String, Unread>

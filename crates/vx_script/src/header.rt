@@ -1,38 +1,45 @@
-ghost use Rattle.std.specs.Prelude.{◌≡◌, ◌==◌, if◌then◌else◌, true, false, None, Some, Ok, IfErr};
-ghost use Rattle.vx_block.specs.Part.{part_cell};
-ghost use Rattle.vx_cells.specs.SectorCells.{only_air, holds, with_cell};
+ghost use Rattle.std.specs.Prelude.{◌≡◌, ◌≤◌, vec_len, true, false, None, Ok, IfOk, IfErr};
 ghost use Rattle.vx_geom.specs.Sizes.{sector_count};
+ghost use Rattle.vx_script.specs.Grounds.{airs};
+ghost use Rattle.vx_script.specs.declared.play.TheConstants.{SECTORS};
 
 use crate::fault::Fault;
 use crate::line::Line;
 use crate::names::number_of;
-use crate::play::{PLAYERS, Play};
-use std::alloc::Global;
+use crate::play::{PLAYERS, Play, SECTORS};
+use std::alloc::{AllocError, Global};
 use std::marker::Model;
 use vx_block::Part;
+use vx_board::Naming;
 use vx_cells::Cells;
 use vx_geom::{Bounds, Pos};
-use vx_region::{Name, RegionSet};
+use vx_policy::Policy;
+use vx_region::Name;
 
 /// The header of a script: the world as it opens, as far as it was read.
 #[derive(Drop)]
 pub struct Header {
-    cells: Option<Cells>,
+    bounds: Option<Bounds>,
+    sectors: Vec<Cells>,
     names: Vec<Name>,
 }
 
 impl Model for Header {
+    ghost use Rattle.std.specs.Prelude.{◌≤◌, vec_len};
     ghost use Rattle.vx_region.specs.Texts.{texts};
     ghost use Rattle.vx_script.specs.Transcript.{Opening};
+    ghost use Rattle.vx_script.specs.declared.play.TheConstants.{SECTORS};
 
     ghost Value = { Opening };
 
-    ghost view = { λ a. record { cells = a.cells; names = texts a.names.items } };
+    ghost view = { λ a. record { sizes = a.bounds; sectors = a.sectors.items; names = texts a.names.items } };
+
+    ghost invariant = { λ a. vec_len a.sectors ≤ SECTORS };
 }
 
 impl Header {
     ghost use Rattle.vx_script.specs.ScriptLines.{said};
-    ghost use Rattle.std.specs.Prelude.{ℕ, List, Result, Err, IfOk, IfSome, option_map};
+    ghost use Rattle.std.specs.Prelude.{ℕ, ◌⊎◌, List, Result, Some, Err, IfSome, option_map};
     ghost use Rattle.vx_region.specs.Regions.{Regions};
     ghost use Rattle.vx_script.specs.declared.fault.Fault.{Fault};
     ghost use Rattle.vx_script.specs.Transcript as transcript;
@@ -43,13 +50,14 @@ impl Header {
         ensures { result ≡ no_opening }
     {
         Header {
-            cells: None,
+            bounds: None,
+            sectors: Vec::new(alloc),
             names: Vec::new(alloc),
         }
     }
 
-    /// Takes the next line of a script in its header. Answers the line where it is the first command, whose player is known;
-    /// then the world is to be made.
+    /// Takes the next line of a script in its header. Answers the line where it is one of the body that may stand there; then the
+    /// world is to be made.
     #[tactic(auto, unfolding(crate::specs::Transcript::header_turn))]
     pub fn turn(
         &mut self,
@@ -75,6 +83,18 @@ impl Header {
                 }
                 Ok(Some(Line::As(name, cmd)))
             }
+            Some(Line::Region(edit)) => {
+                if !self.is_peopled() {
+                    return Err(Fault::Syntax(number));
+                }
+                Ok(Some(Line::Region(edit)))
+            }
+            Some(Line::Tick) => {
+                if !self.is_peopled() {
+                    return Err(Fault::Syntax(number));
+                }
+                Ok(Some(Line::Tick))
+            }
             Some(line) => {
                 if !self.take(alloc, &line)? {
                     return Err(Fault::Syntax(number));
@@ -96,7 +116,7 @@ impl Header {
             Line::World(bounds) => self.take_size(alloc, *bounds),
             Line::Player(name) => self.take_player(name),
             Line::Set(p, part) => Ok(self.take_part(*p, *part)),
-            Line::As(_, _) => Ok(false),
+            Line::As(_, _) | Line::Region(_) | Line::Tick => Ok(false),
         }
     }
 
@@ -111,35 +131,45 @@ impl Header {
     pub fn is_peopled(&self) -> bool
         ensures { result ≡ is_peopled self.now }
     {
-        self.cells.is_some() && !self.names.is_empty()
+        self.bounds.is_some() && !self.names.is_empty()
     }
 
     /// Makes the world, at the line of that number.
     #[tactic(auto, unfolding(crate::specs::Transcript::begun))]
-    pub fn begin(self, alloc: Global, regions: RegionSet, number: u32) -> Result<Play, Fault>
-        ensures { result ≡ begun regions self number }
+    pub fn begin<J: Naming>(
+        self,
+        alloc: Global,
+        policy: Policy,
+        number: u32,
+    ) -> Result<Play<J>, Fault>
+        requires { policy ≡ J.first }
+        ensures ok { IfOk result (λ play. begun J.first self number ≡ Ok play) }
+        ensures fault { (fault : Fault) → result ≡ Err fault → (fault ≡ Fault.NoMemory) ⊎ (begun J.first self number ≡ Err fault) }
     {
-        let Header { cells, names } = self;
-        let Some(cells) = cells else {
+        let Header {
+            bounds,
+            sectors,
+            names,
+        } = self;
+        let Some(bounds) = bounds else {
             return Err(Fault::Syntax(number));
         };
         if PLAYERS < names.len() {
             return Err(Fault::TooManyPlayers);
         }
-        Ok(Play::new(alloc, cells, regions, names))
+        Play::open(alloc, bounds, sectors, names, policy).map_err(|_| Fault::NoMemory)
     }
 
     fn take_size(&mut self, alloc: Global, bounds: Bounds) -> Result<bool, Fault>
-        ensures taken { result ≡ Ok true → with_size self.old (only_air bounds 0) self.old.cells ≡ Some self.new }
-        ensures one { result ≡ Ok true → (sector_count bounds == 1) ≡ true }
-        ensures refused { result ≡ Ok false → (if sector_count bounds == 1 then with_size self.old (only_air bounds 0) self.old.cells else None) ≡ None }
+        ensures taken { result ≡ Ok true → with_size self.old bounds self.old.sizes ≡ Some self.new }
+        ensures refused { result ≡ Ok false → with_size self.old bounds self.old.sizes ≡ None }
         ensures err { IfErr result (λ fault. fault ≡ Fault.NoMemory) }
     {
-        if bounds.sectors() != 1 || self.cells.is_some() {
+        if self.bounds.is_some() {
             return Ok(false);
         }
-        let cells = Cells::new(alloc, bounds, 0).map_err(|_| Fault::NoMemory)?;
-        self.cells = Some(cells);
+        self.sectors = all_air(alloc, bounds).map_err(|_| Fault::NoMemory)?;
+        self.bounds = Some(bounds);
         Ok(true)
     }
 
@@ -148,18 +178,25 @@ impl Header {
         ensures refused { result ≡ Ok false → with_player self.old name.now.text.bytes ≡ None }
         ensures err { IfErr result (λ fault. fault ≡ Fault.NoMemory) }
     {
-        if self.cells.is_none() || number_of(&self.names, name).is_some() {
+        if self.bounds.is_none() || number_of(&self.names, name).is_some() {
             return Ok(false);
         }
         self.names.push(*name).map_err(|_| Fault::NoMemory)?;
         Ok(true)
     }
 
+    #[tactic(auto, unfolding(crate::specs::Transcript::with_part, crate::specs::Transcript::sector_at))]
     fn take_part(&mut self, p: Pos, part: Part) -> bool
-        ensures taken { result ≡ true → with_part self.old (λ cells. holds cells p) (λ cells. with_cell cells p (part_cell part)) self.old.cells ≡ Some self.new }
-        ensures refused { result ≡ false → with_part self.old (λ cells. holds cells p) (λ cells. with_cell cells p (part_cell part)) self.old.cells ≡ None }
+        ensures taken { result ≡ true → with_part self.old p part ≡ Some self.new }
+        ensures refused { result ≡ false → with_part self.old p part ≡ None }
     {
-        let Some(cells) = &mut self.cells else {
+        let Some(bounds) = self.bounds else {
+            return false;
+        };
+        let Some(number) = bounds.sector_of(p) else {
+            return false;
+        };
+        let Some(cells) = self.sectors.get_mut(number as usize) else {
             return false;
         };
         if !cells.holds(p) {
@@ -168,4 +205,16 @@ impl Header {
         cells.set(p, part.cell());
         true
     }
+}
+
+// The sectors of a world of this size, with nothing but air.
+fn all_air(alloc: Global, bounds: Bounds) -> Result<Vec<Cells>, AllocError>
+    ensures cells { IfOk result (λ sectors. sectors.items ≡ airs bounds (sector_count bounds)) }
+    ensures few { IfOk result (λ sectors. vec_len sectors ≤ SECTORS) }
+{
+    let mut sectors = Vec::new(alloc);
+    for number in 0..bounds.sectors() {
+        sectors.push(Cells::new(alloc, bounds, number)?)?;
+    }
+    Ok(sectors)
 }

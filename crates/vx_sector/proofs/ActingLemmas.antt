@@ -13,7 +13,7 @@ use Rattle.vx_sector.specs.declared.cmd.Cmd.TheVariants.{Look, Place, Break}
 use Rattle.vx_sector.specs.declared.reply.Reply.{Reply}
 use Rattle.vx_sector.specs.declared.refusal.Refusal.{Refusal}
 use Rattle.vx_sector.specs.declared.refusal.Refusal.TheVariants.{OutOfWorld, HistoryFull}
-use Rattle.vx_sector.specs.Acting.{place_of, ok_unless, refuse_if, first_some, answer_of, cells_by, leaves_trace, most_entries, is_full, is_recorded, sector_after}
+use Rattle.vx_sector.specs.Acting.{place_of, ok_unless, refuse_if, first_some, answer_of, cells_by, leaves_trace, most_entries, count_of, is_full, is_recorded, sector_after}
 use Rattle.vx_sector.specs.Laws.{OneCellChanges, RefusalLeavesCells}
 
 first_fails : (b : Bool) (rest : List (Option Refusal)) (x : Reply) → is_ok (ok_unless (first_some (refuse_if (not b) OutOfWorld ∷ rest)) x) ≡ true → b ≡ true
@@ -40,7 +40,7 @@ not_full s seat (Place p part) h = recorded_has_room (holds s.cells p) (is_full 
 not_full s seat (Break p) h = recorded_has_room (holds s.cells p) (is_full s) _ _ h
 
 -- a command that is recorded finds room in the record
-pub room_where_recorded : (s : SectorData) (seat : SeatData) (cmd : Cmd) → is_recorded (answer_of s seat cmd) ≡ true → length s.entries + s.closed < most_entries
+pub room_where_recorded : (s : SectorData) (seat : SeatData) (cmd : Cmd) → is_recorded (answer_of s seat cmd) ≡ true → count_of s < most_entries
 unfolding is_full
 room_where_recorded s seat cmd h = leb-false _ _ (not_full s seat cmd h)
 

@@ -44,9 +44,13 @@ rule_of (Deny rule) = rule
 abbrev pub most_entries : ℕ
 most_entries = 2 ^ 40
 
+-- how many entries were recorded, in closed windows too
+abbrev pub count_of : SectorData → ℕ
+count_of s = length s.entries + s.closed
+
 -- as many entries were recorded as may be
 unfoldable pub is_full : SectorData → Bool
-is_full s = nat_le most_entries (length s.entries + s.closed)
+is_full s = nat_le most_entries (count_of s)
 
 -- what the policy says to the player of the seat on the action at the place
 abbrev pub judged : SectorData → SeatData → Action → Pos → Verdict
@@ -143,4 +147,4 @@ sector_after s seat cmd answer = if is_recorded answer then recorded s (record {
 
 -- the sector as its next window begins: judged by another version, with nothing recorded in it yet
 unfoldable pub renewed : SectorData → Version → SectorData
-renewed s version = record s { version = version; entries = []; closed = length s.entries + s.closed }
+renewed s version = record s { version = version; entries = []; closed = count_of s }

@@ -1,6 +1,6 @@
-ghost use Rattle.std.specs.Prelude.{◌≡◌, ◌⊎◌, true, false, is_ok, Err, IfErr, OnOk, OnErr};
+ghost use Rattle.std.specs.Prelude.{◌≡◌, ◌≤◌, ◌<◌, ◌⊎◌, true, is_ok, Err, IfErr, OnOk, OnErr};
 ghost use Rattle.vx_cells.specs.SectorCells.{holds};
-ghost use Rattle.vx_sector.specs.Acting.{place_of, most_entries, cells_by, is_recorded, is_full, is_air, is_bedrock};
+ghost use Rattle.vx_sector.specs.Acting.{place_of, most_entries, count_of, cells_by, is_recorded, is_full, is_air, is_bedrock};
 
 use crate::cmd::Cmd;
 use crate::entry::Entry;
@@ -43,7 +43,7 @@ impl Model for Sector {
 }
 
 impl Sector {
-    ghost use Rattle.std.specs.Prelude.{[], ◌+◌, ◌<◌, length, map};
+    ghost use Rattle.std.specs.Prelude.{[], map};
     ghost use Rattle.vx_sector.specs.SectorData.{seat_of, entry_of};
     ghost use Rattle.vx_sector.specs.Acting.{place_of, permitted, answer_of, recorded, renewed, sector_after};
 
@@ -80,7 +80,8 @@ impl Sector {
 
     /// How many commands were recorded, in closed windows too.
     pub fn count(&self) -> u64
-        ensures { result ≡ length self.now.entries + self.now.closed }
+        ensures value { result ≡ count_of self.now }
+        ensures most { count_of self.now ≤ most_entries }
     {
         self.entries.len() as u64 + self.closed
     }
@@ -112,7 +113,7 @@ impl Sector {
 
     // Does what the command does where it was carried out, and puts it at the end of the record.
     fn record(&mut self, entry: Entry) -> Result<(), Refusal>
-        requires room { length self.old.entries + self.old.closed < most_entries }
+        requires room { count_of self.old < most_entries }
         requires held { is_ok entry.answer ≡ true → holds self.old.cells (place_of entry.cmd) ≡ true }
         ensures ok { OnOk result (self.new ≡ recorded self.old (entry_of entry)) }
         ensures err { OnErr result (self.new ≡ self.old) }

@@ -1,0 +1,7 @@
+use Rattle.std.proofs.Common.{◌≡◌, length}
+use Rattle.vx_script.specs.Grounds.{airs}
+use Rattle.vx_script.proofs.header.all_air.Given as goal
+
+-- the sectors up to this number
+abbrev pub invariant-loop-number : goal.invariant-loop-number
+invariant-loop-number l = (l.sectors.items ≡ airs l.bounds l.number) × (length l.sectors.items ≡ l.number)

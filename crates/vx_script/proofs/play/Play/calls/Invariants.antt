@@ -1,0 +1,8 @@
+use Rattle.std.proofs.Common.{◌≡◌, ◌≤◌, ◌*◌, ◌^◌, take}
+use Rattle.std.specs.List.{sum_by}
+use Rattle.vx_sector.specs.Acting.{count_of}
+use Rattle.vx_script.proofs.play.Play.calls.Given as goal
+
+-- the entries of the sectors so far
+abbrev pub invariant-loop-sector : goal.invariant-loop-sector
+invariant-loop-sector g l = (l.calls ≡ sum_by count_of (take l.sector-index l.sector-items)) × (l.calls ≤ l.sector-index * 2 ^ 40)

@@ -1,16 +1,22 @@
 -- A run faults at its first faulty line.
-use Rattle.std.proofs.Common.{◌≡◌, ◌≢◌, ℕ, ◌+◌, Bool, true, false, List, [], ◌∷◌, ◌++◌, length, Option, Some, None, is_some, nat_lt, Result, Ok, Err, if◌then◌else◌, refl, ap, sym, ◌∙◌, subst, arith}
+use Rattle.std.proofs.Common.{◌≡◌, ◌≢◌, ℕ, ◌+◌, Bool, true, false, List, [], ◌∷◌, ◌++◌, length, Option, Some, None, is_some, nat_lt, nat_le, codes, decimal, Result, Ok, Err, if◌then◌else◌, refl, ap, sym, ◌∙◌, subst, arith}
 use Rattle.vx_region.specs.Regions.{Regions}
 use Rattle.std.proofs.lemmas.Bool.{and_parts}
-use Rattle.vx_cells.specs.SectorCells.{SectorCells}
+use Rattle.vx_geom.specs.Sizes.{Sizes}
+use Rattle.vx_policy.specs.Asked.{Asked}
+use Rattle.vx_policy.specs.Edits.{number_given}
+use Rattle.vx_policy.specs.Refusals.{refusal}
+use Rattle.vx_policy.specs.Texts.{edit_refusal_text}
+use Rattle.vx_policy.specs.declared.edit_refusal.EditRefusal.{EditRefusal}
+use Rattle.vx_board.specs.Accepted.{most_edits}
+use Rattle.vx_board.specs.Texts.{edit_text}
 use Rattle.vx_sector.specs.SectorData.{SeatData}
-use Rattle.vx_sector.specs.Acting.{answer_of, sector_after}
 use Rattle.vx_sector.specs.declared.cmd.Cmd.{Cmd}
 use Rattle.vx_script.specs.declared.fault.Fault.{Fault}
-use Rattle.vx_script.specs.declared.fault.Fault.TheVariants.{Syntax, TooManyPlayers}
-use Rattle.vx_script.specs.ScriptLines.{Said, Nothing, World, Player, Set, Act}
+use Rattle.vx_script.specs.declared.fault.Fault.TheVariants.{HistoryFull, Syntax, TooManyPlayers}
+use Rattle.vx_script.specs.ScriptLines.{Said, Nothing, World, Player, Set, Act, Region, Tick}
 use Rattle.vx_script.specs.Lines.{lines_of}
-use Rattle.vx_script.specs.Transcript.{Opening, Play, read_of, prepend, or_syntax, played, seat_named, body_turn, body_run, and_play, begun, begun_with, first_command, is_named, header_after, header_turn, header_end, is_peopled, done_text, most_players, line_text, answer_text, header_run, no_opening, transcript}
+use Rattle.vx_script.specs.Transcript.{Opening, Play, read_of, prepend, or_syntax, acted, is_history, played, policy_of, edit_told, edit_turn, tick_turn, ticked, most_ticks, seat_named, body_turn, body_run, and_play, begun, begun_with, opened, first_line, is_named, header_after, header_turn, header_end, is_peopled, done_text, most_players, line_text, answer_text, header_run, no_opening, transcript}
 use Rattle.vx_script.specs.FirstFault.{IsFirstFault, FirstFault}
 
 -- the fault is at the first line
@@ -38,10 +44,70 @@ module _ (play : Play) (n : ℕ) (line : List ℕ) (lines : List (List ℕ)) (k 
   body_done : (j : ℕ) → body_run play n [] ≢ Err (Syntax j)
   body_done j fault = cc
 
-  -- a line of the body, by what it says
-  body_line : (said : Option Said) → read_of line ≡ said → ((next : Play) → body_run next (n + 1) lines ≡ Err (Syntax k) → IsFirstFault (body_run next (n + 1)) (n + 1) lines k)
-      → body_turn play n said (λ next. body_run next (n + 1) lines) ≡ Err (Syntax k) → IsFirstFault (body_run play n) n (line ∷ lines) k
+  -- what follows a line faults at its first faulty line
+  Later : Type 0
+  Later = (next : Play) → body_run next (n + 1) lines ≡ Err (Syntax k) → IsFirstFault (body_run next (n + 1)) (n + 1) lines k
+
+  -- a line that is answered, and after which the play goes on
+  answered : (said : Said) → read_of line ≡ Some said → (text : List ℕ) (next : Play)
+      → ((go : Play → Result (List ℕ) Fault) → body_turn play n (Some said) go ≡ prepend text (go next)) → Later
+      → body_turn play n (Some said) (λ next. body_run next (n + 1) lines) ≡ Err (Syntax k) → IsFirstFault (body_run play n) n (line ∷ lines) k
+  unfolding Later
+  answered said reads text next turns later fault =
+      further_on _ (body_run next (n + 1)) n k line lines (later next (behind_text text _ k (sym (turns _) ∙ fault)))
+      (λ before j at. behind_text text _ j (sym (turns _) ∙ sym (ap (λ said. body_turn play n said (λ next. body_run next (n + 1) before)) reads) ∙ at))
+
+  -- a command
+  act_line : (name : List ℕ) (cmd : Cmd) → read_of line ≡ Some (Act name cmd) → Later
+      → body_turn play n (Some (Act name cmd)) (λ next. body_run next (n + 1) lines) ≡ Err (Syntax k) → IsFirstFault (body_run play n) n (line ∷ lines) k
   unfolding body_turn
+  act_line name cmd reads later fault = by (seat_named play name) refl fault
+    where
+      by : (seat : Option SeatData) → seat_named play name ≡ seat → or_syntax n seat (played play cmd (λ next. body_run next (n + 1) lines)) ≡ Err (Syntax k)
+          → IsFirstFault (body_run play n) n (line ∷ lines) k
+      by None none at = at_once _ n k line lines (cc) body_done
+      by (Some seat) found at = told (is_history (acted play seat cmd).0) refl at
+        where
+          told : (full : Bool) → is_history (acted play seat cmd).0 ≡ full
+              → (if full then Err HistoryFull else prepend (line_text (answer_text (acted play seat cmd).0)) (body_run (record play { sectors = (acted play seat cmd).1 }) (n + 1) lines)) ≡ Err (Syntax k)
+              → IsFirstFault (body_run play n) n (line ∷ lines) k
+          told true full at = cc
+          told false room at = answered (Act name cmd) reads (line_text (answer_text (acted play seat cmd).0)) (record play { sectors = (acted play seat cmd).1 })
+              (λ go. ap (λ o. or_syntax n o (played play cmd go)) found
+              ∙ ap (λ b. if b then Err HistoryFull else prepend (line_text (answer_text (acted play seat cmd).0)) (go (record play { sectors = (acted play seat cmd).1 }))) room) later fault
+
+  -- an edit
+  region_line : (e : Asked) → read_of line ≡ Some (Region e) → Later
+      → body_turn play n (Some (Region e)) (λ next. body_run next (n + 1) lines) ≡ Err (Syntax k) → IsFirstFault (body_run play n) n (line ∷ lines) k
+  unfolding body_turn edit_turn
+  region_line e reads later fault = by (nat_le most_edits (length play.accepted)) refl (refusal (policy_of play) e) refl fault
+    where
+      by : (full : Bool) → nat_le most_edits (length play.accepted) ≡ full → (cause : Option EditRefusal) → refusal (policy_of play) e ≡ cause
+          → (if full then Err HistoryFull else edit_told play e (λ next. body_run next (n + 1) lines) cause) ≡ Err (Syntax k) → IsFirstFault (body_run play n) n (line ∷ lines) k
+      by true full cause is at = cc
+      by false room (Some cause) is at = answered (Region e) reads (line_text (edit_refusal_text cause)) play
+          (λ go. ap (λ b. if b then Err HistoryFull else edit_told play e go (refusal (policy_of play) e)) room ∙ ap (edit_told play e go) is) later fault
+      by false room None is at = answered (Region e) reads (line_text (edit_text (length play.accepted + 1) (number_given (policy_of play) e)))
+          (record play { accepted = play.accepted ++ e ∷ [] })
+          (λ go. ap (λ b. if b then Err HistoryFull else edit_told play e go (refusal (policy_of play) e)) room ∙ ap (edit_told play e go) is) later fault
+
+  -- a tick
+  tick_line : read_of line ≡ Some Tick → Later
+      → body_turn play n (Some Tick) (λ next. body_run next (n + 1) lines) ≡ Err (Syntax k) → IsFirstFault (body_run play n) n (line ∷ lines) k
+  unfolding body_turn tick_turn
+  tick_line reads later fault = by (nat_le most_ticks play.ticks) refl fault
+    where
+      by : (full : Bool) → nat_le most_ticks play.ticks ≡ full
+          → (if full then Err HistoryFull else prepend (line_text (codes "tick " ++ decimal (play.ticks + 1))) (body_run (ticked play) (n + 1) lines)) ≡ Err (Syntax k)
+          → IsFirstFault (body_run play n) n (line ∷ lines) k
+      by true full at = cc
+      by false room at = answered Tick reads (line_text (codes "tick " ++ decimal (play.ticks + 1))) (ticked play)
+          (λ go. ap (λ b. if b then Err HistoryFull else prepend (line_text (codes "tick " ++ decimal (play.ticks + 1))) (go (ticked play))) room) later fault
+
+  -- a line of the body, by what it says
+  body_line : (said : Option Said) → read_of line ≡ said → Later
+      → body_turn play n said (λ next. body_run next (n + 1) lines) ≡ Err (Syntax k) → IsFirstFault (body_run play n) n (line ∷ lines) k
+  unfolding body_turn Later
   body_line None reads later fault = at_once _ n k line lines (cc) body_done
   body_line (Some Nothing) reads later fault =
       further_on _ (body_run play (n + 1)) n k line lines (later play fault)
@@ -49,35 +115,22 @@ module _ (play : Play) (n : ℕ) (line : List ℕ) (lines : List (List ℕ)) (k 
   body_line (Some (World sizes)) reads later fault = at_once _ n k line lines (cc) body_done
   body_line (Some (Player name)) reads later fault = at_once _ n k line lines (cc) body_done
   body_line (Some (Set p part)) reads later fault = at_once _ n k line lines (cc) body_done
-  body_line (Some (Act name cmd)) reads later fault = by (seat_named play name) refl fault
-    where
-      by : (seat : Option SeatData) → seat_named play name ≡ seat → or_syntax n seat (played play cmd (λ next. body_run next (n + 1) lines)) ≡ Err (Syntax k)
-          → IsFirstFault (body_run play n) n (line ∷ lines) k
-      by None none at = at_once _ n k line lines (cc) body_done
-      by (Some seat) found at =
-          let next = record play { sector = sector_after play.sector seat cmd (answer_of play.sector seat cmd) } in
-          let text = line_text (answer_text (answer_of play.sector seat cmd)) in
-          further_on _ (body_run next (n + 1)) n k line lines (later next (behind_text text _ k at))
-          (λ before j fault. behind_text text _ j (sym (turned before) ∙ fault))
-        where
-          turned : (before : List (List ℕ)) → body_run play n (line ∷ before) ≡ played play cmd (λ next. body_run next (n + 1) before) seat
-          turned before = ap (λ said. body_turn play n said (λ next. body_run next (n + 1) before)) reads
-              ∙ ap (λ o. or_syntax n o (played play cmd (λ next. body_run next (n + 1) before))) found
+  body_line (Some (Act name cmd)) reads later fault = act_line name cmd reads later fault
+  body_line (Some (Region e)) reads later fault = region_line e reads later fault
+  body_line (Some Tick) reads later fault = tick_line reads later fault
 
 -- the body faults at its first faulty line
 body_fault : (play : Play) (n : ℕ) (lines : List (List ℕ)) (k : ℕ) → body_run play n lines ≡ Err (Syntax k) → IsFirstFault (body_run play n) n lines k
+unfolding Later
 body_fault play n [] k fault = cc
 body_fault play n (line ∷ lines) k fault = body_line play n line lines k (read_of line) refl (λ next at. body_fault next (n + 1) lines k at) fault
 
-abbrev world_of : Regions → List (List ℕ) → SectorCells → Play
-world_of rs players cells = record { sector = record { cells = cells; regions = rs; entries = [] }; names = players }
-
-begun_sound : (rs : Regions) (players : List (List ℕ)) (n : ℕ) (cells : Option SectorCells) (body : Play → Result (List ℕ) Fault) (k : ℕ)
-    → is_some cells ≡ true → ((play : Play) → body play ≢ Err (Syntax k)) → and_play (begun_with rs players n cells) body ≢ Err (Syntax k)
-begun_sound rs players n None body k some sound fault = cc
-begun_sound rs players n (Some cells) body k some sound fault = by (nat_lt most_players (length players)) fault
+begun_sound : (rs : Regions) (o : Opening) (n : ℕ) (sizes : Option Sizes) (body : Play → Result (List ℕ) Fault) (k : ℕ)
+    → is_some sizes ≡ true → ((play : Play) → body play ≢ Err (Syntax k)) → and_play (begun_with rs o n sizes) body ≢ Err (Syntax k)
+begun_sound rs o n None body k some sound fault = cc
+begun_sound rs o n (Some sizes) body k some sound fault = by (nat_lt most_players (length o.names)) fault
   where
-    by : (b : Bool) → and_play (if b then Err TooManyPlayers else Ok (world_of rs players cells)) body ≡ Err (Syntax k) → ⊥
+    by : (b : Bool) → and_play (if b then Err TooManyPlayers else Ok (opened rs o sizes)) body ≡ Err (Syntax k) → ⊥
     by true at = cc
     by false at = sound _ at
 
@@ -86,8 +139,8 @@ end_sound : (rs : Regions) (o : Opening) (n k : ℕ) → header_end rs o n ≢ E
 unfolding header_end begun
 end_sound rs o n k fault = by (is_peopled o) refl fault
   where
-    by : (b : Bool) → is_peopled o ≡ b → (if b then and_play (begun_with rs o.names n o.cells) (λ play. Ok (done_text play)) else Ok []) ≡ Err (Syntax k) → ⊥
-    by true peopled at = begun_sound rs o.names n o.cells _ k (and_parts _ _ peopled).0 (λ play wrong. cc) at
+    by : (b : Bool) → is_peopled o ≡ b → (if b then and_play (begun_with rs o n o.sizes) (λ play. Ok (done_text play)) else Ok []) ≡ Err (Syntax k) → ⊥
+    by true peopled at = begun_sound rs o n o.sizes _ k (and_parts _ _ peopled).0 (λ play wrong. cc) at
     by false empty at = cc
 
 module _ (rs : Regions) (o : Opening) (n : ℕ) (line : List ℕ) (lines : List (List ℕ)) (k : ℕ) where
@@ -126,29 +179,30 @@ module _ (rs : Regions) (o : Opening) (n : ℕ) (line : List ℕ) (lines : List 
           let own_is : line ≡ own = cc in
           runs (sym (subst (λ l. header_run rs o n (l ∷ before) ≡ body_run play n (l ∷ before)) own_is (same before)) ∙ fault)
 
-  begun_fault : (cells : Option SectorCells) → (fault : Fault) → begun_with rs o.names n cells ≡ Err fault → fault ≡ Syntax k → k ≡ n
+  begun_fault : (sizes : Option Sizes) → (fault : Fault) → begun_with rs o n sizes ≡ Err fault → fault ≡ Syntax k → k ≡ n
   begun_fault None fault made is = cc
-  begun_fault (Some cells) fault made is = by (nat_lt most_players (length o.names)) made
+  begun_fault (Some sizes) fault made is = by (nat_lt most_players (length o.names)) made
     where
-      by : (b : Bool) → (if b then Err TooManyPlayers else Ok (world_of rs o.names cells)) ≡ Err fault → k ≡ n
+      by : (b : Bool) → (if b then Err TooManyPlayers else Ok (opened rs o sizes)) ≡ Err fault → k ≡ n
       by true at = cc
       by false at = cc
 
-  -- the first command: the body faults from there on
-  header_last : (name : List ℕ) (cmd : Cmd) → read_of line ≡ Some (Act name cmd)
-      → first_command rs o n name (λ play. body_run play n (line ∷ lines)) ≡ Err (Syntax k) → IsFirstFault (header_run rs o n) n (line ∷ lines) k
-  unfolding header_turn begun
-  header_last name cmd reads fault = by (is_named o.names name) refl (begun_with rs o.names n o.cells) refl fault
+  -- the first line of the body: the body faults from there on
+  header_last : (said : Said) (may_stand : Bool) → read_of line ≡ Some said
+      → ((go : Opening → Result (List ℕ) Fault) (body : Play → Result (List ℕ) Fault) → header_turn rs o n (Some said) go body ≡ first_line rs o n may_stand body)
+      → first_line rs o n may_stand (λ play. body_run play n (line ∷ lines)) ≡ Err (Syntax k) → IsFirstFault (header_run rs o n) n (line ∷ lines) k
+  unfolding begun
+  header_last said false reads turns fault = at_once _ n k line lines (cc) (λ j. end_sound rs o n j)
+  header_last said true reads turns fault = by (begun_with rs o n o.sizes) refl fault
     where
-      by : (b : Bool) → is_named o.names name ≡ b → (made : Result Play Fault) → begun_with rs o.names n o.cells ≡ made
-          → (if b then and_play made (λ play. body_run play n (line ∷ lines)) else Err (Syntax n)) ≡ Err (Syntax k) → IsFirstFault (header_run rs o n) n (line ∷ lines) k
-      by false unknown made makes at = at_once _ n k line lines (cc) (λ j. end_sound rs o n j)
-      by true known (Err fault) makes at = at_once _ n k line lines (let is : fault ≡ Syntax k = cc in begun_fault o.cells fault makes is) (λ j. end_sound rs o n j)
-      by true known (Ok play) makes at = handed_on play same (body_fault play n (line ∷ lines) k at)
+      by : (made : Result Play Fault) → begun_with rs o n o.sizes ≡ made
+          → and_play made (λ play. body_run play n (line ∷ lines)) ≡ Err (Syntax k) → IsFirstFault (header_run rs o n) n (line ∷ lines) k
+      by (Err fault) makes at = at_once _ n k line lines (let is : fault ≡ Syntax k = cc in begun_fault o.sizes fault makes is) (λ j. end_sound rs o n j)
+      by (Ok play) makes at = handed_on play same (body_fault play n (line ∷ lines) k at)
         where
           same : (before : List (List ℕ)) → header_run rs o n (line ∷ before) ≡ body_run play n (line ∷ before)
           same before = ap (λ read. header_turn rs o n read (λ next. header_run rs next (n + 1) before) (λ play. body_run play n (line ∷ before))) reads
-              ∙ ap (λ b. if b then and_play (begun_with rs o.names n o.cells) (λ play. body_run play n (line ∷ before)) else Err (Syntax n)) known
+              ∙ turns (λ next. header_run rs next (n + 1) before) (λ play. body_run play n (line ∷ before))
               ∙ ap (λ made. and_play made (λ play. body_run play n (line ∷ before))) makes
 
   header_line : (said : Option Said) → read_of line ≡ said → ((next : Opening) → header_run rs next (n + 1) lines ≡ Err (Syntax k) → IsFirstFault (header_run rs next (n + 1)) (n + 1) lines k)
@@ -159,7 +213,9 @@ module _ (rs : Regions) (o : Opening) (n : ℕ) (line : List ℕ) (lines : List 
   header_line (Some (World sizes)) reads later fault = header_on (World sizes) reads (λ go body. refl) later fault
   header_line (Some (Player name)) reads later fault = header_on (Player name) reads (λ go body. refl) later fault
   header_line (Some (Set p part)) reads later fault = header_on (Set p part) reads (λ go body. refl) later fault
-  header_line (Some (Act name cmd)) reads later fault = header_last name cmd reads fault
+  header_line (Some (Act name cmd)) reads later fault = header_last (Act name cmd) (is_named o.names name) reads (λ go body. refl) fault
+  header_line (Some (Region e)) reads later fault = header_last (Region e) (is_peopled o) reads (λ go body. refl) fault
+  header_line (Some Tick) reads later fault = header_last Tick (is_peopled o) reads (λ go body. refl) fault
 
 header_fault : (rs : Regions) (o : Opening) (n : ℕ) (lines : List (List ℕ)) (k : ℕ) → header_run rs o n lines ≡ Err (Syntax k) → IsFirstFault (header_run rs o n) n lines k
 header_fault rs o n [] k fault = absurd (end_sound rs o n k fault)

@@ -7,3 +7,4 @@ pub mod Runs
 pub mod Spelled
 pub mod Taking
 pub mod Points
+pub mod Renewals

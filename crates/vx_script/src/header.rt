@@ -74,6 +74,7 @@ impl Header {
             → (rs : Regions) (go : Opening → Result (List ℕ) Fault) (body : transcript.Play → Result (List ℕ) Fault)
             → header_turn rs self.old number (option_map said line) go body ≡ Err (Fault.Syntax k) }
         ensures players { result ≡ Err Fault.TooManyPlayers → ⊥ }
+        ensures history { result ≡ Err Fault.HistoryFull → ⊥ }
     {
         match line {
             None => Err(Fault::Syntax(number)),
@@ -145,6 +146,7 @@ impl Header {
         requires { policy ≡ J.first }
         ensures ok { IfOk result (λ play. begun J.first self number ≡ Ok play) }
         ensures fault { (fault : Fault) → result ≡ Err fault → (fault ≡ Fault.NoMemory) ⊎ (begun J.first self number ≡ Err fault) }
+        ensures history { result ≡ Err Fault.HistoryFull → ⊥ }
     {
         let Header {
             bounds,

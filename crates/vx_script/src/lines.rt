@@ -47,6 +47,7 @@ impl Lines {
         ensures long { (k : ℕ) → result ≡ Err (Fault.Syntax k) → (k ≡ self.old.number + 1)
             × IsNextLong LINE_BYTES (prepend_known self.old.input (R.remaining reader.old)) }
         ensures players { result ≡ Err Fault.TooManyPlayers → ⊥ }
+        ensures history { result ≡ Err Fault.HistoryFull → ⊥ }
         ensures written { IfOk result (λ _. Keeps (W.contents writer.old) (W.contents writer.new)) }
     {
         if self.number == LINES {

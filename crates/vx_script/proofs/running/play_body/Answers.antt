@@ -34,7 +34,7 @@ body_lines-preserved g c =
       goes_on _ _ _ _ _ _ c.body_lines.invariant.2 (c.in_ok-next.ensures.line (ap Ok c.if-branch.true))
           (λ all rest more first runs. subst (λ m. body_run c.args.play.now (c.args.lines.now.number + 1) (lines_of all) ≡ prepend text (body_run play m (lines_of rest))) (sym c.in_ok-next.ensures.number) runs
           ∙ ap (λ ls. prepend text (body_run play n ls)) first
-          ∙ ap (prepend text) (body_step play n _ (lines_of more) _ turn.0 c.turn.new.self (rw c.deref.ensures.value at c.read_of.ensures) turn.2)
+          ∙ ap (prepend text) (body_step play n _ (lines_of more) _ turn.0 c.turn.new.self (rw c.deref.ensures.value at c.in_ok-line.ensures.ok) turn.2)
           ∙ prepend-prepend text turn.0 _),
     )
 

@@ -18,7 +18,7 @@ returns-in_err-turn-clause-syntax g c =
     let was : c.turn.result ≡ Err (Syntax k) = cc (exit.1, exit.2, same, c.in_err-turn.was) in
     let Faulty : List ℕ → Type 0 = λ rest. run_from g.J.Naming.first c.args.header n (said c.args.first) (lines_of rest) ≡ Err (Syntax k) in
     of_known _ Faulty
-    (λ rest. run_begun g.J.Naming.first c.args.header n (said c.args.first) (lines_of rest) _ (sym c.in_ok-play.ensures) ∙ c.turn.ensures.syntax k was _)
+    (λ rest. run_begun g.J.Naming.first c.args.header n (said c.args.first) (lines_of rest) _ c.in_ok-play.ensures.ok ∙ c.turn.ensures.syntax k was _)
 
 pub returns-clause-ok : goal.returns-clause-ok
 returns-clause-ok g c =
@@ -30,7 +30,7 @@ returns-clause-ok g c =
     (λ rest text. (
       turn.0 ++ text.0,
       Appends-trans _ _ _ _ _ turn.1 text.1,
-      run_begun g.J.Naming.first c.args.header n (said c.args.first) (lines_of rest) _ (sym c.in_ok-play.ensures) ∙ turn.2 _ ∙ ap (prepend turn.0) text.2,
+      run_begun g.J.Naming.first c.args.header n (said c.args.first) (lines_of rest) _ c.in_ok-play.ensures.ok ∙ turn.2 _ ∙ ap (prepend turn.0) text.2,
     )))
     c.play_body.ensures.ok
 
@@ -41,4 +41,4 @@ returns-clause-syntax g c =
     λ k same.
     let Faulty : List ℕ → Type 0 = λ rest. run_from g.J.Naming.first c.args.header n (said c.args.first) (lines_of rest) ≡ Err (Syntax k) in
     if_known _ _ Faulty (c.play_body.ensures.syntax k same)
-    (λ rest fault. run_begun g.J.Naming.first c.args.header n (said c.args.first) (lines_of rest) _ (sym c.in_ok-play.ensures) ∙ turn.2 _ ∙ ap (prepend turn.0) fault)
+    (λ rest fault. run_begun g.J.Naming.first c.args.header n (said c.args.first) (lines_of rest) _ c.in_ok-play.ensures.ok ∙ turn.2 _ ∙ ap (prepend turn.0) fault)

@@ -34,4 +34,4 @@ returns-in_err-first-clause-syntax g c =
     goes_out _ _ _ _ _ Faulty c.header_lines.invariant.same (c.in_ok-next.ensures.line (ap Ok c.if-branch.true))
     (λ all rest more first runs rs. subst (λ m. header_run rs c.args.header.now (c.args.lines.now.number + 1) (lines_of all) ≡ header_run rs header m (lines_of rest)) (sym c.in_ok-next.ensures.number) (runs rs)
     ∙ ap (header_run rs header n) first
-    ∙ header_step rs header n _ (lines_of more) _ _ (rw c.deref.ensures.value at c.read_of.ensures) (c.turn.ensures.syntax k was rs _ _))
+    ∙ header_step rs header n _ (lines_of more) _ _ (rw c.deref.ensures.value at c.in_ok-line.ensures.ok) (c.turn.ensures.syntax k was rs _ _))

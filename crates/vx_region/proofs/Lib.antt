@@ -3,6 +3,7 @@ pub mod Changes
 pub mod FlagChanges
 pub mod Forests
 pub mod Globals
+pub mod Indexing
 pub mod Lookups
 pub mod NameLemmas
 pub mod Numbers

@@ -38,6 +38,11 @@ pub lent_from_known : (n : ℕ) (rs : Regions) (lent : Option (MutBor RegionData
 unfolding region_at
 lent_from_known n rs lent known found = some_reference lent (rw (found, lookup_is n rs.entries) known)
 
+-- and finds it
+pub found_from_known : (n : ℕ) (rs : Regions) (found : Option RegionData) → IsSome (region_at rs n) → found ≡ lookup (nat_eq n) rs.entries → IsSome found
+unfolding region_at
+found_from_known n rs found known is = rw (is, lookup_is n rs.entries) known
+
 -- the region at a place is the one of the number there
 pub region_at_place : (rs : Regions) (i n : ℕ) (r : RegionData) → IsNumbered rs → slice_get rs.entries i ≡ Some (n, r) → region_at rs n ≡ Some r
 unfolding region_at

@@ -2,6 +2,7 @@ pub mod Alphabet
 pub mod Ancestry
 pub mod Association
 pub mod Forest
+pub mod IdIndex
 pub mod Laws
 pub mod Regions
 pub mod RegionsLaws

@@ -126,6 +126,7 @@ impl Region {
         // A name that is there needs no room.
         ensures absent { OnErr result (names self.old.owners name.text.bytes ≡ false) }
         ensures parent { self.new.parent ≡ self.old.parent }
+        ensures id { self.new.id ≡ self.old.id }
     {
         let _added = self.owners.insert(name)?;
         Ok(())
@@ -138,6 +139,7 @@ impl Region {
         // A name that is there needs no room.
         ensures absent { OnErr result (names self.old.members name.text.bytes ≡ false) }
         ensures parent { self.new.parent ≡ self.old.parent }
+        ensures id { self.new.id ≡ self.old.id }
     {
         let _added = self.members.insert(name)?;
         Ok(())

@@ -30,18 +30,20 @@ use vx_geom::{Pos, Shape};
 pub struct RegionSet {
     last: u32,
     regions: IndexMap<u32, Region>,
+    // The number of each region by its id.
+    numbers: IndexMap<Id, u32>,
     global: Settings,
 }
 
 impl Model for RegionSet {
     ghost use Rattle.vx_region.specs.Regions.{Regions};
-    ghost use Rattle.vx_region.specs.Forest.{IsForest};
+    ghost use Rattle.vx_region.specs.IdIndex.{IsSound};
 
     ghost Value = { Regions };
 
     ghost view = { λ a. record { last = a.last; entries = a.regions.entries; global = a.global } };
 
-    ghost invariant = { λ a. IsForest (record { last = a.last; entries = a.regions.entries; global = a.global }) };
+    ghost invariant = { λ a. IsSound (record { last = a.last; entries = a.regions.entries; global = a.global }) a.numbers.entries };
 }
 
 impl RegionSet {
@@ -52,6 +54,7 @@ impl RegionSet {
         RegionSet {
             last: 0,
             regions: IndexMap::new(alloc),
+            numbers: IndexMap::new(alloc),
             global: Settings::new(),
         }
     }
@@ -96,10 +99,7 @@ impl RegionSet {
         if is_global_id(id) {
             return Some(RegionNo(0));
         }
-        self.regions
-            .iter()
-            .find(|(_, region)| id == region.id())
-            .map(|(number, _)| RegionNo(*number))
+        self.numbers.get(id).map(|number| RegionNo(*number))
     }
 
     /// The parent of the region of that number.
@@ -248,7 +248,11 @@ impl RegionSet {
         ensures err { OnErr result (self.new ≡ self.old) }
     {
         let number = self.last + 1;
+        let key = id;
+        // The room in the index comes first: once the region is in, nothing can fail.
+        self.numbers.reserve(1)?;
         let _replaced = self.regions.insert(number, Region::new(alloc, id, shape))?;
+        let _indexed = self.numbers.insert(key, number).unwrap();
         self.last = number;
         Ok(RegionNo(number))
     }

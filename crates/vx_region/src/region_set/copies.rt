@@ -20,6 +20,7 @@ impl Clone for RegionSet {
         Ok(RegionSet {
             last: self.last,
             regions: self.regions.clone()?,
+            numbers: self.numbers.clone()?,
             global: self.global,
         })
     }

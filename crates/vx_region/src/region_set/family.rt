@@ -32,6 +32,7 @@ impl RegionSet {
         requires childless { has_child self.old number.0 ≡ false }
         ensures { self.new ≡ without_region self.old number.0 }
     {
-        let _removed = self.regions.shift_remove(&number.0);
+        let removed = self.regions.shift_remove(&number.0).unwrap();
+        let _number = self.numbers.swap_remove(removed.id());
     }
 }

@@ -148,6 +148,37 @@ fn remove(rt: &impl Abort, set: &mut RegionSet) {
 }
 
 #[test]
+fn ids_are_found_after_a_removal(rt: HostRuntime) -> Result<(), Fail> {
+    let ids = [
+        Id::read("spawn")?,
+        Id::read("farm")?,
+        Id::read("mill")?,
+        Id::read("dock")?,
+    ];
+    let mut set = land(&rt, &["spawn", "farm", "mill"])?;
+    find_around_a_removal(&rt, &mut set, &ids)
+}
+
+fn find_around_a_removal(
+    rt: &(impl Abort + Alloc<A = Global>),
+    set: &mut RegionSet,
+    ids: &[Id; 4],
+) -> Result<(), Fail> {
+    find_all(rt, set, ids, [Some(1), Some(2), Some(3), None]);
+    remove(rt, set);
+    find_all(rt, set, ids, [Some(1), None, Some(3), None]);
+    assert_eq!(rt; define(rt, set, "farm")?, RegionNo(4));
+    find_all(rt, set, ids, [Some(1), Some(4), Some(3), None]);
+    Ok(())
+}
+
+fn find_all(rt: &impl Abort, set: &RegionSet, ids: &[Id; 4], numbers: [Option<u32>; 4]) {
+    for i in 0..4 {
+        assert_eq!(rt; set.find(&ids[i]).map(|number| number.0), numbers[i]);
+    }
+}
+
+#[test]
 fn a_copy_stays_as_it_was(rt: HostRuntime) -> Result<(), Fail> {
     let mut set = land(&rt, &["farm"])?;
     let copy = set.try_clone()?;

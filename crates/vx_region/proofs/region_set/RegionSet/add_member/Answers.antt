@@ -3,7 +3,7 @@ use Rattle.std.proofs.lemmas.Result.{on_ok_weaker, on_err_weaker}
 use Rattle.vx_region.specs.Association.{is_such, belongs}
 use Rattle.vx_region.specs.Regions.{names, with_name, with_member}
 use Rattle.vx_region.specs.contracts.region_set.RegionSet.{the_view}
-use Rattle.vx_region.proofs.Forests.{forest_written}
+use Rattle.vx_region.proofs.Indexing.{sound_written}
 use Rattle.vx_region.proofs.Lookups.{lent_from_known, lent_region, written_over, written_back}
 use Rattle.vx_region.proofs.region_set.RegionSet.add_member.Goals as goal
 
@@ -12,8 +12,9 @@ unwrap-requires c = lent_from_known c.args.number.0 (the_view c.self.inside) c.g
 
 pub invariant_of-self : goal.invariant_of-self
 invariant_of-self c =
-    forest_written c.args.number.0 (the_view c.self.inside) _ c.get_mut.result c.unwrap.result c.add_member.new.self
-    c.get_mut.ensures.value c.unwrap.ensures (c.get_mut.follows.holds c.add_member.new.self).0 c.add_member.ensures.parent c.self.invariant
+    sound_written c.args.number.0 (the_view c.self.inside) c.self.inside.numbers.entries _ c.get_mut.result c.unwrap.result c.add_member.new.self
+    c.get_mut.ensures.value c.unwrap.ensures (c.get_mut.follows.holds c.add_member.new.self).0 c.add_member.ensures.parent
+    c.add_member.ensures.id c.self.invariant
 
 pub returns-clause-ok : goal.returns-clause-ok
 unfolding with_member

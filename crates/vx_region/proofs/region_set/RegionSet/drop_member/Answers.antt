@@ -1,6 +1,7 @@
+use Rattle.std.proofs.Common.{ap}
 use Rattle.vx_region.specs.Regions.{without_name, without_member}
 use Rattle.vx_region.specs.contracts.region_set.RegionSet.{the_view}
-use Rattle.vx_region.proofs.Forests.{forest_written}
+use Rattle.vx_region.proofs.Indexing.{sound_written}
 use Rattle.vx_region.proofs.Lookups.{lent_from_known, written_over}
 use Rattle.vx_region.proofs.region_set.RegionSet.drop_member.Goals as goal
 
@@ -9,8 +10,9 @@ unwrap-requires c = lent_from_known c.args.number.0 (the_view c.self.inside) c.g
 
 pub invariant_of-self : goal.invariant_of-self
 invariant_of-self c =
-    forest_written c.args.number.0 (the_view c.self.inside) _ c.get_mut.result c.unwrap.result c.drop_member.new.self
-    c.get_mut.ensures.value c.unwrap.ensures (c.get_mut.follows.holds c.drop_member.new.self).0 c.drop_member.ensures.parent c.self.invariant
+    sound_written c.args.number.0 (the_view c.self.inside) c.self.inside.numbers.entries _ c.get_mut.result c.unwrap.result c.drop_member.new.self
+    c.get_mut.ensures.value c.unwrap.ensures (c.get_mut.follows.holds c.drop_member.new.self).0 c.drop_member.ensures.parent
+    (ap (λ r. r.id) c.drop_member.ensures.value) c.self.invariant
 
 pub returns : goal.returns
 unfolding without_member

@@ -1,13 +1,13 @@
 use Rattle.std.proofs.Common.{Some, ap, sym, ◌∙◌}
 use Rattle.vx_flag.specs.Settings.{with_setting}
 use Rattle.vx_region.specs.contracts.region_set.RegionSet.{the_view}
-use Rattle.vx_region.proofs.Forests.{forest_written}
-use Rattle.vx_region.proofs.Globals.{forest_with_flags, flag_at_large, flag_of_region, region_with_settings}
+use Rattle.vx_region.proofs.Indexing.{sound_with_flags, sound_written}
+use Rattle.vx_region.proofs.Globals.{flag_at_large, flag_of_region, region_with_settings}
 use Rattle.vx_region.proofs.Lookups.{lent_from_known, written_over}
 use Rattle.vx_region.proofs.region_set.RegionSet.set_flag.Goals as goal
 
 pub invariant_of-self : goal.invariant_of-self
-invariant_of-self c = forest_with_flags (the_view c.self.inside) c.set.new.self c.self.invariant
+invariant_of-self c = sound_with_flags (the_view c.self.inside) c.self.inside.numbers.entries c.set.new.self c.self.invariant
 
 pub returns-then-number-eq0 : goal.returns-then-number-eq0
 returns-then-number-eq0 c =
@@ -21,8 +21,9 @@ unwrap-requires c =
 
 pub invariant_of-self-2 : goal.invariant_of-self-2
 invariant_of-self-2 c =
-    forest_written c.args.number.0 (the_view c.self.inside) _ c.get_mut.result c.unwrap.result c.set_flag.new.self
-    c.get_mut.ensures.value c.unwrap.ensures (c.get_mut.follows.holds c.set_flag.new.self).0 c.set_flag.ensures.parent c.self.invariant
+    sound_written c.args.number.0 (the_view c.self.inside) c.self.inside.numbers.entries _ c.get_mut.result c.unwrap.result c.set_flag.new.self
+    c.get_mut.ensures.value c.unwrap.ensures (c.get_mut.follows.holds c.set_flag.new.self).0 c.set_flag.ensures.parent
+    (ap (λ r. r.id) c.set_flag.ensures.value) c.self.invariant
 
 pub returns : goal.returns
 returns c =

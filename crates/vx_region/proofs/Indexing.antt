@@ -1,0 +1,226 @@
+-- What keeps the index of the ids true of the regions.
+use Rattle.std.proofs.Common.{◌≡◌, ℕ, ◌+◌, Bool, true, false, cond, nat_eq, bytes_eq, List, [], ◌∷◌, ◌++◌, find, Option, None, Some, option_map, MutBor, refl, ap, sym, ◌∙◌, subst}
+use Rattle.std.specs.Map.{lookup, set_value, remove_entry}
+use Rattle.std.specs.Option.{option_copied_mut}
+use Rattle.std.proofs.lemmas.Slice.Eq.{bytes_eq-Decides}
+use Rattle.vx_flag.specs.declared.settings.Settings.{Settings}
+use Rattle.vx_region.specs.declared.id.Id.{Id}
+use Rattle.vx_region.specs.Ancestry.{has_child}
+use Rattle.vx_region.specs.Forest.{IsForest}
+use Rattle.vx_region.specs.IdIndex.{first_with, HaveOwnIds, same_id, IsSound}
+use Rattle.vx_region.specs.Regions.{RegionData, Entry, Regions, number_of, is_global_id}
+use Rattle.vx_region.proofs.Changes.{pushed, not_true}
+use Rattle.vx_region.proofs.Forests.{forest_empty, forest_pushed, forest_written}
+use Rattle.vx_region.proofs.Globals.{forest_with_flags}
+use Rattle.vx_region.proofs.Lookups.{lent_is}
+use Rattle.vx_region.proofs.Removals.{forest_without, removed_from}
+
+-- it is the number that a search for the id finds
+pub first_is : (es : List Entry) (id : List ℕ) → first_with es id ≡ option_map (λ e. e.0) (find (λ e. bytes_eq id e.1.id) es)
+first_is [] id = refl
+first_is (e ∷ es) id = by (bytes_eq id e.1.id) (first_is es id)
+  where
+    found : List Entry → Option Entry
+    found ds = find (λ (d : Entry). bytes_eq id d.1.id) ds
+
+    by : (b : Bool) → first_with es id ≡ option_map (λ (d : Entry). d.0) (found es)
+        → cond b (Some e.0) (first_with es id) ≡ option_map (λ (d : Entry). d.0) (cond b (Some e) (found es))
+    by true rest = refl
+    by false rest = rest
+
+-- an id that is not that of the world at large has the number of the first region with it
+pub number_is : (rs : Regions) (id : List ℕ) → is_global_id id ≡ false → number_of rs id ≡ first_with rs.entries id
+unfolding number_of
+number_is rs id local =
+    ap (λ b. cond b (Some 0) (option_map (λ (e : Entry). e.0) (find (λ e. bytes_eq id e.1.id) rs.entries))) local ∙ sym (first_is rs.entries id)
+
+-- an id without a number is no region's
+pub free_is : (rs : Regions) (id : List ℕ) → number_of rs id ≡ None → first_with rs.entries id ≡ None
+unfolding number_of
+free_is rs id free = first_is rs.entries id ∙ by (is_global_id id) (option_map (λ (e : Entry). e.0) (find (λ e. bytes_eq id e.1.id) rs.entries)) free
+  where
+    by : (b : Bool) (o : Option ℕ) → cond b (Some 0) o ≡ None → o ≡ None
+    by true o free = cc
+    by false o free = free
+
+-- texts compare both ways alike
+same_turned : (a b : List ℕ) (c : Bool) → bytes_eq a b ≡ c → bytes_eq b a ≡ c
+same_turned a b true same = (bytes_eq-Decides b a).1 (sym ((bytes_eq-Decides a b).0 same))
+same_turned a b false other = not_true (bytes_eq b a) (λ same. cc ((bytes_eq-Decides a b).1 (sym ((bytes_eq-Decides b a).0 same))))
+
+-- where nothing was found, neither the first was it, nor is there one after it
+none_parts : (b : Bool) (n : ℕ) (o : Option ℕ) → cond b (Some n) o ≡ None → (b ≡ false) × (o ≡ None)
+none_parts true n o none = cc
+none_parts false n o none = (refl, none)
+
+-- a region that the number finds has none of the ids that no region has
+no_such_id : (n : ℕ) (id : List ℕ) (r : RegionData) (es : List Entry) → first_with es id ≡ None → lookup (nat_eq n) es ≡ Some r → bytes_eq id r.id ≡ false
+no_such_id n id r [] none there = cc
+no_such_id n id r (e ∷ es) none there =
+    by (nat_eq n e.0) there (none_parts (bytes_eq id e.1.id) e.0 (first_with es id) none) (no_such_id n id r es)
+  where
+    by : (b : Bool) → cond b (Some e.1) (lookup (nat_eq n) es) ≡ Some r → (bytes_eq id e.1.id ≡ false) × (first_with es id ≡ None)
+        → (first_with es id ≡ None → lookup (nat_eq n) es ≡ Some r → bytes_eq id r.id ≡ false) → bytes_eq id r.id ≡ false
+    by true here none rest = let same : e.1 ≡ r = cc in subst (λ (d : RegionData). bytes_eq id d.id ≡ false) same none.0
+    by false later none rest = rest none.1 later
+
+module _ (n : ℕ) (r : RegionData) where
+  -- one more region, of an id that was free: that id has its number, and each other id what it had
+  first_pushed : (id : List ℕ) (es : List Entry) → first_with es r.id ≡ None
+      → first_with (es ++ (n, r) ∷ []) id ≡ cond (bytes_eq r.id id) (Some n) (first_with es id)
+  first_pushed id [] free = by (bytes_eq r.id id) refl
+    where
+      by : (b : Bool) → bytes_eq r.id id ≡ b → cond (bytes_eq id r.id) (Some n) None ≡ cond b (Some n) None
+      by b is = ap (λ c. cond c (Some n) None) (same_turned r.id id b is)
+  first_pushed id (e ∷ es) free = by (bytes_eq r.id id) refl (none_parts (bytes_eq r.id e.1.id) e.0 (first_with es r.id) free) (first_pushed id es)
+    where
+      by : (b : Bool) → bytes_eq r.id id ≡ b → (bytes_eq r.id e.1.id ≡ false) × (first_with es r.id ≡ None)
+          → (first_with es r.id ≡ None → first_with (es ++ (n, r) ∷ []) id ≡ cond (bytes_eq r.id id) (Some n) (first_with es id))
+          → cond (bytes_eq id e.1.id) (Some e.0) (first_with (es ++ (n, r) ∷ []) id) ≡ cond b (Some n) (cond (bytes_eq id e.1.id) (Some e.0) (first_with es id))
+      by true is free rest =
+          ap (λ i. cond (bytes_eq i e.1.id) (Some e.0) (first_with (es ++ (n, r) ∷ []) id)) (sym ((bytes_eq-Decides r.id id).0 is))
+          ∙ ap (λ c. cond c (Some e.0) (first_with (es ++ (n, r) ∷ []) id)) free.0 ∙ rest free.1 ∙ ap (λ c. cond c (Some n) (first_with es id)) is
+      by false is free rest =
+          ap (cond (bytes_eq id e.1.id) (Some e.0)) (rest free.1 ∙ ap (λ c. cond c (Some n) (first_with es id)) is)
+
+  own_pushed : (es : List Entry) → first_with es r.id ≡ None → HaveOwnIds es → HaveOwnIds (es ++ (n, r) ∷ [])
+  own_pushed [] free own = (refl, tt)
+  own_pushed (e ∷ es) free own =
+      let parts = none_parts (bytes_eq r.id e.1.id) e.0 (first_with es r.id) free in
+      (first_pushed e.1.id es parts.1 ∙ ap (λ c. cond c (Some n) (first_with es e.1.id)) parts.0 ∙ own.0, own_pushed es parts.1 own.1)
+
+module _ (n : ℕ) (r w : RegionData) (kept : w.id ≡ r.id) where
+  -- a region written over by one of the same id: each id has the number that it had
+  first_written : (id : List ℕ) (es : List Entry) → lookup (nat_eq n) es ≡ Some r → first_with (set_value (nat_eq n) es w) id ≡ first_with es id
+  first_written id [] there = refl
+  first_written id (e ∷ es) there = by (nat_eq n e.0) there (first_written id es)
+    where
+      by : (b : Bool) → cond b (Some e.1) (lookup (nat_eq n) es) ≡ Some r
+          → (lookup (nat_eq n) es ≡ Some r → first_with (set_value (nat_eq n) es w) id ≡ first_with es id)
+          → first_with (cond b ((e.0, w) ∷ es) (e ∷ set_value (nat_eq n) es w)) id ≡ cond (bytes_eq id e.1.id) (Some e.0) (first_with es id)
+      by true here rest =
+          let same : e.1 ≡ r = cc in
+          ap (λ i. cond (bytes_eq id i) (Some e.0) (first_with es id)) (kept ∙ sym (ap (λ (d : RegionData). d.id) same))
+      by false later rest = ap (cond (bytes_eq id e.1.id) (Some e.0)) (rest later)
+
+  own_written : (es : List Entry) → lookup (nat_eq n) es ≡ Some r → HaveOwnIds es → HaveOwnIds (set_value (nat_eq n) es w)
+  own_written [] there own = tt
+  own_written (e ∷ es) there own = by (nat_eq n e.0) there (own_written es)
+    where
+      by : (b : Bool) → cond b (Some e.1) (lookup (nat_eq n) es) ≡ Some r
+          → (lookup (nat_eq n) es ≡ Some r → HaveOwnIds es → HaveOwnIds (set_value (nat_eq n) es w))
+          → HaveOwnIds (cond b ((e.0, w) ∷ es) (e ∷ set_value (nat_eq n) es w))
+      by true here rest =
+          let same : e.1 ≡ r = cc in
+          (ap (first_with es) (kept ∙ sym (ap (λ (d : RegionData). d.id) same)) ∙ own.0, own.1)
+      by false later rest = (first_written e.1.id es later ∙ own.0, rest later own.1)
+
+-- without a region there is no id more
+none_without : (n : ℕ) (id : List ℕ) (es : List Entry) → first_with es id ≡ None → first_with (remove_entry (nat_eq n) es) id ≡ None
+none_without n id [] none = refl
+none_without n id (e ∷ es) none =
+    by (nat_eq n e.0) (none_parts (bytes_eq id e.1.id) e.0 (first_with es id) none) (none_without n id es)
+  where
+    by : (b : Bool) → (bytes_eq id e.1.id ≡ false) × (first_with es id ≡ None)
+        → (first_with es id ≡ None → first_with (remove_entry (nat_eq n) es) id ≡ None)
+        → first_with (cond b es (e ∷ remove_entry (nat_eq n) es)) id ≡ None
+    by true none rest = none.1
+    by false none rest = ap (λ c. cond c (Some e.0) (first_with (remove_entry (nat_eq n) es) id)) none.0 ∙ rest none.1
+
+own_without : (n : ℕ) (es : List Entry) → HaveOwnIds es → HaveOwnIds (remove_entry (nat_eq n) es)
+own_without n [] own = tt
+own_without n (e ∷ es) own = by (nat_eq n e.0) (own_without n es own.1)
+  where
+    by : (b : Bool) → HaveOwnIds (remove_entry (nat_eq n) es) → HaveOwnIds (cond b es (e ∷ remove_entry (nat_eq n) es))
+    by true rest = own.1
+    by false rest = (none_without n e.1.id es own.0, rest)
+
+-- a region taken away: its id has no number, and each other id the number that it had
+first_without : (n : ℕ) (r : RegionData) (id : List ℕ) (es : List Entry) → lookup (nat_eq n) es ≡ Some r → HaveOwnIds es
+    → first_with (remove_entry (nat_eq n) es) id ≡ cond (bytes_eq r.id id) None (first_with es id)
+first_without n r id [] there own = cc
+first_without n r id (e ∷ es) there own = by (nat_eq n e.0) there (first_without n r id es)
+  where
+    here : (b : Bool) → bytes_eq e.1.id id ≡ b → first_with es id ≡ cond b None (cond (bytes_eq id e.1.id) (Some e.0) (first_with es id))
+    here true is = ap (first_with es) (sym ((bytes_eq-Decides e.1.id id).0 is)) ∙ own.0
+    here false is = sym (ap (λ c. cond c (Some e.0) (first_with es id)) (same_turned e.1.id id false is))
+
+    later : (b : Bool) → bytes_eq r.id id ≡ b → bytes_eq e.1.id r.id ≡ false
+        → first_with (remove_entry (nat_eq n) es) id ≡ cond (bytes_eq r.id id) None (first_with es id)
+        → cond (bytes_eq id e.1.id) (Some e.0) (first_with (remove_entry (nat_eq n) es) id) ≡ cond b None (cond (bytes_eq id e.1.id) (Some e.0) (first_with es id))
+    later true is apart rest =
+        ap (λ i. cond (bytes_eq i e.1.id) (Some e.0) (first_with (remove_entry (nat_eq n) es) id)) (sym ((bytes_eq-Decides r.id id).0 is))
+        ∙ ap (λ c. cond c (Some e.0) (first_with (remove_entry (nat_eq n) es) id)) (same_turned e.1.id r.id false apart)
+        ∙ rest ∙ ap (λ c. cond c None (first_with es id)) is
+    later false is apart rest = ap (cond (bytes_eq id e.1.id) (Some e.0)) (rest ∙ ap (λ c. cond c None (first_with es id)) is)
+
+    by : (b : Bool) → cond b (Some e.1) (lookup (nat_eq n) es) ≡ Some r
+        → (lookup (nat_eq n) es ≡ Some r → HaveOwnIds es → first_with (remove_entry (nat_eq n) es) id ≡ cond (bytes_eq r.id id) None (first_with es id))
+        → first_with (cond b es (e ∷ remove_entry (nat_eq n) es)) id ≡ cond (bytes_eq r.id id) None (cond (bytes_eq id e.1.id) (Some e.0) (first_with es id))
+    by true found rest =
+        let same : e.1 ≡ r = cc in
+        here (bytes_eq e.1.id id) refl ∙ ap (λ (d : RegionData). cond (bytes_eq d.id id) None (cond (bytes_eq id e.1.id) (Some e.0) (first_with es id))) same
+    by false found rest = later (bytes_eq r.id id) refl (no_such_id n e.1.id r es own.0 found) (rest found own.1)
+
+-- what the index has for an id that is not that of the world at large is the number of its region
+pub number_found : (rs : Regions) (index : List (Id × ℕ)) (id : Id) (o : Option ℕ) → is_global_id id.text.bytes ≡ false
+    → o ≡ lookup (same_id id) index → IsSound rs index → o ≡ number_of rs id.text.bytes
+number_found rs index id o local found sound = found ∙ sound.indexed id ∙ sym (number_is rs id.text.bytes local)
+
+-- no regions and an empty index
+pub sound_empty : (rs : Regions) (index : List (Id × ℕ)) → rs.entries ≡ [] → index ≡ [] → IsSound rs index
+sound_empty rs index none bare = record {
+  forest = forest_empty rs none;
+  own_ids = subst HaveOwnIds (sym none) tt;
+  indexed = λ id. ap (lookup (same_id id)) bare ∙ ap (λ es. first_with es id.text.bytes) (sym none);
+}
+
+-- one more region, without a parent, under the next number, and its id put into the index
+pub sound_pushed : (rs : Regions) (r : RegionData) (index new : List (Id × ℕ)) → r.parent ≡ None → first_with rs.entries r.id ≡ None
+    → ((id : Id) → lookup (same_id id) new ≡ cond (bytes_eq r.id id.text.bytes) (Some (rs.last + 1)) (lookup (same_id id) index))
+    → IsSound rs index → IsSound (pushed rs r) new
+sound_pushed rs r index new orphan free put sound = record {
+  forest = forest_pushed rs r orphan sound.forest;
+  own_ids = own_pushed (rs.last + 1) r rs.entries free sound.own_ids;
+  indexed = λ id. put id ∙ ap (cond (bytes_eq r.id id.text.bytes) (Some (rs.last + 1))) (sound.indexed id)
+      ∙ sym (first_pushed (rs.last + 1) r id.text.bytes rs.entries free);
+}
+
+-- a region written over by one of the same id, which leaves a forest
+pub sound_kept : (n : ℕ) (rs : Regions) (index : List (Id × ℕ)) (fs : List Entry) (lent : Option (MutBor RegionData)) (r : MutBor RegionData) (w : RegionData)
+    → option_copied_mut lent ≡ lookup (nat_eq n) rs.entries → lent ≡ Some r → fs ≡ set_value (nat_eq n) rs.entries w → w.id ≡ r.now.id
+    → IsForest (record rs { entries = fs }) → IsSound rs index → IsSound (record rs { entries = fs }) index
+sound_kept n rs index fs lent r w found is written kept forest sound =
+    let there = lent_is n rs lent r found is in
+    record {
+      forest = forest;
+      own_ids = subst HaveOwnIds (sym written) (own_written n r.now w kept rs.entries there sound.own_ids);
+      indexed = λ id. sound.indexed id ∙ sym (ap (λ es. first_with es id.text.bytes) written ∙ first_written n r.now w kept id.text.bytes rs.entries there);
+    }
+
+-- and by one of the same id and parent
+pub sound_written : (n : ℕ) (rs : Regions) (index : List (Id × ℕ)) (fs : List Entry) (lent : Option (MutBor RegionData)) (r : MutBor RegionData) (w : RegionData)
+    → option_copied_mut lent ≡ lookup (nat_eq n) rs.entries → lent ≡ Some r → fs ≡ set_value (nat_eq n) rs.entries w → w.parent ≡ r.now.parent → w.id ≡ r.now.id
+    → IsSound rs index → IsSound (record rs { entries = fs }) index
+sound_written n rs index fs lent r w found is written same kept sound =
+    sound_kept n rs index fs lent r w found is written kept (forest_written n rs fs lent r w found is written same sound.forest) sound
+
+-- other flags of the world at large
+pub sound_with_flags : (rs : Regions) (index : List (Id × ℕ)) (flags : Settings) → IsSound rs index → IsSound (record rs { global = flags }) index
+sound_with_flags rs index flags sound = record {
+  forest = forest_with_flags rs flags sound.forest;
+  own_ids = sound.own_ids;
+  indexed = sound.indexed;
+}
+
+-- a region without children taken away, and its id out of the index
+pub sound_without : (n : ℕ) (rs : Regions) (r : RegionData) (index new : List (Id × ℕ)) (fs : List Entry) → has_child rs n ≡ false
+    → lookup (nat_eq n) rs.entries ≡ Some r → fs ≡ remove_entry (nat_eq n) rs.entries
+    → ((id : Id) → lookup (same_id id) new ≡ cond (bytes_eq r.id id.text.bytes) None (lookup (same_id id) index))
+    → IsSound rs index → IsSound (record rs { entries = fs }) new
+sound_without n rs r index new fs childless there removed out sound = record {
+  forest = subst IsForest (sym (removed_from rs n fs sound.forest removed)) (forest_without rs n childless sound.forest);
+  own_ids = subst HaveOwnIds (sym removed) (own_without n rs.entries sound.own_ids);
+  indexed = λ id. out id ∙ ap (cond (bytes_eq r.id id.text.bytes) None) (sound.indexed id)
+      ∙ sym (ap (λ es. first_with es id.text.bytes) removed ∙ first_without n r id.text.bytes rs.entries there sound.own_ids);
+}

@@ -1,0 +1,29 @@
+use Rattle.std.specs.Prelude.{ℕ, ◌≡◌, Bool, cond, bytes_eq, List, [], ◌∷◌, Option, None, Some}
+use Rattle.std.specs.Map.{lookup}
+use Rattle.vx_region.specs.declared.id.Id.{Id}
+use Rattle.vx_region.specs.Forest.{IsForest}
+use Rattle.vx_region.specs.Regions.{Entry, Regions}
+
+-- the number of the first region that has this id
+abbrev pub first_with : List Entry → List ℕ → Option ℕ
+first_with [] id = None
+first_with (e ∷ es) id = cond (bytes_eq id e.1.id) (Some e.0) (first_with es id)
+
+-- no two regions have the same id
+abbrev pub HaveOwnIds : List Entry → Type 0
+HaveOwnIds [] = Unit {0}
+HaveOwnIds (e ∷ es) = (first_with es e.1.id ≡ None) × HaveOwnIds es
+
+-- two ids are the same where their texts are
+abbrev pub same_id : Id → Id → Bool
+same_id a b = bytes_eq a.text.bytes b.text.bytes
+
+-- for each id the index has the number of the region with that id, and nothing where there is none
+abbrev pub Indexes : List (Id × ℕ) → List Entry → Type 0
+Indexes index entries = (id : Id) → lookup (same_id id) index ≡ first_with entries id.text.bytes
+
+-- what holds of every set of regions, and of the index of their ids
+pub record IsSound (rs : Regions) (index : List (Id × ℕ)) : Type 0 where
+  pub forest : IsForest rs
+  pub own_ids : HaveOwnIds rs.entries
+  pub indexed : Indexes index rs.entries

@@ -4,7 +4,7 @@
 use std::io;
 use std::io::BufWriter;
 use std::process::ExitCode;
-use vx_region::RegionSet;
+use vx_policy::Policy;
 use vx_script::{Fault, run};
 
 /// How many bytes of replies are kept before they are written.
@@ -26,10 +26,6 @@ fn serve(rt: &HostRuntime) -> Result<(), Fault> {
     let mut output = BufWriter::with_capacity(rt.alloc(), OUTPUT_BYTES, io::writer(rt)).map_err(
         |_| Fault::NoMemory,
     )?;
-    run(
-        rt.alloc(),
-        &mut input,
-        &mut output,
-        RegionSet::new(rt.alloc()),
-    )
+    let policy = Policy::new(rt.alloc()).map_err(|_| Fault::NoMemory)?;
+    run(rt.alloc(), &mut input, &mut output, policy)
 }

@@ -247,7 +247,11 @@ impl<J: Naming> Play<J> {
 }
 
 // The sectors as a world opens, judged by this version.
-fn open_sectors(alloc: Global, cells: Vec<Cells>, version: &Version) -> Result<Vec<Sector>, AllocError>
+fn open_sectors(
+    alloc: Global,
+    cells: Vec<Cells>,
+    version: &Version,
+) -> Result<Vec<Sector>, AllocError>
     ensures sectors { IfOk result (λ sectors. sectors.items ≡ map (first_window version.now) cells.items) }
     ensures few { IfOk result (λ sectors. vec_len sectors ≡ vec_len cells) }
 {

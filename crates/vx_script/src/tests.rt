@@ -1,12 +1,12 @@
+mod edits;
+
 use crate::{Fault, run};
 use std::alloc::Global;
 use std::io;
 use std::io::{ErrorKind, Read, Write};
 use std::process::Abort;
 use std::test::Fail;
-use vx_flag::{Flag, Group, Setting, State};
-use vx_geom::{Pos, Shape};
-use vx_region::{Id, Name, RegionNo, RegionSet};
+use vx_policy::Policy;
 
 /// Gives a text in pieces. The read of one number fails, and every other one may be interrupted first.
 #[derive(Drop)]
@@ -95,14 +95,15 @@ fn paper(alloc: Global) -> Sheet {
     }
 }
 
+// Runs a script on an empty policy.
+fn play<R: Read>(alloc: Global, input: &mut R, output: &mut Sheet) -> Result<(), Fault> {
+    let policy = Policy::new(alloc).map_err(|_| Fault::NoMemory)?;
+    run(alloc, input, output, policy)
+}
+
 fn runs_to(rt: &impl Abort, alloc: Global, script: &str, want: Result<(), Fault>, replies: &str) {
     let mut output = paper(alloc);
-    let got = run(
-        alloc,
-        &mut pieces(script, 5),
-        &mut output,
-        RegionSet::new(alloc),
-    );
+    let got = play(alloc, &mut pieces(script, 5), &mut output);
     assert_eq!(rt; got, want, "{script:?}");
     assert_eq!(rt; output.text.as_slice(), replies.as_bytes(), "{script:?}");
 }
@@ -111,106 +112,6 @@ const GAME: &str =
     "world 1 1 1\nplayer ann\nplayer bob\nset 1 0 0 bedrock\n\nas ann place 0 0 0 stone\nas bob break 1 0 0\nas bob look 0 0 0\n";
 
 const REPLIES: &str = "ok default\nrefused 9 unbreakable\nseen stone\ndone ticks 0 calls 3\n";
-
-#[test]
-fn a_region_stands_against_a_stranger(rt: HostRuntime) -> Result<(), Fail> {
-    let alloc = rt.alloc();
-    let mut regions = RegionSet::new(alloc);
-    let home = Id::read("home")?;
-    assert_eq!(rt; regions.find(&home), None);
-    assert_eq!(rt; regions.last(), 0);
-    let shape = Shape::cuboid(Pos::new(5, 0, 5), Pos::new(5, 63, 5));
-    let number = regions.define(alloc, home, shape)?;
-    assert!(rt; regions.get(number).is_some());
-    regions.add_owner(number, Name::read("ann")?)?;
-
-    let script =
-        "world 1 1 1\nplayer ann\nplayer bob\nas bob place 5 1 5 stone\nas ann place 5 1 5 stone\nas bob place 6 1 5 bedrock\nas bob break 6 1 5\n";
-    let mut output = paper(alloc);
-    let got = run(alloc, &mut pieces(script, 7), &mut output, regions);
-    assert_eq!(rt; got, Ok(()));
-    let want =
-        "refused 2 member at 1\nok member at 1\nok default\nrefused 9 unbreakable\ndone ticks 0 calls 4\n";
-    assert_eq!(rt; output.text.as_slice(), want.as_bytes());
-    Ok(())
-}
-
-#[test]
-fn each_reply_names_its_rule(rt: HostRuntime) -> Result<(), Fail> {
-    let script =
-        "world 1 1 1\nplayer ann\nas ann place 7 1 7 stone\nas ann break 7 1 7\nas ann break 5 1 5\nas ann place 12 1 5 stone\nas ann look 7 1 7\n";
-    let replies =
-        "ok flag block-place at 1 from 1\nrefused 2 flag block-break at 1 from 1\nrefused 2 flag block-break at 2 from 1\nrefused 2 member at 0\nseen stone\ndone ticks 0 calls 5\n";
-    ruled(&rt, spawn(&rt)?, script, replies);
-    Ok(())
-}
-
-#[test]
-fn building_is_asked_where_no_flag_is_set(rt: HostRuntime) -> Result<(), Fail> {
-    let script = "world 1 1 1\nplayer ann\nas ann place 7 1 7 stone\nas ann place 12 1 5 stone\n";
-    let replies = "ok build at 1 from 1\nok default\ndone ticks 0 calls 2\n";
-    ruled(&rt, field(&rt)?, script, replies);
-    Ok(())
-}
-
-fn ruled(rt: &(impl Abort + Alloc<A = Global>), regions: RegionSet, script: &str, replies: &str) {
-    let mut output = paper(rt.alloc());
-    let got = run(rt.alloc(), &mut pieces(script, 7), &mut output, regions);
-    assert_eq!(rt; got, Ok(()));
-    assert_eq!(rt; output.text.as_slice(), replies.as_bytes());
-}
-
-// A spawn that anybody may add to and nobody take from, with a square in it, in a wilderness where only builders may act.
-fn spawn(rt: &(impl Abort + Alloc<A = Global>)) -> Result<RegionSet, Fail> {
-    let mut regions = RegionSet::new(rt.alloc());
-    defined(rt, &mut regions, "spawn", 9)?;
-    defined(rt, &mut regions, "square", 5)?;
-    let (spawn, square, wild) = (RegionNo(1), RegionNo(2), RegionNo(0));
-    flagged(rt, &mut regions, spawn, Flag::BlockPlace, State::Allow);
-    flagged(rt, &mut regions, spawn, Flag::BlockBreak, State::Deny);
-    flagged(rt, &mut regions, square, Flag::Build, State::Deny);
-    adopted(rt, &mut regions, square, spawn);
-    flagged(rt, &mut regions, wild, Flag::Passthrough, State::Deny);
-    Ok(regions)
-}
-
-fn field(rt: &(impl Abort + Alloc<A = Global>)) -> Result<RegionSet, Fail> {
-    let mut regions = RegionSet::new(rt.alloc());
-    defined(rt, &mut regions, "field", 9)?;
-    flagged(rt, &mut regions, RegionNo(1), Flag::Build, State::Allow);
-    Ok(regions)
-}
-
-// A region of all columns with x and z from 0 to the greatest.
-fn defined(
-    rt: &(impl Abort + Alloc<A = Global>),
-    regions: &mut RegionSet,
-    id: &str,
-    most: i32,
-) -> Result<(), Fail> {
-    let id = Id::read(id)?;
-    let shape = Shape::cuboid(Pos::new(0, 0, 0), Pos::new(most, 63, most));
-    assert_eq!(rt; regions.find(&id), None);
-    assert!(rt; regions.last() < 9);
-    regions.define(rt.alloc(), id, shape)?;
-    Ok(())
-}
-
-fn flagged(rt: &impl Abort, regions: &mut RegionSet, number: RegionNo, flag: Flag, state: State) {
-    let setting = Setting {
-        state,
-        group: Group::All,
-    };
-    assert!(rt; number.0 == 0 || regions.get(number).is_some());
-    regions.set_flag(number, flag, setting);
-}
-
-fn adopted(rt: &impl Abort, regions: &mut RegionSet, child: RegionNo, parent: RegionNo) {
-    assert!(rt; regions.get(child).is_some());
-    assert!(rt; regions.get(parent).is_some());
-    assert!(rt; !regions.under(parent, child));
-    regions.set_parent(child, Some(parent));
-}
 
 #[test]
 fn a_script_without_commands(rt: HostRuntime) {
@@ -254,7 +155,8 @@ fn the_first_faulty_line_ends_the_run(rt: HostRuntime) {
         ("player ann\n", 1),
         ("set 0 0 0 stone\n", 1),
         ("world 1 1 1\nworld 1 1 1\n", 2),
-        ("world 2 1 1\n", 1),
+        ("world 9 1 1\n", 1),
+        ("world 1 0 1\n", 1),
         ("world 1 1 3\n", 1),
         ("world 1 1\n", 1),
         ("world 1 1 1 1\n", 1),
@@ -264,6 +166,7 @@ fn the_first_faulty_line_ends_the_run(rt: HostRuntime) {
         ("world 1 1 1\nplayer abcdefghijklmnopq\n", 2),
         ("world 1 1 1\nplayer ann\n\nplayer ANN\n", 4),
         ("world 1 1 1\nset 16 0 0 stone\n", 2),
+        ("world 2 1 1\nset 32 0 0 stone\n", 2),
         ("world 1 1 1\nset 0 0 0 air\n", 2),
         ("world 1 1 1\nas ann look 0 0 0\n", 2),
         ("as ann look 0 0 0\n", 1),
@@ -319,20 +222,10 @@ fn lines_have_a_limit(rt: HostRuntime) -> Result<(), Fail> {
         script.push(' ')?;
     }
     let mut output = paper(alloc);
-    let got = run(
-        alloc,
-        &mut pieces(script.as_str(), 4096),
-        &mut output,
-        RegionSet::new(alloc),
-    );
+    let got = play(alloc, &mut pieces(script.as_str(), 4096), &mut output);
     assert_eq!(rt; got, Ok(()));
     script.push(' ')?;
-    let got = run(
-        alloc,
-        &mut pieces(script.as_str(), 4096),
-        &mut output,
-        RegionSet::new(alloc),
-    );
+    let got = play(alloc, &mut pieces(script.as_str(), 4096), &mut output);
     assert_eq!(rt; got, Err(Fault::Syntax(2)));
     assert_eq!(rt; output.text.len(), 0);
     Ok(())
@@ -359,19 +252,9 @@ impl Read for Feeds {
 fn a_script_has_a_limit(rt: HostRuntime) {
     let alloc = rt.alloc();
     let mut output = paper(alloc);
-    let got = run(
-        alloc,
-        &mut Feeds { left: 16_777_216 },
-        &mut output,
-        RegionSet::new(alloc),
-    );
+    let got = play(alloc, &mut Feeds { left: 16_777_216 }, &mut output);
     assert_eq!(rt; got, Ok(()));
-    let got = run(
-        alloc,
-        &mut Feeds { left: 16_777_217 },
-        &mut output,
-        RegionSet::new(alloc),
-    );
+    let got = play(alloc, &mut Feeds { left: 16_777_217 }, &mut output);
     assert_eq!(rt; got, Err(Fault::ReadFailed));
 }
 
@@ -379,19 +262,9 @@ fn a_script_has_a_limit(rt: HostRuntime) {
 fn a_reader_without_end_ends(rt: HostRuntime) {
     let alloc = rt.alloc();
     let mut output = paper(alloc);
-    let got = run(
-        alloc,
-        &mut Endless { byte: b'\n' },
-        &mut output,
-        RegionSet::new(alloc),
-    );
+    let got = play(alloc, &mut Endless { byte: b'\n' }, &mut output);
     assert_eq!(rt; got, Err(Fault::ReadFailed));
-    let got = run(
-        alloc,
-        &mut Endless { byte: b'a' },
-        &mut output,
-        RegionSet::new(alloc),
-    );
+    let got = play(alloc, &mut Endless { byte: b'a' }, &mut output);
     assert_eq!(rt; got, Err(Fault::Syntax(1)));
     assert_eq!(rt; output.text.len(), 0);
 }
@@ -404,7 +277,7 @@ fn a_failed_read_keeps_the_replies_before_it(rt: HostRuntime) {
         let mut input = pieces(GAME, 1);
         input.failing = failing;
         let mut output = paper(alloc);
-        let got = run(alloc, &mut input, &mut output, RegionSet::new(alloc));
+        let got = play(alloc, &mut input, &mut output);
         assert_eq!(rt; got, Err(Fault::ReadFailed), "at read {failing}");
         assert!(rt;
             REPLIES.as_bytes().starts_with(&output.text),
@@ -419,10 +292,7 @@ fn a_failed_read_keeps_the_replies_before_it(rt: HostRuntime) {
     let mut input = pieces(GAME, 1);
     input.failing = whole + 2;
     let mut output = paper(alloc);
-    assert_eq!(rt;
-        run(alloc, &mut input, &mut output, RegionSet::new(alloc)),
-        Ok(())
-    );
+    assert_eq!(rt; play(alloc, &mut input, &mut output), Ok(()));
 }
 
 #[test]
@@ -431,10 +301,7 @@ fn an_interrupted_read_is_made_again(rt: HostRuntime) {
     let mut input = pieces(GAME, 3);
     input.interrupts = true;
     let mut output = paper(alloc);
-    assert_eq!(rt;
-        run(alloc, &mut input, &mut output, RegionSet::new(alloc)),
-        Ok(())
-    );
+    assert_eq!(rt; play(alloc, &mut input, &mut output), Ok(()));
     assert_eq!(rt; output.text.as_slice(), REPLIES.as_bytes());
 }
 
@@ -442,26 +309,13 @@ fn an_interrupted_read_is_made_again(rt: HostRuntime) {
 fn a_failed_write_is_told(rt: HostRuntime) {
     let alloc = rt.alloc();
     let mut output = paper(alloc);
-    assert_eq!(rt;
-        run(
-            alloc,
-            &mut pieces(GAME, 64),
-            &mut output,
-            RegionSet::new(alloc)
-        ),
-        Ok(())
-    );
+    assert_eq!(rt; play(alloc, &mut pieces(GAME, 64), &mut output), Ok(()));
     let writes = output.writes;
     assert!(rt; 4 <= writes && writes < 100);
     for failing in 1..=writes {
         let mut output = paper(alloc);
         output.failing = failing;
-        let got = run(
-            alloc,
-            &mut pieces(GAME, 64),
-            &mut output,
-            RegionSet::new(alloc),
-        );
+        let got = play(alloc, &mut pieces(GAME, 64), &mut output);
         assert_eq!(rt; got, Err(Fault::WriteFailed), "at write {failing}");
         assert!(rt;
             REPLIES.as_bytes().starts_with(&output.text),
@@ -476,12 +330,7 @@ fn each_reply_goes_out_before_more_is_asked_for(rt: HostRuntime) {
     let script = "world 1 1 1\nplayer a\nas a look 0 0 0\nas a look 0 0 0\n";
     // A read gives half a line, so that each reply is complete at every other flush.
     let mut output = paper(alloc);
-    let got = run(
-        alloc,
-        &mut pieces(script, 16),
-        &mut output,
-        RegionSet::new(alloc),
-    );
+    let got = play(alloc, &mut pieces(script, 16), &mut output);
     assert_eq!(rt; got, Ok(()));
     // Before the reads of bytes 0, 16, 32, 48, of the end, and at the end of the run.
     assert_eq!(rt; output.flushed.as_slice(), [0, 0, 0, 9, 18, 39].as_slice());
@@ -490,9 +339,11 @@ fn each_reply_goes_out_before_more_is_asked_for(rt: HostRuntime) {
 #[test]
 fn each_fault_has_its_words_and_its_status(rt: HostRuntime) -> Result<(), Fail> {
     for (fault, words, status) in [
+        (Fault::HistoryFull, "fault 13 history", 1),
         (Fault::NoMemory, "fault 14 memory", 2),
         (Fault::TooManyPlayers, "fault 29 players", 1),
         (Fault::Syntax(4), "fault 40 line 4", 1),
+        (Fault::BadRegionFile, "fault 41 regions file", 1),
         (Fault::ReadFailed, "fault 42 read", 1),
         (Fault::WriteFailed, "fault 43 write", 1),
     ] {

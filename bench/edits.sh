@@ -25,12 +25,11 @@ lines() {
   awk -v kind="$1" -v count="$2" -v regions="$3" 'BEGIN {
     for (i = 0; i < count; i++) {
       n = (i * 7919) % regions
-      m = (n + 1) % regions
       if (kind == "priority") print "region priority plot" n " " i % 100
       else if (kind == "flag") print "region flag plot" n " use " (i % 2 ? "allow" : "deny") " members"
       else if (kind == "owner") print "region owner plot" n " " (int(i / regions) % 2 ? "drop" : "add") " ann"
       else if (kind == "reshape") print "region reshape plot" n " cuboid 0 0 0 " i % 100 " 63 9"
-      else if (kind == "parent") print "region parent plot" n " plot" (n % 2 ? n - 1 : n == 0 ? 0 : n - 2)
+      else if (kind == "parent") print "region parent plot" n " " (n % 8 ? "plot" n - n % 8 : "*")
       else if (kind == "refused") print "region define plot" n " cuboid 0 0 0 1 1 1"
       else if (kind == "remove and define") print (i % 2 ? "region define plot" : "region remove plot") int(i / 2) % regions (i % 2 ? " cuboid 0 0 0 1 63 1" : "")
       else if (kind == "edit and tick") print (i % 2 ? "tick" : "region priority plot" n " " i % 100)

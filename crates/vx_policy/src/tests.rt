@@ -67,6 +67,8 @@ fn each_refusal_has_its_number_and_words(rt: HostRuntime) -> Result<(), Fail> {
         let want = format!(in rt.alloc(); "{words}, {words}")?;
         assert_eq!(rt; line.as_str(), want.as_str());
     }
+    let line = format!(in rt.alloc(); "{}", EditError::NoMemory)?;
+    assert_eq!(rt; line.as_str(), "refused 14 memory");
     Ok(())
 }
 
@@ -300,9 +302,11 @@ fn fill(rt: &(impl Abort + Alloc<A = Global>), policy: &mut Policy) -> Result<()
 // copy shares, and of such that a copy shares, so that the regions are copied first.
 #[test]
 fn want_of_memory_leaves_the_policy_as_it_was(rt: HostRuntime) -> Result<(), Fail> {
-    let mut policy = land(&rt, &["a", "b"])?;
-    let mut twin = land(&rt, &["a", "b"])?;
+    let mut policy = Policy::new(rt.alloc())?;
+    let mut twin = Policy::new(rt.alloc())?;
     for (ask, answer) in [
+        (Ask::Define("a", Form::Spot(1)), Ok(Some(RegionNo(1)))),
+        (Ask::Define("b", Form::Spot(1)), Ok(Some(RegionNo(2)))),
         (Ask::Define("c", Form::Triangle(5)), Ok(Some(RegionNo(3)))),
         (Ask::Reshape("a", Form::Triangle(5)), DONE),
         (Ask::Owner("a", Add, "ann"), DONE),

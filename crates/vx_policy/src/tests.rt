@@ -13,7 +13,7 @@ use std::test::Fail;
 use vx_flag::Flag::{Build, Usage};
 use vx_flag::{Flag, Group, Setting, State};
 use vx_geom::{Pos, ShapeSpec};
-use vx_region::{Id, Name, RegionNo, RegionSet};
+use vx_region::{Name, RegionNo, RegionSet};
 
 // An edit of a test. Its flags are denied to all.
 #[derive(Clone, Copy, Debug)]

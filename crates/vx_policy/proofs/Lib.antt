@@ -1,2 +1,6 @@
 pub mod Accepted
+pub mod Causes
+pub mod Numbers
+pub mod Others
+pub mod Parts
 pub mod Turns

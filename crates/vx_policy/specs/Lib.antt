@@ -1,4 +1,5 @@
 pub mod Asked
 pub mod Edits
+pub mod Laws
 pub mod Refusals
 pub mod Texts

@@ -4,6 +4,7 @@
 mod edit;
 mod edit_error;
 mod edit_refusal;
+mod laws;
 mod listing;
 mod policy;
 mod version;
@@ -11,6 +12,13 @@ mod version;
 pub use edit::Edit;
 pub use edit_error::EditError;
 pub use edit_refusal::EditRefusal;
+pub use laws::{
+    edits_in_turn, flags_survive_a_reshape, numbers_are_never_given_twice, one_region_is_edited,
+    refused_by_the_first_cause,
+};
 pub use listing::Listing;
 pub use policy::Policy;
 pub use version::Version;
+
+#[cfg(test)]
+mod tests;

@@ -1,6 +1,7 @@
 pub mod Cuts
 pub mod Faults
 pub mod Feeds
+pub mod FileLists
 pub mod Going
 pub mod Printables
 pub mod Runs

@@ -1,8 +1,11 @@
+pub mod FileReads
+pub mod FileValues
 pub mod FirstFault
 pub mod Known
 pub mod Lines
 pub mod Numbers
 pub mod Readings
+pub mod RegionsFile
 pub mod ScriptLines
 pub mod Statuses
 pub mod Transcript

@@ -3,6 +3,7 @@
 
 mod arguments;
 mod fault;
+mod file;
 mod header;
 mod input;
 pub mod laws;

@@ -1,0 +1,3 @@
+//! The regions file.
+mod file_error;
+mod values;

@@ -1,7 +1,7 @@
 -- What a regions file means: the edits that make its policy out of the empty one.
 use Rattle.std.specs.Prelude.{◌≡◌, ℕ, ℤ, pos, ◌&&◌, ◌==◌, Bool, false, if◌then◌else◌, nat_le, codes, IsUtf8, List, [], ◌∷◌, length, map, Option, Some, None, option_map}
 use Rattle.std.specs.Option.{option_and_then}
-use Rattle.toml.specs.Data.{Data, Members, integer, get_member, as_str, as_array, as_table}
+use Rattle.toml.specs.Data.{Data, Members as Table, integer, get_member, as_str, as_array, as_table}
 use Rattle.toml.specs.Parse.{parse_document}
 use Rattle.vx_flag.specs.Flag.{flag_text, flags}
 use Rattle.vx_flag.specs.declared.flag.Flag.{Flag}
@@ -11,9 +11,11 @@ use Rattle.vx_policy.specs.declared.listing.Listing.TheVariants.{Add}
 use Rattle.vx_region.specs.Regions.{global_id}
 use Rattle.vx_script.specs.FileValues.{data_of, has_only, joined, number_in, numbers_in, columns_in, corners_of, heights_of, setting_in}
 use Rattle.vx_script.specs.Readings.{◌>>=◌}
+use Rattle.vx_script.specs.declared.file.tables.Role.{Role}
+use Rattle.vx_script.specs.declared.file.tables.Role.TheVariants.{Owners, Members}
 
 -- the text at a key
-unfoldable pub text_at : List ℕ → Members → Option (List ℕ)
+unfoldable pub text_at : List ℕ → Table → Option (List ℕ)
 text_at key ms = do
   d ← get_member key ms
   as_str d
@@ -42,7 +44,7 @@ shape_of None (Some polygon) (Some y) = polygon_of polygon y
 shape_of cuboid polygon y = None
 
 -- the shape of a region
-unfoldable pub shape_in : Members → Option Written
+unfoldable pub shape_in : Table → Option Written
 shape_in ms = shape_of (get_member (codes "cuboid") ms) (get_member (codes "polygon") ms) (get_member (codes "y") ms)
 
 -- the keys that a region may have
@@ -51,7 +53,7 @@ region_keys =
     codes "id" ∷ codes "cuboid" ∷ codes "polygon" ∷ codes "y" ∷ codes "priority" ∷ codes "parent" ∷ codes "owners" ∷ codes "members" ∷ codes "flags" ∷ []
 
 -- the definition of a region, with its id and its shape
-unfoldable pub definition_in : Members → Option Asked
+unfoldable pub definition_in : Table → Option Asked
 definition_in ms =
     if has_only region_keys ms
     then text_at (codes "id") ms >>= (λ id. shape_in ms >>= (λ shape. Some (Define id shape)))
@@ -69,29 +71,22 @@ parent_in id d = do
   parent ← as_str d
   Some (Parent id (Some parent) ∷ [])
 
--- one owner of the region of that id
-unfoldable pub owner_in : List ℕ → Data → Option (List Asked)
-owner_in id d = do
+-- one name of an owner or a member of the region of that id
+abbrev pub says : Role → List ℕ → List ℕ → Asked
+says Owners id name = Owner id Add name
+says Members id name = Member id Add name
+
+-- a value that is to be such a name
+unfoldable pub name_in : Role → List ℕ → Data → Option (List Asked)
+name_in role id d = do
   name ← as_str d
-  Some (Owner id Add name ∷ [])
+  Some (says role id name ∷ [])
 
--- one member of the region of that id
-unfoldable pub member_in : List ℕ → Data → Option (List Asked)
-member_in id d = do
-  name ← as_str d
-  Some (Member id Add name ∷ [])
-
--- the owners of the region of that id
-unfoldable pub owners_in : List ℕ → Data → Option (List Asked)
-owners_in id d = do
+-- an array of such names
+unfoldable pub names_in : Role → List ℕ → Data → Option (List Asked)
+names_in role id d = do
   items ← as_array d
-  in_turn (owner_in id) (data_of items)
-
--- the members of the region of that id
-unfoldable pub members_in : List ℕ → Data → Option (List Asked)
-members_in id d = do
-  items ← as_array d
-  in_turn (member_in id) (data_of items)
+  in_turn (name_in role id) (data_of items)
 
 -- what a value sets one flag to
 unfoldable pub flag_in : List ℕ → Flag → Data → Option (List Asked)
@@ -100,7 +95,7 @@ flag_in id flag d = do
   Some (SetFlag id flag setting ∷ [])
 
 -- what a table sets the flags of the region of that id to, in the order of the list of flags
-unfoldable pub flags_in : List ℕ → Members → Option (List Asked)
+unfoldable pub flags_in : List ℕ → Table → Option (List Asked)
 flags_in id ms =
     if has_only (map flag_text flags) ms
     then joined (map (λ flag. if_there (flag_in id flag) (get_member (flag_text flag) ms)) flags)
@@ -112,15 +107,21 @@ flags_at id d = do
   ms ← as_table d
   flags_in id ms
 
+-- the priority and the parent of the region of that id
+unfoldable pub rank_in : List ℕ → Table → Option (List Asked)
+rank_in id ms =
+    joined (if_there (priority_in id) (get_member (codes "priority") ms) ∷ if_there (parent_in id) (get_member (codes "parent") ms) ∷ [])
+
+-- its owners and its members
+unfoldable pub people_in : List ℕ → Table → Option (List Asked)
+people_in id ms =
+    joined (if_there (names_in Owners id) (get_member (codes "owners") ms) ∷ if_there (names_in Members id) (get_member (codes "members") ms) ∷ [])
+
 -- what is said of a region beside its definition
-unfoldable pub changes_in : Members → Option (List Asked)
+unfoldable pub changes_in : Table → Option (List Asked)
 changes_in ms = do
   id ← text_at (codes "id") ms
-  joined (if_there (priority_in id) (get_member (codes "priority") ms)
-      ∷ if_there (parent_in id) (get_member (codes "parent") ms)
-      ∷ if_there (owners_in id) (get_member (codes "owners") ms)
-      ∷ if_there (members_in id) (get_member (codes "members") ms)
-      ∷ if_there (flags_at id) (get_member (codes "flags") ms) ∷ [])
+  joined (rank_in id ms ∷ people_in id ms ∷ if_there (flags_at id) (get_member (codes "flags") ms) ∷ [])
 
 -- the definition in a value that is to be a region's table
 unfoldable pub definition_at : Data → Option (List Asked)
@@ -151,7 +152,7 @@ is_one (Some (integer (pos n))) = n == 1
 is_one d = false
 
 -- the edits that a document means: its regions, then the flags of the world at large
-unfoldable pub edits_in_table : Members → Option (List Asked)
+unfoldable pub edits_in_table : Table → Option (List Asked)
 edits_in_table ms =
     if has_only file_keys ms && is_one (get_member (codes "version") ms)
     then joined (if_there regions_in (get_member (codes "region") ms) ∷ if_there (flags_at global_id) (get_member (codes "global") ms) ∷ [])

@@ -1,6 +1,7 @@
 pub mod Cuts
 pub mod Faults
 pub mod Feeds
+pub mod FileApplied
 pub mod FileJoins
 pub mod FileLists
 pub mod Going

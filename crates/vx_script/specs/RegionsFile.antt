@@ -136,11 +136,15 @@ changes_at d = do
   ms ← as_table d
   changes_in ms
 
--- all regions of an array: first they are all defined, then the rest of each is said
+-- these regions: first they are all defined, then the rest of each is said
+unfoldable pub regions_of : List Data → Option (List Asked)
+regions_of ds = joined (in_turn definition_at ds ∷ in_turn changes_at ds ∷ [])
+
+-- the regions of an array
 unfoldable pub regions_in : Data → Option (List Asked)
 regions_in d = do
   items ← as_array d
-  joined (in_turn definition_at (data_of items) ∷ in_turn changes_at (data_of items) ∷ [])
+  regions_of (data_of items)
 
 -- the keys that the file may have
 abbrev pub file_keys : List (List ℕ)
@@ -151,12 +155,14 @@ abbrev pub is_one : Option Data → Bool
 is_one (Some (integer (pos n))) = n == 1
 is_one d = false
 
--- the edits that a document means: its regions, then the flags of the world at large
+-- the regions of a document, then the flags of the world at large
+unfoldable pub contents_in : Table → Option (List Asked)
+contents_in ms =
+    joined (if_there regions_in (get_member (codes "region") ms) ∷ if_there (flags_at global_id) (get_member (codes "global") ms) ∷ [])
+
+-- the edits that a document of version 1 means
 unfoldable pub edits_in_table : Table → Option (List Asked)
-edits_in_table ms =
-    if has_only file_keys ms && is_one (get_member (codes "version") ms)
-    then joined (if_there regions_in (get_member (codes "region") ms) ∷ if_there (flags_at global_id) (get_member (codes "global") ms) ∷ [])
-    else None
+edits_in_table ms = if has_only file_keys ms && is_one (get_member (codes "version") ms) then contents_in ms else None
 
 -- how many bytes a regions file may have
 abbrev pub most_bytes : ℕ

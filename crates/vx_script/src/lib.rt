@@ -19,4 +19,5 @@ mod tests;
 mod words;
 
 pub use fault::Fault;
+pub use file::regions_file;
 pub use running::run;

@@ -2,20 +2,18 @@
 ghost use Rattle.std.specs.Prelude.{◌≡◌, [], ◌∷◌, map, Some, None, option_map, option_copied, string_bytes};
 ghost use Rattle.toml.specs.Data.{get_member};
 ghost use Rattle.toml.specs.View.{view, table_view};
-ghost use Rattle.vx_geom.specs.Written.{written};
 ghost use Rattle.vx_policy.specs.Asked.{asked};
 ghost use Rattle.vx_script.specs.FileReads.{Gives, Adds};
-ghost use Rattle.vx_script.specs.FileValues.{corners_of};
-ghost use Rattle.vx_script.specs.RegionsFile.{if_there, in_turn, text_at, says, polygon_of, shape_of, shape_in, definition_in, priority_in, parent_in, name_in, names_in, rank_in, people_in, changes_in};
+ghost use Rattle.vx_script.specs.RegionsFile.{if_there, in_turn, text_at, says, definition_in, definition_at, priority_in, parent_in, name_in, names_in, rank_in, people_in, changes_in, changes_at};
 
 use crate::file::edits::add;
 use crate::file::file_error::FileError;
 use crate::file::flags::flags;
 use crate::file::keys::{has_only, text_at, value_at};
-use crate::file::values::{columns, heights, number, numbers};
+use crate::file::shapes::shape;
+use crate::file::values::number;
 use std::alloc::Global;
 use toml::{Table, Value};
-use vx_geom::{Pos, ShapeSpec};
 use vx_policy::{Edit, Listing};
 
 /// The keys that a region may have.
@@ -31,9 +29,13 @@ enum Role {
 }
 
 /// Adds the definition of a region.
-pub fn definition(alloc: Global, table: &Table, edits: &mut Vec<Edit>) -> Result<(), FileError>
-    ensures { Adds result edits.old.items edits.new.items (option_map (λ definition. definition ∷ []) (definition_in (table_view table.now))) }
+#[tactic(auto, unfolding(crate::specs::RegionsFile::definition_at))]
+pub fn definition(alloc: Global, value: &Value, edits: &mut Vec<Edit>) -> Result<(), FileError>
+    ensures { Adds result edits.old.items edits.new.items (definition_at (view value.now)) }
 {
+    let Some(table) = value.as_table() else {
+        return Err(FileError::Malformed);
+    };
     let edit = definition_of(alloc, table)?;
     add(edits, edit)
 }
@@ -52,67 +54,19 @@ fn definition_of(alloc: Global, table: &Table) -> Result<Edit, FileError>
     Ok(Edit::Define(String::from_str(alloc, id)?, shape))
 }
 
-#[tactic(auto, unfolding(crate::specs::RegionsFile::shape_in))]
-fn shape(alloc: Global, table: &Table) -> Result<ShapeSpec, FileError>
-    ensures { Gives written result (shape_in (table_view table.now)) }
+/// Adds what is said of a region beside its definition.
+#[tactic(auto, unfolding(crate::specs::RegionsFile::changes_at))]
+pub fn changes(alloc: Global, value: &Value, edits: &mut Vec<Edit>) -> Result<(), FileError>
+    ensures { Adds result edits.old.items edits.new.items (changes_at (view value.now)) }
 {
-    let cuboid = value_at(table, "cuboid");
-    let polygon = value_at(table, "polygon");
-    let y = value_at(table, "y");
-    shape_of(alloc, cuboid, polygon, y)
-}
-
-#[tactic(auto, unfolding(crate::specs::RegionsFile::shape_of))]
-fn shape_of(
-    alloc: Global,
-    cuboid: Option<&Value>,
-    polygon: Option<&Value>,
-    y: Option<&Value>,
-) -> Result<ShapeSpec, FileError>
-    ensures { Gives written result
-        (shape_of (option_map (λ v. view v.now) cuboid.entry) (option_map (λ v. view v.now) polygon.entry) (option_map (λ v. view v.now) y.entry)) }
-{
-    match (cuboid, polygon, y) {
-        (Some(corners), None, None) => cuboid_of(&numbers(alloc, corners)?),
-        (None, Some(points), Some(ends)) => polygon_of(alloc, points, ends),
-        _ => Err(FileError::Malformed),
-    }
-}
-
-#[tactic(auto, unfolding(crate::specs::FileValues::corners_of))]
-fn cuboid_of(numbers: &[i32]) -> Result<ShapeSpec, FileError>
-    ensures { Gives written result (corners_of numbers.now) }
-{
-    match numbers {
-        [x, y, z, to_x, to_y, to_z] => {
-            let from = corner(x, y, z);
-            let to = corner(to_x, to_y, to_z);
-            Ok(ShapeSpec::Cuboid(from, to))
-        }
-        _ => Err(FileError::Malformed),
-    }
-}
-
-fn corner(x: &i32, y: &i32, z: &i32) -> Pos
-    ensures { result ≡ record { y = y.now; z = z.now; x = x.now } }
-{
-    Pos::new(*x, *y, *z)
-}
-
-#[tactic(auto, unfolding(crate::specs::RegionsFile::polygon_of))]
-fn polygon_of(alloc: Global, points: &Value, ends: &Value) -> Result<ShapeSpec, FileError>
-    ensures { Gives written result (polygon_of (view points.now) (view ends.now)) }
-{
-    let columns = columns(alloc, points)?;
-    let Some((low, high)) = heights(&numbers(alloc, ends)?) else {
+    let Some(table) = value.as_table() else {
         return Err(FileError::Malformed);
     };
-    Ok(ShapeSpec::Poly(columns, low, high))
+    changes_of(alloc, table, edits)
 }
 
-/// Adds what is said of a region beside its definition.
 #[tactic(auto, unfolding(crate::specs::RegionsFile::changes_in))]
-pub fn changes(alloc: Global, table: &Table, edits: &mut Vec<Edit>) -> Result<(), FileError>
+fn changes_of(alloc: Global, table: &Table, edits: &mut Vec<Edit>) -> Result<(), FileError>
     ensures { Adds result edits.old.items edits.new.items (changes_in (table_view table.now)) }
 {
     let Some(id) = text_at(table, "id") else {

@@ -16,6 +16,8 @@ mod flags;
 mod keys;
 mod shapes;
 mod tables;
+#[cfg(test)]
+mod tests;
 mod values;
 
 use crate::fault::Fault;

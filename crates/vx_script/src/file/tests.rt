@@ -265,10 +265,13 @@ fn files_that_lack_something(rt: HostRuntime) {
 #[test]
 fn a_file_has_a_limit(rt: HostRuntime) -> Result<(), Fail> {
     let alloc = rt.alloc();
-    let mut bytes = vec![in alloc; b' '; 1_048_577]?;
-    bytes[..12].copy_from_slice(b"version = 1\n");
-    refused(&rt, alloc, &bytes);
-    assert!(rt; regions_file(alloc, &bytes[..1_048_576]).is_ok());
+    let mut text = String::from_str(alloc, "version = 1\n")?;
+    for _ in 12..1_048_576 {
+        text.push(' ')?;
+    }
+    counts(&rt, alloc, text.as_str(), 0);
+    text.push(' ')?;
+    refused(&rt, alloc, text.as_bytes());
     Ok(())
 }
 

@@ -1,5 +1,5 @@
 -- What the values of a regions file mean, each by itself.
-use Rattle.std.specs.Prelude.{ℕ, ℤ, pos, neg_ℤ, ◌-◌, ◌^◌, ◌&&◌, ◌==◌, Bool, true, false, if◌then◌else◌, nat_lt, bytes_eq, List, [], ◌∷◌, ◌++◌, length, Option, Some, None}
+use Rattle.std.specs.Prelude.{ℕ, ℤ, pos, neg_ℤ, ◌-◌, ◌^◌, ◌&&◌, ◌==◌, Bool, true, if◌then◌else◌, nat_lt, bytes_eq, List, [], ◌∷◌, ◌++◌, length, Option, Some, None}
 use Rattle.std.specs.List.{list_any, position_or_len, before_first, after_first}
 use Rattle.toml.specs.Data.{Data, Items, no_items, item, Members, no_members, member, as_integer, as_array, as_str}
 use Rattle.vx_flag.specs.Group.{group_of}

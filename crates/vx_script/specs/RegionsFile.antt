@@ -1,6 +1,5 @@
 -- What a regions file means: the edits that make its policy out of the empty one.
-use Rattle.std.specs.Prelude.{◌≡◌, ℕ, ℤ, pos, ◌&&◌, ◌==◌, Bool, false, if◌then◌else◌, nat_le, codes, IsUtf8, List, [], ◌∷◌, length, map, Option, Some, None, option_map}
-use Rattle.std.specs.Option.{option_and_then}
+use Rattle.std.specs.Prelude.{◌≡◌, ℕ, pos, ◌&&◌, ◌==◌, Bool, false, if◌then◌else◌, nat_le, codes, IsUtf8, List, [], ◌∷◌, length, map, Option, Some, None}
 use Rattle.toml.specs.Data.{Data, Members as Table, integer, get_member, as_str, as_array, as_table}
 use Rattle.toml.specs.Parse.{parse_document}
 use Rattle.vx_flag.specs.Flag.{flag_text, flags}

@@ -278,15 +278,22 @@ fn a_file_has_a_limit(rt: HostRuntime) -> Result<(), Fail> {
 #[test]
 fn want_of_memory_is_told_as_such(rt: HostRuntime) -> Result<(), Fail> {
     let names = [Name::read("ann")?, Name::read("bob")?, Name::read("eve")?];
-    told_or_read(&rt, rt.alloc(), &names);
-    told_or_read(&rt, rt.alloc(), &names);
+    let first = told_or_read(&rt, rt.alloc(), &names);
+    let second = told_or_read(&rt, rt.alloc(), &names);
+    assert!(rt; first || second);
     Ok(())
 }
 
-// Where an allocation fails, it is want of memory that is told.
-fn told_or_read(rt: &impl Abort, alloc: Global, names: &[Name; 3]) {
+// Where an allocation fails, it is want of memory that is told. Answers whether the file was read.
+fn told_or_read(rt: &impl Abort, alloc: Global, names: &[Name; 3]) -> bool {
     match regions_file(alloc, MILL.as_bytes()) {
-        Ok(policy) => is_mill(rt, policy.regions(), names),
-        Err(fault) => assert_eq!(rt; fault, Fault::NoMemory),
+        Ok(policy) => {
+            is_mill(rt, policy.regions(), names);
+            true
+        }
+        Err(fault) => {
+            assert_eq!(rt; fault, Fault::NoMemory);
+            false
+        }
     }
 }

@@ -1,10 +1,13 @@
 pub mod Cuts
 pub mod Faults
 pub mod Feeds
+pub mod FileApplied
+pub mod FileJoins
+pub mod FileLists
 pub mod Going
+pub mod Points
 pub mod Printables
+pub mod Renewals
 pub mod Runs
 pub mod Spelled
 pub mod Taking
-pub mod Points
-pub mod Renewals

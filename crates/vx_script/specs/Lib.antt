@@ -1,10 +1,13 @@
 pub mod EditLines
+pub mod FileReads
+pub mod FileValues
 pub mod FirstFault
 pub mod Grounds
 pub mod Known
 pub mod Lines
 pub mod Numbers
 pub mod Readings
+pub mod RegionsFile
 pub mod ScriptLines
 pub mod Statuses
 pub mod Transcript

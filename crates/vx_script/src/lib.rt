@@ -4,6 +4,7 @@
 mod arguments;
 mod edit_reading;
 mod fault;
+mod file;
 mod header;
 mod input;
 pub mod laws;
@@ -20,4 +21,5 @@ mod unread;
 mod words;
 
 pub use fault::Fault;
+pub use file::regions_file;
 pub use running::run;

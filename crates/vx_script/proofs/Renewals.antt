@@ -1,5 +1,5 @@
 -- A list whose items are changed one after another, from the first on.
-use Rattle.std.proofs.Common.{◌≡◌, ℕ, zero, suc, ◌+◌, ◌<◌, ◌≤◌, List, [], ◌∷◌, length, map, get_or, set, refl, ap, arith}
+use Rattle.std.proofs.Common.{◌≡◌, ℕ, zero, suc, ◌<◌, ◌≤◌, List, [], ◌∷◌, length, map, get_or, set, refl, ap, arith}
 
 -- the first i items changed, and the others as they were
 abbrev pub changed_up_to : {X : Type 0} → (X → X) → ℕ → List X → List X

@@ -5,7 +5,6 @@ use Rattle.vx_flag.specs.State.{state_of}
 use Rattle.vx_flag.specs.declared.flag.Flag.{Flag}
 use Rattle.vx_flag.specs.declared.group.Group.{Group}
 use Rattle.vx_flag.specs.declared.group.Group.TheVariants.{All}
-use Rattle.vx_flag.specs.declared.setting.Setting.{Setting}
 use Rattle.vx_flag.specs.declared.state.State.{State}
 use Rattle.vx_geom.specs.Polygon.{Column}
 use Rattle.vx_geom.specs.Written.{Written, Corners, Path}

@@ -1,4 +1,4 @@
-use Rattle.std.proofs.Common.{◌≡◌, map, length}
+use Rattle.std.proofs.Common.{◌≡◌, map}
 use Rattle.vx_script.specs.Transcript.{first_window}
 use Rattle.vx_script.proofs.play.open_sectors.Given as goal
 

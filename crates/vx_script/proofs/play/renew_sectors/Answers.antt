@@ -1,4 +1,4 @@
-use Rattle.std.proofs.Common.{◌≡◌, ◌+◌, ◌<◌, length, map, get_or, set, sym, ◌∙◌, ap, add-one, arith}
+use Rattle.std.proofs.Common.{◌<◌, length, get_or, set, sym, ◌∙◌, ap, add-one}
 use Rattle.vx_sector.specs.Acting.{renewed}
 use Rattle.vx_sector.specs.SectorData.{SectorData}
 use Rattle.vx_script.proofs.Renewals.{changed_up_to, changed_none, changed_all, next_as_before, one_more}

@@ -2,7 +2,6 @@ pub mod Cuts
 pub mod Faults
 pub mod Feeds
 pub mod FileApplied
-pub mod FileJoins
 pub mod FileLists
 pub mod Going
 pub mod Points

@@ -41,13 +41,13 @@ fn edit_and_fix(
     let known = Err(DeskError::Refused(EditRefusal::Known));
     let opening = desk.fix(1)?;
     assert_eq!(rt; seen(&opening)?, (1, 0, 0, false));
-    check(rt, desk, Kind::Define("plot"), told(1, Some(1)))?;
+    check(rt, desk, Kind::Define("plot"), Ok(told(1, Some(1))))?;
     let owned_by_none = desk.fix(1)?;
-    check(rt, desk, Kind::Owner(Listing::Add), told(2, None))?;
+    check(rt, desk, Kind::Owner(Listing::Add), Ok(told(2, None)))?;
     assert_eq!(rt; seen(&desk.fix(2)?)?, (2, 2, 1, true));
     check(rt, desk, Kind::Define("plot"), known)?;
     assert_eq!(rt; (desk.count(), seen(&desk.fix(2)?)?), (2, (2, 2, 1, true)));
-    check(rt, desk, Kind::Define("farm"), told(3, Some(2)))?;
+    check(rt, desk, Kind::Define("farm"), Ok(told(3, Some(2))))?;
     assert_eq!(rt; seen(&desk.fix(3)?)?, (3, 3, 2, true));
     assert_eq!(rt; seen(&opening)?, (1, 0, 0, false));
     assert_eq!(rt; seen(&owned_by_none)?, (1, 1, 1, false));
@@ -65,24 +65,21 @@ fn try_each(
     rt: &(impl Abort + Alloc<A = Global>),
     desk: &mut DeskState<Brand>,
 ) -> Result<(), Fail> {
-    let edits = [
-        (Kind::Define("farm"), Some(1)),
-        (Kind::Define("plot"), Some(2)),
-        (Kind::Reshape, None),
-        (Kind::Priority, None),
-        (Kind::Parent(Some("farm")), None),
-        (Kind::Parent(None), None),
-        (Kind::SetFlag, None),
-        (Kind::ClearFlag, None),
-        (Kind::Owner(Listing::Add), None),
-        (Kind::Member, None),
-        (Kind::Owner(Listing::Drop), None),
-        (Kind::Remove, None),
-    ];
-    let mut count = 0;
-    for (kind, number) in edits {
-        count += 1;
-        try_twice(rt, desk, kind, told(count, number))?;
+    for (kind, edited) in [
+        (Kind::Define("farm"), told(1, Some(1))),
+        (Kind::Define("plot"), told(2, Some(2))),
+        (Kind::Reshape, told(3, None)),
+        (Kind::Priority, told(4, None)),
+        (Kind::Parent(Some("farm")), told(5, None)),
+        (Kind::Parent(None), told(6, None)),
+        (Kind::SetFlag, told(7, None)),
+        (Kind::ClearFlag, told(8, None)),
+        (Kind::Owner(Listing::Add), told(9, None)),
+        (Kind::Member, told(10, None)),
+        (Kind::Owner(Listing::Drop), told(11, None)),
+        (Kind::Remove, told(12, None)),
+    ] {
+        try_twice(rt, desk, kind, edited)?;
     }
     Ok(())
 }
@@ -91,7 +88,7 @@ fn try_twice(
     rt: &(impl Abort + Alloc<A = Global>),
     desk: &mut DeskState<Brand>,
     kind: Kind,
-    answer: Result<Edited, DeskError>,
+    edited: Edited,
 ) -> Result<(), Fail> {
     let (first, second) = (edit(rt.alloc(), kind)?, edit(rt.alloc(), kind)?);
     let before = desk.fix(1)?;
@@ -101,12 +98,9 @@ fn try_twice(
         assert!(rt; before.same(&desk.fix(1)?));
         given = desk.apply(rt.alloc(), second);
     }
-    assert_eq!(rt; given, answer, "{kind:?}");
+    assert_eq!(rt; given, Ok(edited), "{kind:?}");
     let after = desk.fix(1)?;
-    assert_eq!(rt;
-        (desk.count(), after.edits),
-        (before.edits + 1, before.edits + 1)
-    );
+    assert_eq!(rt; (desk.count(), after.edits), (edited.count, edited.count));
     assert!(rt; !before.policy.same(&after.policy), "{kind:?}");
     Ok(())
 }
@@ -120,8 +114,8 @@ fn a_shared_desk_shows_its_edits(rt: HostRuntime) -> Result<(), Fail> {
 fn show(rt: &(impl Abort + Wait + Alloc<A = Global>), desk: &Desk<Brand>) -> Result<(), Fail> {
     assert_eq!(rt; seen(&desk.fix(rt, 1)?)?, (1, 0, 0, false));
     for (kind, answer) in [
-        (Kind::Define("plot"), told(1, Some(1))),
-        (Kind::Owner(Listing::Add), told(2, None)),
+        (Kind::Define("plot"), Ok(told(1, Some(1)))),
+        (Kind::Owner(Listing::Add), Ok(told(2, None))),
     ] {
         let edit = edit(rt.alloc(), kind)?;
         assert_eq!(rt; desk.edit(rt, rt.alloc(), edit), answer);
@@ -173,8 +167,8 @@ fn define_four(
 #[test]
 fn answers_are_told(rt: HostRuntime) -> Result<(), Fail> {
     for (answer, text) in [
-        (told(1, Some(1)), "edit 1 region 1"),
-        (told(2, None), "edit 2"),
+        (Ok(told(1, Some(1))), "edit 1 region 1"),
+        (Ok(told(2, None)), "edit 2"),
         (Err(DeskError::HistoryFull), "refused 13 history"),
         (
             Err(DeskError::Refused(EditRefusal::Known)),
@@ -216,18 +210,18 @@ fn seen(version: &Version) -> Result<(u64, u64, u32, bool), Fail> {
     Ok((version.tick, version.edits, regions.count(), owned))
 }
 
-fn told(count: u64, region: Option<u32>) -> Result<Edited, DeskError> {
-    Ok(Edited {
+fn told(count: u64, region: Option<u32>) -> Edited {
+    Edited {
         count,
         region: region.map(|number| RegionNo(number)),
-    })
+    }
 }
 
 fn edit(alloc: Global, kind: Kind) -> Result<Edit, AllocError> {
     let plot = String::from_str(alloc, "plot")?;
     match kind {
-        Kind::Define(id) => Ok(Edit::Define(String::from_str(alloc, id)?, column(1))),
-        Kind::Reshape => Ok(Edit::Reshape(plot, column(2))),
+        Kind::Define(id) => Ok(Edit::Define(String::from_str(alloc, id)?, column())),
+        Kind::Reshape => Ok(Edit::Reshape(plot, triangle(alloc)?)),
         Kind::Remove => Ok(Edit::Remove(plot)),
         Kind::Priority => Ok(Edit::Priority(plot, 7)),
         Kind::Parent(None) => Ok(Edit::Parent(plot, None)),
@@ -249,6 +243,11 @@ fn deny() -> Setting {
     }
 }
 
-fn column(x: i32) -> ShapeSpec {
-    ShapeSpec::Cuboid(Pos::new(x, 0, 0), Pos::new(x, 63, 0))
+fn column() -> ShapeSpec {
+    ShapeSpec::Cuboid(Pos::new(1, 0, 1), Pos::new(1, 63, 1))
+}
+
+fn triangle(alloc: Global) -> Result<ShapeSpec, AllocError> {
+    let points = Vec::from_slice(alloc, &[(0, 0), (9, 0), (0, 9)])?;
+    Ok(ShapeSpec::Poly(points, 2, 6))
 }

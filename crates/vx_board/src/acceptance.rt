@@ -25,7 +25,12 @@ pub struct Ready {
 
 /// Tests an edit, makes room for it in the list, and applies it to the policy. Where it answers an error, policy and list are
 /// as before, but for room.
-pub fn make_ready(alloc: Global, policy: &mut Policy, accepted: &mut Vec<Edit>, edit: Edit) -> Result<Ready, DeskError>
+pub fn make_ready(
+    alloc: Global,
+    policy: &mut Policy,
+    accepted: &mut Vec<Edit>,
+    edit: Edit,
+) -> Result<Ready, DeskError>
     ensures ok { IfOk result (λ ready. (refusal policy.old (asked edit) ≡ None) × (policy.new ≡ edited policy.old (asked edit))
         × (asked ready.edit ≡ asked edit) × (option_map (λ n. n.0) ready.region ≡ number_given policy.old (asked edit))) }
     ensures room { IfOk result (λ _. (vec_len accepted.new < vec_capacity accepted.new) × (vec_len accepted.old < most_edits)) }

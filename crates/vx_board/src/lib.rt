@@ -7,11 +7,11 @@ mod desk_error;
 mod desk_state;
 mod edited;
 mod naming;
+#[cfg(test)]
+mod tests;
 
-
-pub use desk_state::DeskState;
 pub use desk::Desk;
 pub use desk_error::DeskError;
-
+pub use desk_state::DeskState;
 pub use edited::Edited;
 pub use naming::Naming;

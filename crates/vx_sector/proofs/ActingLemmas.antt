@@ -1,5 +1,5 @@
 -- What a command's answer says of the sector.
-use Rattle.std.proofs.Common.{◌≡◌, ◌≢◌, ◌+◌, ◌<◌, length, Bool, true, false, not, if◌then◌else◌, List, ◌∷◌, Option, Result, Ok, Err, is_ok, refl, ap}
+use Rattle.std.proofs.Common.{◌≡◌, ◌≢◌, ◌<◌, Bool, true, false, not, if◌then◌else◌, List, ◌∷◌, Option, Result, Ok, Err, is_ok, refl, ap}
 use Rattle.std.proofs.lemmas.Bool.{leb-false}
 use Rattle.vx_geom.specs.declared.pos.Pos.{Pos}
 use Rattle.vx_geom.specs.Sizes.{AreSizes}

@@ -1,11 +1,29 @@
 //! Scripts that edit the policy, tick, and play in worlds of several sectors.
 use super::{paper, pieces, play, runs_to};
-use crate::Fault;
+use crate::{Fault, regions_file, run};
 use std::alloc::Global;
 use std::process::Abort;
 use std::test::Fail;
 
-// Worlds of two sectors with two players.
+// The text of examples/plot.toml.
+const PLOT: &str =
+    "# The plot of plot.vx as a regions file: what its edits say, from the opening on.\nversion = 1\n\n[[region]]\nid = \"plot-7\"\ncuboid = [2, 0, 2, 9, 63, 9]\nowners = [\"Ann\"]\nmembers = [\"bob\"]\n\n[region.flags]\nblock-break = \"deny nonowners\"\n";
+
+#[test]
+fn a_plot_of_a_regions_file(rt: HostRuntime) -> Result<(), Fail> {
+    let alloc = rt.alloc();
+    let script =
+        "world 1 1 1\nplayer ann\nplayer bob\nplayer cyd\nas ann place 4 1 4 planks\nas bob break 4 1 4\nas bob place 4 2 4 dirt\nas cyd place 5 1 5 stone\nregion member plot-7 drop bob\ntick\nas bob place 4 3 4 dirt\nregion define plot-8 cuboid 0 0 0 1 1 1\n";
+    let replies =
+        "ok member at 1\nrefused 2 flag block-break at 1 from 1\nok member at 1\nrefused 2 member at 1\nedit 1\ntick 1\nrefused 2 member at 1\nedit 2 region 2\ndone ticks 1 calls 5\n";
+    let policy = regions_file(alloc, PLOT.as_bytes())?;
+    let mut output = paper(alloc);
+    let got = run(alloc, &mut pieces(script, 7), &mut output, policy);
+    assert_eq!(rt; got, Ok(()));
+    assert_eq!(rt; output.text.as_slice(), replies.as_bytes());
+    Ok(())
+}
+
 #[test]
 fn commands_stop_at_the_border_of_the_world(rt: HostRuntime) {
     let alloc = rt.alloc();

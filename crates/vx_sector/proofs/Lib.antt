@@ -1,1 +1,2 @@
 pub mod ActingLemmas
+pub mod Outside

@@ -11,7 +11,7 @@ mod sector;
 
 pub use cmd::Cmd;
 pub use entry::Entry;
-pub use laws::{one_cell_changes, refusal_leaves_cells};
+pub use laws::{one_cell_changes, outside_is_refused, refusal_leaves_cells};
 pub use refusal::Refusal;
 pub use reply::Reply;
 pub use seat::Seat;

@@ -4,9 +4,11 @@ pub mod Feeds
 pub mod FileApplied
 pub mod FileLists
 pub mod Going
+pub mod Placed
 pub mod Points
 pub mod Printables
 pub mod Renewals
 pub mod Runs
 pub mod Spelled
 pub mod Taking
+pub mod Whole

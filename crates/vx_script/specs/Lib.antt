@@ -13,3 +13,4 @@ pub mod Statuses
 pub mod Transcript
 pub mod Unread
 pub mod Words
+pub mod Worlds

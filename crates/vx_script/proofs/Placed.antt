@@ -1,0 +1,59 @@
+-- Each sector of a world stands in its place.
+use Rattle.std.proofs.Common.{◌≡◌, ◌≢◌, ℕ, zero, suc, ◌+◌, ◌<◌, ◌==◌, Bool, true, false, List, [], ◌∷◌, ◌++◌, length, map, set, slice_get, Option, Some, None, IsSome, option_map, Result, Ok, Err, if◌then◌else◌, refl, sym, ap, ◌∙◌, subst, inl, inr, arith}
+use Rattle.std.proofs.lemmas.Bool.{cases_Bool, eq-eqb}
+use Rattle.std.proofs.lemmas.List.{length-append}
+use Rattle.std.proofs.lemmas.Option.{slice_get-map}
+use Rattle.vx_geom.specs.declared.pos.Pos.{Pos}
+use Rattle.vx_geom.specs.Sizes.{Sizes, AreSizes, sector_count, sector_of, is_inside}
+use Rattle.vx_cells.specs.SectorCells.{SectorCells, only_air, holds}
+use Rattle.vx_script.specs.Grounds.{airs}
+use Rattle.vx_script.specs.Worlds.{AreFrom, AreSectors}
+
+pub from_push : (sizes : Sizes) (k : ℕ) (cs : List SectorCells) (c : SectorCells) → AreFrom sizes k cs → c.bounds ≡ sizes → c.sector ≡ k + length cs
+    → AreFrom sizes k (cs ++ c ∷ [])
+from_push sizes k [] c each bounds sector = (bounds, omega (arith, sector), tt)
+from_push sizes k (d ∷ cs) c each bounds sector = (each.0, each.1, from_push sizes (suc k) cs c each.2 bounds (omega (arith, sector)))
+
+-- what is found at a place is the sector of that number
+pub placed_at : (sizes : Sizes) (k i : ℕ) (cs : List SectorCells) (c : SectorCells) → AreFrom sizes k cs → slice_get cs i ≡ Some c
+    → (c.bounds ≡ sizes) × (c.sector ≡ k + i)
+placed_at sizes k i [] c each found = cc
+placed_at sizes k zero (d ∷ cs) c each found =
+    let same : d ≡ c = cc in
+    let sector : c.sector ≡ k = ap (λ s. s.sector) (sym same) ∙ each.1 in (
+      ap (λ s. s.bounds) (sym same) ∙ each.0,
+      omega (arith, sector),
+    )
+placed_at sizes k (suc i) (d ∷ cs) c each found =
+    let further = placed_at sizes (suc k) i cs c each.2 found in (further.0, omega (arith, further.1))
+
+-- another in its place, of the same number
+pub placed_again : (sizes : Sizes) (k i : ℕ) (cs : List SectorCells) (c d : SectorCells) → AreFrom sizes k cs → slice_get cs i ≡ Some c
+    → d.bounds ≡ c.bounds → d.sector ≡ c.sector → AreFrom sizes k (set cs i d)
+placed_again sizes k i [] c d each found bounds sector = cc
+placed_again sizes k zero (e ∷ cs) c d each found bounds sector =
+    let same : e ≡ c = cc in (
+      bounds ∙ ap (λ s. s.bounds) (sym same) ∙ each.0,
+      sector ∙ ap (λ s. s.sector) (sym same) ∙ each.1,
+      each.2,
+    )
+placed_again sizes k (suc i) (e ∷ cs) c d each found bounds sector = (each.0, each.1, placed_again sizes (suc k) i cs c d each.2 found bounds sector)
+
+pub airs_count : (sizes : Sizes) (n : ℕ) → length (airs sizes n) ≡ n
+airs_count sizes zero = refl
+airs_count sizes (suc n) = length-append (airs sizes n) (only_air sizes n ∷ []) ∙ omega (arith, airs_count sizes n)
+
+pub airs_placed : (sizes : Sizes) (n : ℕ) → AreFrom sizes 0 (airs sizes n)
+airs_placed sizes zero = tt
+airs_placed sizes (suc n) = from_push sizes 0 (airs sizes n) (only_air sizes n) (airs_placed sizes n) refl (omega (arith, airs_count sizes n))
+
+-- the sector that is found for a position holds it
+pub holds_found : (c : SectorCells) (p : Pos) (k : ℕ) → sector_of c.bounds p ≡ Some k → c.sector ≡ k → holds c p ≡ true
+unfolding holds
+holds_found c p k found same = rw found (eq-eqb c.sector k same)
+
+-- there is something at each place within
+pub found_within : {X : Type 0} (xs : List X) (i : ℕ) → i < length xs → (x : X) × (slice_get xs i ≡ Some x)
+found_within [] i within = absurd (omega arith)
+found_within (x ∷ xs) zero within = (x, refl)
+found_within (x ∷ xs) (suc i) within = found_within xs i (omega arith)

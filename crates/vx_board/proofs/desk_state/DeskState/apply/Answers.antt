@@ -1,6 +1,6 @@
 use Rattle.std.proofs.Common.{◌++◌, ◌∷◌, [], ap, sym, ◌∙◌, map}
 use Rattle.vx_policy.specs.Asked.{asked}
-use Rattle.vx_policy.specs.Edits.{after, edited, AreAccepted}
+use Rattle.vx_policy.specs.Edits.{edited}
 use Rattle.vx_policy.proofs.Turns.{after_push, accepted_push}
 use Rattle.vx_board.proofs.desk_state.DeskState.apply.Goals as goal
 

@@ -1,13 +1,12 @@
 -- Each sector of a world stands in its place.
-use Rattle.std.proofs.Common.{◌≡◌, ◌≢◌, ℕ, zero, suc, ◌+◌, ◌<◌, ◌==◌, Bool, true, false, List, [], ◌∷◌, ◌++◌, length, map, set, slice_get, Option, Some, None, IsSome, option_map, Result, Ok, Err, if◌then◌else◌, refl, sym, ap, ◌∙◌, subst, inl, inr, arith}
-use Rattle.std.proofs.lemmas.Bool.{cases_Bool, eq-eqb}
+use Rattle.std.proofs.Common.{◌≡◌, ℕ, zero, suc, ◌+◌, ◌<◌, true, List, [], ◌∷◌, ◌++◌, length, set, slice_get, Some, refl, sym, ap, ◌∙◌, arith}
+use Rattle.std.proofs.lemmas.Bool.{eq-eqb}
 use Rattle.std.proofs.lemmas.List.{length-append}
-use Rattle.std.proofs.lemmas.Option.{slice_get-map}
 use Rattle.vx_geom.specs.declared.pos.Pos.{Pos}
-use Rattle.vx_geom.specs.Sizes.{Sizes, AreSizes, sector_count, sector_of, is_inside}
+use Rattle.vx_geom.specs.Sizes.{Sizes, sector_of}
 use Rattle.vx_cells.specs.SectorCells.{SectorCells, only_air, holds}
 use Rattle.vx_script.specs.Grounds.{airs}
-use Rattle.vx_script.specs.Worlds.{AreFrom, AreSectors}
+use Rattle.vx_script.specs.Worlds.{AreFrom}
 
 pub from_push : (sizes : Sizes) (k : ℕ) (cs : List SectorCells) (c : SectorCells) → AreFrom sizes k cs → c.bounds ≡ sizes → c.sector ≡ k + length cs
     → AreFrom sizes k (cs ++ c ∷ [])

@@ -1,9 +1,9 @@
 -- What a script does keeps each sector of its world in its place.
-use Rattle.std.proofs.Common.{◌≡◌, ◌≢◌, ℕ, zero, suc, ◌+◌, ◌<◌, ◌==◌, Bool, true, false, List, [], ◌∷◌, ◌++◌, length, map, set, slice_get, Option, Some, None, IsSome, option_map, Result, Ok, Err, if◌then◌else◌, nat_lt, not, ◌&&◌, ◌≤◌, is_some, refl, sym, ap, ◌∙◌, subst, inl, inr, arith}
+use Rattle.std.proofs.Common.{◌≡◌, ◌≢◌, ℕ, Bool, true, false, List, [], ◌∷◌, ◌++◌, length, map, set, slice_get, Option, Some, None, option_map, Result, Ok, Err, if◌then◌else◌, nat_lt, not, ◌&&◌, ◌≤◌, is_some, refl, sym, ap, ◌∙◌, subst, inl, inr, arith}
 use Rattle.std.specs.Option.{option_and_then, MatchOption}
 use Rattle.std.proofs.lemmas.Bool.{cases_Bool, and_parts, leb-true}
 use Rattle.std.proofs.lemmas.List.{map-set, length-set, length-map}
-use Rattle.std.proofs.lemmas.Option.{slice_get-map, slice_get-get_or}
+use Rattle.std.proofs.lemmas.Option.{slice_get-map}
 use Rattle.vx_block.specs.declared.part.Part.{Part}
 use Rattle.vx_block.specs.Part.{part_cell}
 use Rattle.vx_geom.specs.declared.pos.Pos.{Pos}
@@ -13,7 +13,7 @@ use Rattle.vx_cells.specs.SectorCells.{SectorCells, holds, with_cell}
 use Rattle.vx_policy.specs.declared.version.Version.{Version}
 use Rattle.vx_region.specs.Regions.{Regions}
 use Rattle.vx_region.specs.Words.{is_amid}
-use Rattle.vx_sector.specs.Acting.{place_of, answer_of, cells_after, cells_by, is_recorded, sector_after, renewed}
+use Rattle.vx_sector.specs.Acting.{place_of, answer_of, cells_by, is_recorded, sector_after, renewed}
 use Rattle.vx_sector.specs.SectorData.{SectorData, SeatData}
 use Rattle.vx_sector.specs.declared.cmd.Cmd.{Cmd}
 use Rattle.vx_sector.specs.declared.cmd.Cmd.TheVariants.{Look, Place, Break}
@@ -21,12 +21,11 @@ use Rattle.vx_sector.specs.declared.reply.Reply.{Reply}
 use Rattle.vx_sector.specs.declared.refusal.Refusal.{Refusal}
 use Rattle.vx_sector.specs.declared.refusal.Refusal.TheVariants.{OutOfWorld}
 use Rattle.vx_sector.proofs.Outside.{inside_is_not_refused}
-use Rattle.vx_script.specs.declared.fault.Fault.{Fault}
-use Rattle.vx_script.specs.declared.fault.Fault.TheVariants.{Syntax, TooManyPlayers}
+use Rattle.vx_script.specs.declared.fault.Fault.TheVariants.{TooManyPlayers}
 use Rattle.vx_script.specs.Grounds.{airs}
-use Rattle.vx_script.specs.ScriptLines.{Said, Nothing, World, Player, Set, Act, Region, Tick, sizes_of}
-use Rattle.vx_script.specs.Transcript.{Opening, Play, is_named, with_size, with_player, set_in, with_part, sector_at, header_after, begun, begun_with, opened, opened_with, first_window, most_players, sector_asked, acted, acted_at, answer_in, acted_in, ticked, next_version}
-use Rattle.vx_script.specs.Worlds.{AreFrom, AreSectors, HasSizes, IsGround, IsWorld, SizesAreSound, HeadersKeepGround, WorldsBeginWhole, CommandsKeepWorlds, TicksKeepWorlds, OutOfWorldIsOutside}
+use Rattle.vx_script.specs.ScriptLines.{Nothing, World, Player, Set, Act, Region, Tick}
+use Rattle.vx_script.specs.Transcript.{Opening, Play, is_named, with_size, set_in, with_part, sector_at, header_after, begun, begun_with, opened, opened_with, most_players, sector_asked, acted, acted_at, answer_in, acted_in, next_version}
+use Rattle.vx_script.specs.Worlds.{AreSectors, IsGround, IsWorld, SizesAreSound, HeadersKeepGround, WorldsBeginWhole, CommandsKeepWorlds, TicksKeepWorlds, OutOfWorldIsOutside}
 use Rattle.vx_script.proofs.Placed.{placed_at, placed_again, airs_count, airs_placed, holds_found, found_within}
 
 abbrev cells_of : SectorData → SectorCells

@@ -1,4 +1,4 @@
-use Rattle.std.specs.Prelude.{◌≡◌, ℕ, suc, ◌↔◌, false, List, [], ◌∷◌, length, map, Some, Err, Ok, Option, option_map}
+use Rattle.std.specs.Prelude.{◌≡◌, ℕ, suc, ◌↔◌, false, List, [], ◌∷◌, length, map, Some, Err, Ok}
 use Rattle.std.specs.Option.{MatchOption}
 use Rattle.vx_geom.specs.Sizes.{Sizes, AreSizes, sector_count, is_inside}
 use Rattle.vx_cells.specs.SectorCells.{SectorCells}
@@ -8,7 +8,7 @@ use Rattle.vx_sector.specs.SectorData.{SeatData}
 use Rattle.vx_sector.specs.declared.cmd.Cmd.{Cmd}
 use Rattle.vx_sector.specs.declared.refusal.Refusal.TheVariants.{OutOfWorld}
 use Rattle.vx_script.specs.ScriptLines.{Said, World, sizes_of}
-use Rattle.vx_script.specs.Transcript.{Opening, Play, no_opening, header_after, begun, acted, ticked}
+use Rattle.vx_script.specs.Transcript.{Opening, Play, header_after, begun, acted, ticked}
 
 -- these are the sectors of a world of this size, in order, from number k on
 abbrev pub AreFrom : Sizes → ℕ → List SectorCells → Type 0

@@ -1,4 +1,4 @@
--- How what a function read, or the edits that it added, stand to what a definition gives.
+-- How the edits that a function added stand to what a definition gives.
 use Rattle.std.specs.Prelude.{◌≡◌, List, [], ◌∷◌, ◌++◌, map, if◌then◌else◌, Option, Some, None, is_some, Result, Ok, Err}
 use Rattle.vx_policy.specs.Asked.{Asked, asked}
 use Rattle.vx_policy.specs.Edits.{edited}
@@ -6,13 +6,8 @@ use Rattle.vx_policy.specs.Refusals.{refusal}
 use Rattle.vx_policy.specs.declared.edit.Edit.{Edit}
 use Rattle.vx_region.specs.Regions.{Regions}
 use Rattle.vx_script.specs.Readings.{◌>>=◌}
-use Rattle.vx_script.specs.declared.file.file_error.FileError.{FileError}
-use Rattle.vx_script.specs.declared.file.file_error.FileError.TheVariants.{Malformed}
-
--- the value of what was read is what is meant; the file is malformed only where nothing is meant
-abbrev pub Gives : {X Y : Type 0} → (X → Y) → Result X FileError → Option Y → Type 0
-Gives value (Ok x) meant = meant ≡ Some (value x)
-Gives value (Err e) meant = e ≡ Malformed → meant ≡ None
+use Rattle.vx_script.specs.declared.unread.Unread.{Unread}
+use Rattle.vx_script.specs.declared.unread.Unread.TheVariants.{Faulty}
 
 -- these edits, behind those before
 abbrev pub behind : List Asked → Option (List Asked) → Option (List Asked)
@@ -20,9 +15,9 @@ behind before None = None
 behind before (Some more) = Some (before ++ more)
 
 -- the edits that were added are those that are meant; the file is malformed only where none are
-abbrev pub Adds : {X : Type 0} → Result X FileError → List Edit → List Edit → Option (List Asked) → Type 0
+abbrev pub Adds : {X : Type 0} → Result X Unread → List Edit → List Edit → Option (List Asked) → Type 0
 Adds (Ok x) old new meant = behind (map asked old) meant ≡ Some (map asked new)
-Adds (Err e) old new meant = e ≡ Malformed → meant ≡ None
+Adds (Err e) old new meant = e ≡ Faulty → meant ≡ None
 
 -- the regions after an edit, unless it is refused
 unfoldable pub accepted : Regions → Asked → Option Regions

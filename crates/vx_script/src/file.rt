@@ -11,7 +11,6 @@ ghost use Rattle.vx_script.specs.RegionsFile.{edits_in, FileSays};
 
 mod document;
 mod edits;
-mod file_error;
 mod flags;
 mod keys;
 mod shapes;
@@ -23,7 +22,7 @@ mod values;
 use crate::fault::Fault;
 use crate::file::document::document;
 use crate::file::edits::apply;
-use crate::file::file_error::FileError;
+use crate::unread::Unread;
 use std::alloc::Global;
 use toml::Table;
 use vx_policy::{Edit, Policy};
@@ -39,25 +38,25 @@ pub fn regions_file(alloc: Global, bytes: &[u8]) -> Result<Policy, Fault>
 {
     match policy_of(alloc, bytes) {
         Ok(policy) => Ok(policy),
-        Err(FileError::Malformed) => Err(Fault::BadRegionFile),
-        Err(FileError::NoMemory) => Err(Fault::NoMemory),
+        Err(Unread::Faulty) => Err(Fault::BadRegionFile),
+        Err(Unread::NoMemory) => Err(Fault::NoMemory),
     }
 }
 
-fn policy_of(alloc: Global, bytes: &[u8]) -> Result<Policy, FileError>
+fn policy_of(alloc: Global, bytes: &[u8]) -> Result<Policy, Unread>
     ensures text { IfOk result (λ _. IsUtf8 bytes.now) }
     ensures ok { IfOk result (λ policy. option_and_then (applied no_regions) (edits_in bytes.now) ≡ Some policy) }
-    ensures refused { result ≡ Err FileError.Malformed → IsUtf8 bytes.now → option_and_then (applied no_regions) (edits_in bytes.now) ≡ None }
+    ensures refused { result ≡ Err Unread.Faulty → IsUtf8 bytes.now → option_and_then (applied no_regions) (edits_in bytes.now) ≡ None }
 {
     let edits = edits_of(alloc, bytes)?;
     apply(alloc, edits)
 }
 
 // The edits that the bytes mean.
-fn edits_of(alloc: Global, bytes: &[u8]) -> Result<Vec<Edit>, FileError>
+fn edits_of(alloc: Global, bytes: &[u8]) -> Result<Vec<Edit>, Unread>
     ensures text { IfOk result (λ _. IsUtf8 bytes.now) }
     ensures ok { IfOk result (λ edits. edits_in bytes.now ≡ Some (map asked edits.items)) }
-    ensures refused { result ≡ Err FileError.Malformed → IsUtf8 bytes.now → edits_in bytes.now ≡ None }
+    ensures refused { result ≡ Err Unread.Faulty → IsUtf8 bytes.now → edits_in bytes.now ≡ None }
 {
     let mut edits = Vec::new(alloc);
     read(alloc, bytes, &mut edits)?;
@@ -65,31 +64,31 @@ fn edits_of(alloc: Global, bytes: &[u8]) -> Result<Vec<Edit>, FileError>
 }
 
 #[tactic(auto, unfolding(crate::specs::RegionsFile::edits_in))]
-fn read(alloc: Global, bytes: &[u8], edits: &mut Vec<Edit>) -> Result<(), FileError>
+fn read(alloc: Global, bytes: &[u8], edits: &mut Vec<Edit>) -> Result<(), Unread>
     ensures text { IfOk result (λ _. IsUtf8 bytes.now) }
     ensures ok { OnOk result (behind (map asked edits.old.items) (edits_in bytes.now) ≡ Some (map asked edits.new.items)) }
-    ensures refused { result ≡ Err FileError.Malformed → IsUtf8 bytes.now → edits_in bytes.now ≡ None }
+    ensures refused { result ≡ Err Unread.Faulty → IsUtf8 bytes.now → edits_in bytes.now ≡ None }
 {
     if MOST_BYTES < bytes.len() {
-        return Err(FileError::Malformed);
+        return Err(Unread::Faulty);
     }
     let table = table_of(alloc, bytes)?;
     document(alloc, &table, edits)
 }
 
 // The document that the bytes are.
-fn table_of(alloc: Global, bytes: &[u8]) -> Result<Table, FileError>
+fn table_of(alloc: Global, bytes: &[u8]) -> Result<Table, Unread>
     ensures text { IfOk result (λ _. IsUtf8 bytes.now) }
     ensures ok { IfOk result (λ table. parse_document bytes.now ≡ Some (table_view table)) }
-    ensures refused { result ≡ Err FileError.Malformed → IsUtf8 bytes.now → parse_document bytes.now ≡ None }
+    ensures refused { result ≡ Err Unread.Faulty → IsUtf8 bytes.now → parse_document bytes.now ≡ None }
 {
     match toml::table_from_slice(alloc, bytes) {
         Ok(table) => Ok(table),
         Err(error) => {
             if error.is_memory() {
-                Err(FileError::NoMemory)
+                Err(Unread::NoMemory)
             } else {
-                Err(FileError::Malformed)
+                Err(Unread::Faulty)
             }
         }
     }

@@ -6,10 +6,10 @@ ghost use Rattle.vx_script.specs.FileReads.{Adds};
 ghost use Rattle.vx_script.specs.FileValues as values;
 ghost use Rattle.vx_script.specs.RegionsFile.{if_there, in_turn, definition_at, changes_at, regions_of, regions_in, is_one, contents_in, edits_in_table};
 
-use crate::file::file_error::FileError;
 use crate::file::flags::flags;
 use crate::file::keys::{has_only, value_at};
 use crate::file::tables::{changes, definition};
+use crate::unread::Unread;
 use std::alloc::Global;
 use toml::{Table, Value};
 use vx_policy::Edit;
@@ -19,14 +19,14 @@ const FILE_KEYS: [&str; 3] = ["version", "region", "global"];
 
 /// Adds the edits that a document of version 1 means.
 #[tactic(auto, unfolding(crate::specs::RegionsFile::edits_in_table))]
-pub fn document(alloc: Global, table: &Table, edits: &mut Vec<Edit>) -> Result<(), FileError>
+pub fn document(alloc: Global, table: &Table, edits: &mut Vec<Edit>) -> Result<(), Unread>
     ensures { Adds result edits.old.items edits.new.items (edits_in_table (table_view table.now)) }
 {
     if !has_only(table, &FILE_KEYS) {
-        return Err(FileError::Malformed);
+        return Err(Unread::Faulty);
     }
     if !is_version(value_at(table, "version")) {
-        return Err(FileError::Malformed);
+        return Err(Unread::Faulty);
     }
     contents(alloc, table, edits)
 }
@@ -41,7 +41,7 @@ fn is_version(value: Option<&Value>) -> bool
 }
 
 #[tactic(auto, unfolding(crate::specs::RegionsFile::contents_in))]
-fn contents(alloc: Global, table: &Table, edits: &mut Vec<Edit>) -> Result<(), FileError>
+fn contents(alloc: Global, table: &Table, edits: &mut Vec<Edit>) -> Result<(), Unread>
     ensures { Adds result edits.old.items edits.new.items (contents_in (table_view table.now)) }
 {
     regions(alloc, value_at(table, "region"), edits)?;
@@ -49,28 +49,28 @@ fn contents(alloc: Global, table: &Table, edits: &mut Vec<Edit>) -> Result<(), F
 }
 
 #[tactic(auto, unfolding(crate::specs::RegionsFile::regions_in), using(crate::proofs::FileLists::data_of_view))]
-fn regions(alloc: Global, value: Option<&Value>, edits: &mut Vec<Edit>) -> Result<(), FileError>
+fn regions(alloc: Global, value: Option<&Value>, edits: &mut Vec<Edit>) -> Result<(), Unread>
     ensures { Adds result edits.old.items edits.new.items (if_there regions_in (option_map (λ v. view v.now) value.entry)) }
 {
     let Some(value) = value else {
         return Ok(());
     };
     let Some(values) = value.as_array() else {
-        return Err(FileError::Malformed);
+        return Err(Unread::Faulty);
     };
     each_region(alloc, values, edits)
 }
 
 // All regions are defined before anything else is said of them, so a parent may stand after its child.
 #[tactic(auto, unfolding(crate::specs::RegionsFile::regions_of))]
-fn each_region(alloc: Global, values: &[Value], edits: &mut Vec<Edit>) -> Result<(), FileError>
+fn each_region(alloc: Global, values: &[Value], edits: &mut Vec<Edit>) -> Result<(), Unread>
     ensures { Adds result edits.old.items edits.new.items (regions_of (map view values.now)) }
 {
     each_definition(alloc, values, edits)?;
     each_change(alloc, values, edits)
 }
 
-fn each_definition(alloc: Global, values: &[Value], edits: &mut Vec<Edit>) -> Result<(), FileError>
+fn each_definition(alloc: Global, values: &[Value], edits: &mut Vec<Edit>) -> Result<(), Unread>
     ensures { Adds result edits.old.items edits.new.items (in_turn definition_at (map view values.now)) }
 {
     for value in values {
@@ -79,7 +79,7 @@ fn each_definition(alloc: Global, values: &[Value], edits: &mut Vec<Edit>) -> Re
     Ok(())
 }
 
-fn each_change(alloc: Global, values: &[Value], edits: &mut Vec<Edit>) -> Result<(), FileError>
+fn each_change(alloc: Global, values: &[Value], edits: &mut Vec<Edit>) -> Result<(), Unread>
     ensures { Adds result edits.old.items edits.new.items (in_turn changes_at (map view values.now)) }
 {
     for value in values {

@@ -2,14 +2,15 @@
 ghost use Rattle.std.specs.Prelude.{◌≡◌, [], ◌∷◌, map, Some};
 ghost use Rattle.vx_policy.specs.Asked.{asked};
 ghost use Rattle.vx_region.specs.Regions.{no_regions};
-ghost use Rattle.vx_script.specs.FileReads.{Gives, Adds, accepted, applied};
+ghost use Rattle.vx_script.specs.FileReads.{Adds, accepted, applied};
+ghost use Rattle.vx_script.specs.Unread.{Gives};
 
-use crate::file::file_error::FileError;
+use crate::unread::Unread;
 use std::alloc::Global;
 use vx_policy::{Edit, EditError, Policy};
 
 /// Adds one edit.
-pub fn add(edits: &mut Vec<Edit>, edit: Edit) -> Result<(), FileError>
+pub fn add(edits: &mut Vec<Edit>, edit: Edit) -> Result<(), Unread>
     ensures { Adds result edits.old.items edits.new.items (Some (asked edit ∷ [])) }
 {
     edits.push(edit)?;
@@ -17,7 +18,7 @@ pub fn add(edits: &mut Vec<Edit>, edit: Edit) -> Result<(), FileError>
 }
 
 /// The policy that these edits make out of the empty one.
-pub fn apply(alloc: Global, edits: Vec<Edit>) -> Result<Policy, FileError>
+pub fn apply(alloc: Global, edits: Vec<Edit>) -> Result<Policy, Unread>
     ensures { Gives (λ policy. policy) result (applied no_regions (map asked edits.items)) }
 {
     let mut policy = Policy::new(alloc)?;
@@ -25,7 +26,7 @@ pub fn apply(alloc: Global, edits: Vec<Edit>) -> Result<Policy, FileError>
     Ok(policy)
 }
 
-fn apply_all(alloc: Global, policy: &mut Policy, edits: Vec<Edit>) -> Result<(), FileError>
+fn apply_all(alloc: Global, policy: &mut Policy, edits: Vec<Edit>) -> Result<(), Unread>
     ensures { Gives (λ _. policy.new) result (applied policy.old (map asked edits.items)) }
 {
     for edit in edits {
@@ -35,12 +36,12 @@ fn apply_all(alloc: Global, policy: &mut Policy, edits: Vec<Edit>) -> Result<(),
 }
 
 #[tactic(auto, unfolding(crate::specs::FileReads::accepted))]
-fn apply_one(alloc: Global, policy: &mut Policy, edit: Edit) -> Result<(), FileError>
+fn apply_one(alloc: Global, policy: &mut Policy, edit: Edit) -> Result<(), Unread>
     ensures { Gives (λ _. policy.new) result (accepted policy.old (asked edit)) }
 {
     match policy.apply(alloc, edit) {
         Ok(_) => Ok(()),
-        Err(EditError::Refused(_)) => Err(FileError::Malformed),
-        Err(EditError::NoMemory) => Err(FileError::NoMemory),
+        Err(EditError::Refused(_)) => Err(Unread::Faulty),
+        Err(EditError::NoMemory) => Err(Unread::NoMemory),
     }
 }

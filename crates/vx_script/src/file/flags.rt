@@ -9,9 +9,9 @@ ghost use Rattle.vx_script.specs.FileValues.{joined};
 ghost use Rattle.vx_script.specs.RegionsFile.{if_there, flag_in, flags_in, flags_at};
 
 use crate::file::edits::add;
-use crate::file::file_error::FileError;
 use crate::file::keys::{has_only, value_at};
 use crate::file::values::setting;
+use crate::unread::Unread;
 use std::alloc::Global;
 use toml::{Table, Value};
 use vx_flag::Flag;
@@ -46,24 +46,24 @@ pub fn flags(
     id: &str,
     value: Option<&Value>,
     edits: &mut Vec<Edit>,
-) -> Result<(), FileError>
+) -> Result<(), Unread>
     ensures { Adds result edits.old.items edits.new.items (if_there (flags_at id.now) (option_map (λ v. view v.now) value.entry)) }
 {
     let Some(value) = value else {
         return Ok(());
     };
     let Some(table) = value.as_table() else {
-        return Err(FileError::Malformed);
+        return Err(Unread::Faulty);
     };
     flags_of(alloc, id, table, edits)
 }
 
 #[tactic(auto, unfolding(crate::specs::RegionsFile::flags_in))]
-fn flags_of(alloc: Global, id: &str, table: &Table, edits: &mut Vec<Edit>) -> Result<(), FileError>
+fn flags_of(alloc: Global, id: &str, table: &Table, edits: &mut Vec<Edit>) -> Result<(), Unread>
     ensures { Adds result edits.old.items edits.new.items (flags_in id.now (table_view table.now)) }
 {
     if !has_only(table, &FLAG_KEYS) {
-        return Err(FileError::Malformed);
+        return Err(Unread::Faulty);
     }
     each_flag(alloc, id, table, &FLAGS, edits)
 }
@@ -74,7 +74,7 @@ fn each_flag(
     table: &Table,
     flags: &[Flag],
     edits: &mut Vec<Edit>,
-) -> Result<(), FileError>
+) -> Result<(), Unread>
     ensures { Adds result edits.old.items edits.new.items
         (joined (map (λ flag. if_there (flag_in id.now flag) (get_member (flag_text flag) (table_view table.now))) flags.now)) }
 {
@@ -91,14 +91,14 @@ fn one_flag(
     flag: Flag,
     value: Option<&Value>,
     edits: &mut Vec<Edit>,
-) -> Result<(), FileError>
+) -> Result<(), Unread>
     ensures { Adds result edits.old.items edits.new.items (if_there (flag_in id.now flag) (option_map (λ v. view v.now) value.entry)) }
 {
     let Some(value) = value else {
         return Ok(());
     };
     let Some(setting) = setting(value) else {
-        return Err(FileError::Malformed);
+        return Err(Unread::Faulty);
     };
     let id = String::from_str(alloc, id)?;
     add(edits, Edit::SetFlag(id, flag, setting))

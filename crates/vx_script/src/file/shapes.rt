@@ -2,20 +2,20 @@
 ghost use Rattle.std.specs.Prelude.{◌≡◌, option_map};
 ghost use Rattle.toml.specs.View.{view, table_view};
 ghost use Rattle.vx_geom.specs.Written.{written};
-ghost use Rattle.vx_script.specs.FileReads.{Gives};
+ghost use Rattle.vx_script.specs.Unread.{Gives};
 ghost use Rattle.vx_script.specs.FileValues.{corners_of};
 ghost use Rattle.vx_script.specs.RegionsFile.{polygon_of, shape_of, shape_in};
 
-use crate::file::file_error::FileError;
 use crate::file::keys::value_at;
 use crate::file::values::{columns, heights, numbers};
+use crate::unread::Unread;
 use std::alloc::Global;
 use toml::{Table, Value};
 use vx_geom::{Pos, ShapeSpec};
 
 /// The shape of a region: `cuboid`, or `polygon` with `y`.
 #[tactic(auto, unfolding(crate::specs::RegionsFile::shape_in))]
-pub fn shape(alloc: Global, table: &Table) -> Result<ShapeSpec, FileError>
+pub fn shape(alloc: Global, table: &Table) -> Result<ShapeSpec, Unread>
     ensures { Gives written result (shape_in (table_view table.now)) }
 {
     let cuboid = value_at(table, "cuboid");
@@ -30,19 +30,19 @@ fn shape_of(
     cuboid: Option<&Value>,
     polygon: Option<&Value>,
     y: Option<&Value>,
-) -> Result<ShapeSpec, FileError>
+) -> Result<ShapeSpec, Unread>
     ensures { Gives written result
         (shape_of (option_map (λ v. view v.now) cuboid.entry) (option_map (λ v. view v.now) polygon.entry) (option_map (λ v. view v.now) y.entry)) }
 {
     match (cuboid, polygon, y) {
         (Some(corners), None, None) => cuboid_of(&numbers(alloc, corners)?),
         (None, Some(points), Some(ends)) => polygon_of(alloc, points, ends),
-        _ => Err(FileError::Malformed),
+        _ => Err(Unread::Faulty),
     }
 }
 
 #[tactic(auto, unfolding(crate::specs::FileValues::corners_of))]
-fn cuboid_of(numbers: &[i32]) -> Result<ShapeSpec, FileError>
+fn cuboid_of(numbers: &[i32]) -> Result<ShapeSpec, Unread>
     ensures { Gives written result (corners_of numbers.now) }
 {
     match numbers {
@@ -51,7 +51,7 @@ fn cuboid_of(numbers: &[i32]) -> Result<ShapeSpec, FileError>
             let to = corner(to_x, to_y, to_z);
             Ok(ShapeSpec::Cuboid(from, to))
         }
-        _ => Err(FileError::Malformed),
+        _ => Err(Unread::Faulty),
     }
 }
 
@@ -62,12 +62,12 @@ fn corner(x: &i32, y: &i32, z: &i32) -> Pos
 }
 
 #[tactic(auto, unfolding(crate::specs::RegionsFile::polygon_of))]
-fn polygon_of(alloc: Global, points: &Value, ends: &Value) -> Result<ShapeSpec, FileError>
+fn polygon_of(alloc: Global, points: &Value, ends: &Value) -> Result<ShapeSpec, Unread>
     ensures { Gives written result (polygon_of (view points.now) (view ends.now)) }
 {
     let columns = columns(alloc, points)?;
     let Some((low, high)) = heights(&numbers(alloc, ends)?) else {
-        return Err(FileError::Malformed);
+        return Err(Unread::Faulty);
     };
     Ok(ShapeSpec::Poly(columns, low, high))
 }

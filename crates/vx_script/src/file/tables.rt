@@ -3,15 +3,16 @@ ghost use Rattle.std.specs.Prelude.{◌≡◌, [], ◌∷◌, map, Some, None, o
 ghost use Rattle.toml.specs.Data.{get_member};
 ghost use Rattle.toml.specs.View.{view, table_view};
 ghost use Rattle.vx_policy.specs.Asked.{asked};
-ghost use Rattle.vx_script.specs.FileReads.{Gives, Adds};
+ghost use Rattle.vx_script.specs.FileReads.{Adds};
 ghost use Rattle.vx_script.specs.RegionsFile.{if_there, in_turn, text_at, says, definition_in, definition_at, priority_in, parent_in, name_in, names_in, rank_in, people_in, changes_in, changes_at};
+ghost use Rattle.vx_script.specs.Unread.{Gives};
 
 use crate::file::edits::add;
-use crate::file::file_error::FileError;
 use crate::file::flags::flags;
 use crate::file::keys::{has_only, text_at, value_at};
 use crate::file::shapes::shape;
 use crate::file::values::number;
+use crate::unread::Unread;
 use std::alloc::Global;
 use toml::{Table, Value};
 use vx_policy::{Edit, Listing};
@@ -30,25 +31,25 @@ enum Role {
 
 /// Adds the definition of a region.
 #[tactic(auto, unfolding(crate::specs::RegionsFile::definition_at))]
-pub fn definition(alloc: Global, value: &Value, edits: &mut Vec<Edit>) -> Result<(), FileError>
+pub fn definition(alloc: Global, value: &Value, edits: &mut Vec<Edit>) -> Result<(), Unread>
     ensures { Adds result edits.old.items edits.new.items (definition_at (view value.now)) }
 {
     let Some(table) = value.as_table() else {
-        return Err(FileError::Malformed);
+        return Err(Unread::Faulty);
     };
     let edit = definition_of(alloc, table)?;
     add(edits, edit)
 }
 
 #[tactic(auto, unfolding(crate::specs::RegionsFile::definition_in))]
-fn definition_of(alloc: Global, table: &Table) -> Result<Edit, FileError>
+fn definition_of(alloc: Global, table: &Table) -> Result<Edit, Unread>
     ensures { Gives asked result (definition_in (table_view table.now)) }
 {
     if !has_only(table, &REGION_KEYS) {
-        return Err(FileError::Malformed);
+        return Err(Unread::Faulty);
     }
     let Some(id) = text_at(table, "id") else {
-        return Err(FileError::Malformed);
+        return Err(Unread::Faulty);
     };
     let shape = shape(alloc, table)?;
     Ok(Edit::Define(String::from_str(alloc, id)?, shape))
@@ -56,21 +57,21 @@ fn definition_of(alloc: Global, table: &Table) -> Result<Edit, FileError>
 
 /// Adds what is said of a region beside its definition.
 #[tactic(auto, unfolding(crate::specs::RegionsFile::changes_at))]
-pub fn changes(alloc: Global, value: &Value, edits: &mut Vec<Edit>) -> Result<(), FileError>
+pub fn changes(alloc: Global, value: &Value, edits: &mut Vec<Edit>) -> Result<(), Unread>
     ensures { Adds result edits.old.items edits.new.items (changes_at (view value.now)) }
 {
     let Some(table) = value.as_table() else {
-        return Err(FileError::Malformed);
+        return Err(Unread::Faulty);
     };
     changes_of(alloc, table, edits)
 }
 
 #[tactic(auto, unfolding(crate::specs::RegionsFile::changes_in))]
-fn changes_of(alloc: Global, table: &Table, edits: &mut Vec<Edit>) -> Result<(), FileError>
+fn changes_of(alloc: Global, table: &Table, edits: &mut Vec<Edit>) -> Result<(), Unread>
     ensures { Adds result edits.old.items edits.new.items (changes_in (table_view table.now)) }
 {
     let Some(id) = text_at(table, "id") else {
-        return Err(FileError::Malformed);
+        return Err(Unread::Faulty);
     };
     rank(alloc, id, table, edits)?;
     people(alloc, id, table, edits)?;
@@ -78,7 +79,7 @@ fn changes_of(alloc: Global, table: &Table, edits: &mut Vec<Edit>) -> Result<(),
 }
 
 #[tactic(auto, unfolding(crate::specs::RegionsFile::rank_in))]
-fn rank(alloc: Global, id: &str, table: &Table, edits: &mut Vec<Edit>) -> Result<(), FileError>
+fn rank(alloc: Global, id: &str, table: &Table, edits: &mut Vec<Edit>) -> Result<(), Unread>
     ensures { Adds result edits.old.items edits.new.items (rank_in id.now (table_view table.now)) }
 {
     priority(alloc, id, value_at(table, "priority"), edits)?;
@@ -86,7 +87,7 @@ fn rank(alloc: Global, id: &str, table: &Table, edits: &mut Vec<Edit>) -> Result
 }
 
 #[tactic(auto, unfolding(crate::specs::RegionsFile::people_in))]
-fn people(alloc: Global, id: &str, table: &Table, edits: &mut Vec<Edit>) -> Result<(), FileError>
+fn people(alloc: Global, id: &str, table: &Table, edits: &mut Vec<Edit>) -> Result<(), Unread>
     ensures { Adds result edits.old.items edits.new.items (people_in id.now (table_view table.now)) }
 {
     names(alloc, Role::Owners, id, value_at(table, "owners"), edits)?;
@@ -99,14 +100,14 @@ fn priority(
     id: &str,
     value: Option<&Value>,
     edits: &mut Vec<Edit>,
-) -> Result<(), FileError>
+) -> Result<(), Unread>
     ensures { Adds result edits.old.items edits.new.items (if_there (priority_in id.now) (option_map (λ v. view v.now) value.entry)) }
 {
     let Some(value) = value else {
         return Ok(());
     };
     let Some(priority) = number(value) else {
-        return Err(FileError::Malformed);
+        return Err(Unread::Faulty);
     };
     let id = String::from_str(alloc, id)?;
     add(edits, Edit::Priority(id, priority))
@@ -118,14 +119,14 @@ fn parent(
     id: &str,
     value: Option<&Value>,
     edits: &mut Vec<Edit>,
-) -> Result<(), FileError>
+) -> Result<(), Unread>
     ensures { Adds result edits.old.items edits.new.items (if_there (parent_in id.now) (option_map (λ v. view v.now) value.entry)) }
 {
     let Some(value) = value else {
         return Ok(());
     };
     let Some(parent) = value.as_str() else {
-        return Err(FileError::Malformed);
+        return Err(Unread::Faulty);
     };
     let id = String::from_str(alloc, id)?;
     let parent = String::from_str(alloc, parent)?;
@@ -139,14 +140,14 @@ fn names(
     id: &str,
     value: Option<&Value>,
     edits: &mut Vec<Edit>,
-) -> Result<(), FileError>
+) -> Result<(), Unread>
     ensures { Adds result edits.old.items edits.new.items (if_there (names_in role id.now) (option_map (λ v. view v.now) value.entry)) }
 {
     let Some(value) = value else {
         return Ok(());
     };
     let Some(values) = value.as_array() else {
-        return Err(FileError::Malformed);
+        return Err(Unread::Faulty);
     };
     each_name(alloc, role, id, values, edits)
 }
@@ -157,7 +158,7 @@ fn each_name(
     id: &str,
     values: &[Value],
     edits: &mut Vec<Edit>,
-) -> Result<(), FileError>
+) -> Result<(), Unread>
     ensures { Adds result edits.old.items edits.new.items (in_turn (name_in role id.now) (map view values.now)) }
 {
     for value in values {
@@ -173,11 +174,11 @@ fn name(
     id: &str,
     value: &Value,
     edits: &mut Vec<Edit>,
-) -> Result<(), FileError>
+) -> Result<(), Unread>
     ensures { Adds result edits.old.items edits.new.items (name_in role id.now (view value.now)) }
 {
     let Some(name) = value.as_str() else {
-        return Err(FileError::Malformed);
+        return Err(Unread::Faulty);
     };
     let id = String::from_str(alloc, id)?;
     let name = String::from_str(alloc, name)?;

@@ -1,10 +1,10 @@
 //! What values mean by themselves: numbers, texts, points and settings.
 ghost use Rattle.std.specs.Prelude.{◌≡◌, map};
 ghost use Rattle.toml.specs.View.{view};
-ghost use Rattle.vx_script.specs.FileReads.{Gives};
+ghost use Rattle.vx_script.specs.Unread.{Gives};
 ghost use Rattle.vx_script.specs.FileValues.{each, number_in, numbers_in, column_in, columns_of, columns_in, heights_of, setting_of_text, setting_in};
 
-use crate::file::file_error::FileError;
+use crate::unread::Unread;
 use std::alloc::Global;
 use toml::Value;
 use vx_flag::{Group, Setting, State};
@@ -20,22 +20,22 @@ pub fn number(value: &Value) -> Option<i32>
 
 /// The numbers of the array that the value is.
 #[tactic(auto, unfolding(crate::specs::FileValues::numbers_in), using(crate::proofs::FileLists::data_of_view))]
-pub fn numbers(alloc: Global, value: &Value) -> Result<Vec<i32>, FileError>
+pub fn numbers(alloc: Global, value: &Value) -> Result<Vec<i32>, Unread>
     ensures { Gives (λ numbers. numbers.items) result (numbers_in (view value.now)) }
 {
     let Some(values) = value.as_array() else {
-        return Err(FileError::Malformed);
+        return Err(Unread::Faulty);
     };
     each_number(alloc, values)
 }
 
-fn each_number(alloc: Global, values: &[Value]) -> Result<Vec<i32>, FileError>
+fn each_number(alloc: Global, values: &[Value]) -> Result<Vec<i32>, Unread>
     ensures { Gives (λ numbers. numbers.items) result (each number_in (map view values.now)) }
 {
     let mut numbers = Vec::new(alloc);
     for value in values {
         let Some(n) = number(value) else {
-            return Err(FileError::Malformed);
+            return Err(Unread::Faulty);
         };
         numbers.push(n)?;
     }
@@ -44,23 +44,23 @@ fn each_number(alloc: Global, values: &[Value]) -> Result<Vec<i32>, FileError>
 
 /// The columns of the array that the value is, two numbers each: an x and a z.
 #[tactic(auto, unfolding(crate::specs::FileValues::columns_in), using(crate::proofs::FileLists::data_of_view))]
-pub fn columns(alloc: Global, value: &Value) -> Result<Vec<(i32, i32)>, FileError>
+pub fn columns(alloc: Global, value: &Value) -> Result<Vec<(i32, i32)>, Unread>
     ensures { Gives (λ columns. columns.items) result (columns_in (view value.now)) }
 {
     let Some(values) = value.as_array() else {
-        return Err(FileError::Malformed);
+        return Err(Unread::Faulty);
     };
     each_column(alloc, values)
 }
 
-fn each_column(alloc: Global, values: &[Value]) -> Result<Vec<(i32, i32)>, FileError>
+fn each_column(alloc: Global, values: &[Value]) -> Result<Vec<(i32, i32)>, Unread>
     ensures { Gives (λ columns. columns.items) result (columns_of (map view values.now)) }
 {
     let mut columns = Vec::new(alloc);
     let mut rest = values;
     while let [x, z, more @ ..] = rest {
         let Some(point) = column(x, z) else {
-            return Err(FileError::Malformed);
+            return Err(Unread::Faulty);
         };
         columns.push(point)?;
         rest = more;
@@ -68,7 +68,7 @@ fn each_column(alloc: Global, values: &[Value]) -> Result<Vec<(i32, i32)>, FileE
     if rest.is_empty() {
         Ok(columns)
     } else {
-        Err(FileError::Malformed)
+        Err(Unread::Faulty)
     }
 }
 

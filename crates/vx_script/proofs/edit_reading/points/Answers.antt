@@ -7,7 +7,7 @@ use Rattle.vx_script.proofs.Points.{point_read, fewer_words, point_unfinished, p
 use Rattle.vx_script.proofs.edit_reading.points.Goals as goal
 
 pub returns-in_default-coordinate : goal.returns-in_default-coordinate
-returns-in_default-coordinate c =
+returns-in_default-coordinate c = λ _.
     c.loop-word.invariant
     ∙ ap (λ ws. option_map (λ more. c.loop-word.points.items ++ more) (points_of ws)) c.in-Some.ensures
     ∙ ap (option_map (λ more. c.loop-word.points.items ++ more)) (point_unfinished c.in-Some.word.now c.next.new.self c.in_default-coordinate.ensures)

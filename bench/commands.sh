@@ -8,6 +8,7 @@ root=$(cd "$(dirname "$0")/.." && pwd)
 work=$(mktemp -d)
 trap 'rm -rf "$work"' EXIT
 server=$root/crates/vx_server/out/vx_server
+. "$root/bench/measure.sh"
 
 # A script of at most so many bytes: place, break and look at random positions of one world, by two players.
 script() {
@@ -34,19 +35,7 @@ script() {
 
 # The least of three wall-clock times, in milliseconds.
 milliseconds() {
-  local least=999999 start end
-  for _ in 1 2 3; do
-    start=$(date +%s%N)
-    "$1" <"$2" >/dev/null
-    end=$(date +%s%N)
-    [ $(((end - start) / 1000000)) -ge "$least" ] || least=$(((end - start) / 1000000))
-  done
-  echo "$least"
-}
-
-# The most memory that a run took, in KiB.
-kibibytes() {
-  /usr/bin/time -f %M "$1" <"$2" 2>&1 >/dev/null | tail -n 1
+  echo $(($(microseconds "$1" "$2") / 1000))
 }
 
 "$root/run" - </dev/null >/dev/null

@@ -7,6 +7,7 @@ root=$(cd "$(dirname "$0")/.." && pwd)
 work=$(mktemp -d)
 trap 'rm -rf "$work"' EXIT
 server=$root/crates/vx_server/out/vx_server
+. "$root/bench/measure.sh"
 
 # A world of 64 sectors with so many regions, side by side.
 world() {
@@ -38,23 +39,6 @@ lines() {
   }'
 }
 
-# The least of three wall-clock times, in microseconds.
-microseconds() {
-  local least=999999999 start end
-  for _ in 1 2 3; do
-    start=$(date +%s%N)
-    "$server" <"$1" >/dev/null
-    end=$(date +%s%N)
-    [ $(((end - start) / 1000)) -ge "$least" ] || least=$(((end - start) / 1000))
-  done
-  echo "$least"
-}
-
-# The most memory that a run took, in KiB.
-kibibytes() {
-  /usr/bin/time -f %M "$server" <"$1" 2>&1 >/dev/null | tail -n 1
-}
-
 "$root/run" - </dev/null >/dev/null
 printf '%-20s %8s %8s %10s %12s %10s\n' lines regions count us a_second KiB_more
 for row in "priority 4000 200000" "flag 4000 200000" "owner 4000 200000" "reshape 4000 200000" "parent 4000 200000" \
@@ -62,9 +46,9 @@ for row in "priority 4000 200000" "flag 4000 200000" "owner 4000 200000" "reshap
   set -- $row
   world "$2" >"$work/plain.vx"
   { cat "$work/plain.vx"; lines "${1//_/ }" "$3" "$2"; } >"$work/full.vx"
-  plain=$(microseconds "$work/plain.vx")
-  full=$(microseconds "$work/full.vx")
+  plain=$(microseconds "$server" "$work/plain.vx")
+  full=$(microseconds "$server" "$work/full.vx")
   spent=$((full > plain ? full - plain : 1))
   printf '%-20s %8s %8s %10s %12s %10s\n' "${1//_/ }" "$2" "$3" "$spent" $(($3 * 1000000 / spent)) \
-    $(($(kibibytes "$work/full.vx") - $(kibibytes "$work/plain.vx")))
+    $(($(kibibytes "$server" "$work/full.vx") - $(kibibytes "$server" "$work/plain.vx")))
 done

@@ -1,2 +1,4 @@
+pub mod Cells
 pub mod Colons
+pub mod Counts
 pub mod Parts

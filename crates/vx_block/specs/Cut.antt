@@ -1,4 +1,4 @@
-use Rattle.std.specs.Prelude.{ℕ, List, [], ◌∷◌, ◌==◌, if◌then◌else◌, Option, Some, None}
+use Rattle.std.specs.Prelude.{ℕ, List, [], ◌∷◌, ◌++◌, ◌==◌, if◌then◌else◌, Option, Some, None}
 
 -- the byte that cuts a text
 abbrev pub colon : ℕ
@@ -13,3 +13,13 @@ word_of (b ∷ bs) = if b == colon then [] else b ∷ word_of bs
 abbrev pub tail_of : List ℕ → Option (List ℕ)
 tail_of [] = None
 tail_of (b ∷ bs) = if b == colon then Some bs else tail_of bs
+
+-- words one after another, with a colon between each two
+abbrev pub joined : List ℕ → List (List ℕ) → List ℕ
+joined word [] = word
+joined word (next ∷ words) = word ++ colon ∷ joined next words
+
+-- the same, of a list of words
+abbrev pub all_joined : List (List ℕ) → List ℕ
+all_joined [] = []
+all_joined (word ∷ words) = joined word words

@@ -1,4 +1,4 @@
-ghost use Rattle.std.specs.Prelude.{◌≡◌, IfSome, Some};
+ghost use Rattle.std.specs.Prelude.{◌≡◌, ◌≤◌, length, IfSome, Some};
 ghost use Rattle.vx_block.specs.Kind.{kind_word};
 
 /// What a cell is, whatever its state. Each kind has one word, with which the texts of its cells and parts begin.
@@ -11,12 +11,22 @@ pub enum Kind {
     Glass,
     Obsidian,
     Bedrock,
+    Chest,
+    Dust,
+    Torch,
+    Lever,
+    Repeater,
+    Lamp,
+    Piston,
+    StickyPiston,
+    Head,
 }
 
 impl Kind {
     /// The word of this kind, in lower case.
     pub fn word(self) -> &'static str
-        ensures { result.now ≡ kind_word self }
+        ensures word { result.now ≡ kind_word self }
+        ensures short { length result.now ≤ 8 }
     {
         match self {
             Kind::Air => "air",
@@ -26,6 +36,15 @@ impl Kind {
             Kind::Glass => "glass",
             Kind::Obsidian => "obsidian",
             Kind::Bedrock => "bedrock",
+            Kind::Chest => "chest",
+            Kind::Dust => "dust",
+            Kind::Torch => "torch",
+            Kind::Lever => "lever",
+            Kind::Repeater => "repeater",
+            Kind::Lamp => "lamp",
+            Kind::Piston => "piston",
+            Kind::StickyPiston => "sticky",
+            Kind::Head => "head",
         }
     }
 
@@ -42,6 +61,15 @@ impl Kind {
             "glass" => Some(Kind::Glass),
             "obsidian" => Some(Kind::Obsidian),
             "bedrock" => Some(Kind::Bedrock),
+            "chest" => Some(Kind::Chest),
+            "dust" => Some(Kind::Dust),
+            "torch" => Some(Kind::Torch),
+            "lever" => Some(Kind::Lever),
+            "repeater" => Some(Kind::Repeater),
+            "lamp" => Some(Kind::Lamp),
+            "piston" => Some(Kind::Piston),
+            "sticky" => Some(Kind::StickyPiston),
+            "head" => Some(Kind::Head),
             _ => None,
         }
     }
@@ -61,6 +89,15 @@ mod tests {
             (Kind::Glass, "glass"),
             (Kind::Obsidian, "obsidian"),
             (Kind::Bedrock, "bedrock"),
+            (Kind::Chest, "chest"),
+            (Kind::Dust, "dust"),
+            (Kind::Torch, "torch"),
+            (Kind::Lever, "lever"),
+            (Kind::Repeater, "repeater"),
+            (Kind::Lamp, "lamp"),
+            (Kind::Piston, "piston"),
+            (Kind::StickyPiston, "sticky"),
+            (Kind::Head, "head"),
         ] {
             assert_eq!(rt; kind.word(), word);
             assert_eq!(rt; Kind::read(word), Some(kind), "{word}");

@@ -3,11 +3,25 @@
 
 mod cell;
 mod cut;
+mod delay;
+mod joined;
 mod kind;
+mod lamp;
 mod laws;
+mod level;
+mod mount;
 mod part;
+mod repeater;
+mod side;
+mod words;
 
 pub use cell::Cell;
+pub use delay::Delay;
 pub use kind::Kind;
-pub use laws::one_text_each;
+pub use lamp::Lamp;
+pub use laws::{number_of_cells, one_text_each};
+pub use level::Level;
+pub use mount::Mount;
 pub use part::Part;
+pub use repeater::Repeater;
+pub use side::Side;

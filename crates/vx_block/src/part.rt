@@ -1,12 +1,25 @@
-ghost use Rattle.std.specs.Prelude.{◌≡◌, IfSome, Some};
+ghost use Rattle.std.specs.Prelude.{◌≡◌, ◌∷◌, ◌++◌, codes, IfSome, Some};
+ghost use Rattle.vx_block.specs.Cell.{kind_of};
+ghost use Rattle.vx_block.specs.Cut.{colon, tail_of};
+ghost use Rattle.vx_block.specs.Kind.{kind_word};
 ghost use Rattle.vx_block.specs.Part.{part_cell, part_text, part_of};
+ghost use Rattle.vx_block.specs.States.{side_dir, ticks_of, dir_word, small_word};
 
 use crate::cell::Cell;
 use crate::cut::cut;
+use crate::delay::Delay;
+use crate::joined::{one_word, three_words, two_words};
 use crate::kind::Kind;
+use crate::lamp::Lamp;
+use crate::level::Level;
+use crate::mount::Mount;
+use crate::repeater::Repeater;
+use crate::side::Side;
+use crate::words::{dir_word, read_dir};
 use arrayvec::ArrayString;
+use vx_geom::Dir;
 
-/// What a player can place. Air is no part.
+/// What a player can place. Air, heads and extended pistons are no parts.
 #[derive(Clone, Copy, Debug, PartialEq, Eq, Hash)]
 pub enum Part {
     Stone,
@@ -15,6 +28,17 @@ pub enum Part {
     Glass,
     Obsidian,
     Bedrock,
+    Chest,
+    Dust,
+    /// A torch that faces the block that it is mounted on.
+    Torch(Mount),
+    /// A lever that faces the block that it is mounted on.
+    Lever(Dir),
+    /// A repeater with its front on that side.
+    Repeater(Side, Delay),
+    Lamp,
+    /// A piston that pushes in that direction.
+    Piston { facing: Dir, sticky: bool },
 }
 
 impl Part {
@@ -29,6 +53,19 @@ impl Part {
             Part::Glass => Cell::Glass,
             Part::Obsidian => Cell::Obsidian,
             Part::Bedrock => Cell::Bedrock,
+            Part::Chest => Cell::Chest,
+            Part::Dust => Cell::Dust(Level::new(0)),
+            Part::Torch(facing) => Cell::Torch { facing, lit: true },
+            Part::Lever(facing) => Cell::Lever { facing, on: false },
+            Part::Repeater(facing, delay) => {
+                Cell::Repeater(Repeater::new(facing, delay, false, 0))
+            }
+            Part::Lamp => Cell::Lamp(Lamp::Off),
+            Part::Piston { facing, sticky } => Cell::Piston {
+                facing,
+                sticky,
+                extended: false,
+            },
         }
     }
 
@@ -36,9 +73,25 @@ impl Part {
     pub fn text(self) -> ArrayString<32>
         ensures { result.bytes ≡ part_text self }
     {
-        let mut text = ArrayString::new();
-        text.push_str(self.cell().kind().word());
-        text
+        let part = self;
+        let word = part.cell().kind().word();
+        match self {
+            Part::Stone
+            | Part::Dirt
+            | Part::Planks
+            | Part::Glass
+            | Part::Obsidian
+            | Part::Bedrock
+            | Part::Chest
+            | Part::Dust
+            | Part::Lamp => one_word(word),
+            Part::Torch(facing) => two_words(word, dir_word(facing.dir())),
+            Part::Lever(facing) => two_words(word, dir_word(facing)),
+            Part::Repeater(facing, delay) => {
+                three_words(word, dir_word(facing.dir()), delay.word())
+            }
+            Part::Piston { facing, .. } => two_words(word, dir_word(facing)),
+        }
     }
 
     /// The part that has this text, letter for letter.
@@ -56,24 +109,78 @@ fn parse(text: &str) -> Option<Part>
     ensures found { IfSome result (λ p. part_text p ≡ text.now) }
     ensures only { (p : Part) → part_text p ≡ text.now → result ≡ Some p }
 {
-    let (word, tail) = cut(text);
-    match (Kind::read(word)?, tail) {
-        (Kind::Stone, None) => Some(Part::Stone),
-        (Kind::Dirt, None) => Some(Part::Dirt),
-        (Kind::Planks, None) => Some(Part::Planks),
-        (Kind::Glass, None) => Some(Part::Glass),
-        (Kind::Obsidian, None) => Some(Part::Obsidian),
-        (Kind::Bedrock, None) => Some(Part::Bedrock),
+    let (word, placing) = cut(text);
+    let kind = Kind::read(word)?;
+    match placing {
+        Some(placing) => read_placed(kind, placing),
+        None => read_plain(kind),
+    }
+}
+
+// The part of this kind that is placed in one way only.
+fn read_plain(kind: Kind) -> Option<Part>
+    ensures found { IfSome result (λ p. part_text p ≡ kind_word kind) }
+    ensures only { (p : Part) → part_text p ≡ kind_word kind → result ≡ Some p }
+{
+    match kind {
+        Kind::Stone => Some(Part::Stone),
+        Kind::Dirt => Some(Part::Dirt),
+        Kind::Planks => Some(Part::Planks),
+        Kind::Glass => Some(Part::Glass),
+        Kind::Obsidian => Some(Part::Obsidian),
+        Kind::Bedrock => Some(Part::Bedrock),
+        Kind::Chest => Some(Part::Chest),
+        Kind::Dust => Some(Part::Dust),
+        Kind::Lamp => Some(Part::Lamp),
         _ => None,
     }
+}
+
+// The part of this kind that is placed as this text tells.
+fn read_placed(kind: Kind, placing: &str) -> Option<Part>
+    ensures found { IfSome result (λ p. part_text p ≡ kind_word kind ++ colon ∷ placing.now) }
+    ensures only { (p : Part) → kind_of (part_cell p) ≡ kind → tail_of (part_text p) ≡ Some placing.now → result ≡ Some p }
+{
+    match kind {
+        Kind::Torch => Some(Part::Torch(Mount::read(placing)?)),
+        Kind::Lever => Some(Part::Lever(read_dir(placing)?)),
+        Kind::Repeater => read_repeater(placing),
+        Kind::Piston => Some(Part::Piston {
+            facing: read_dir(placing)?,
+            sticky: false,
+        }),
+        Kind::StickyPiston => Some(Part::Piston {
+            facing: read_dir(placing)?,
+            sticky: true,
+        }),
+        _ => None,
+    }
+}
+
+// The repeater that is placed as this text tells.
+fn read_repeater(placing: &str) -> Option<Part>
+    ensures found { IfSome result (λ p. part_text p ≡ codes "repeater" ++ colon ∷ placing.now) }
+    ensures only { (facing : Side) → (delay : Delay) → dir_word (side_dir facing) ++ colon ∷ small_word (ticks_of delay) ≡ placing.now
+        → result ≡ Some (Part.Repeater facing delay) }
+{
+    let (facing, delay) = cut(placing);
+    Some(Part::Repeater(Side::read(facing)?, Delay::read(delay?)?))
 }
 
 #[cfg(test)]
 mod tests {
     use super::*;
+    use std::process::Abort;
+    use std::test::Fail;
+
+    fn check(rt: &impl Abort, part: Part, cell: Cell, text: &str) {
+        assert_eq!(rt; part.cell(), cell, "{text}");
+        assert_eq!(rt; part.text().as_str(), text);
+        assert_eq!(rt; Part::read(text), Some(part), "{text}");
+    }
 
     #[test]
-    fn each_part_has_its_text(rt: HostRuntime) {
+    fn each_plain_part_has_its_text(rt: HostRuntime) {
         for (part, cell, text) in [
             (Part::Stone, Cell::Stone, "stone"),
             (Part::Dirt, Cell::Dirt, "dirt"),
@@ -81,17 +188,134 @@ mod tests {
             (Part::Glass, Cell::Glass, "glass"),
             (Part::Obsidian, Cell::Obsidian, "obsidian"),
             (Part::Bedrock, Cell::Bedrock, "bedrock"),
+            (Part::Chest, Cell::Chest, "chest"),
+            (Part::Dust, Cell::Dust(Level::new(0)), "dust"),
+            (Part::Lamp, Cell::Lamp(Lamp::Off), "lamp"),
         ] {
-            assert_eq!(rt; part.cell(), cell, "{text}");
-            assert_eq!(rt; part.text().as_str(), text);
-            assert_eq!(rt; Part::read(text), Some(part), "{text}");
+            check(&rt, part, cell, text);
+        }
+    }
+
+    #[test]
+    fn each_placed_part_has_its_text(rt: HostRuntime) {
+        for (facing, text) in [
+            (Mount::Floor, "torch:down"),
+            (Mount::Wall(Side::East), "torch:east"),
+        ] {
+            check(
+                &rt,
+                Part::Torch(facing),
+                Cell::Torch { facing, lit: true },
+                text,
+            );
+        }
+        let lever = Cell::Lever {
+            facing: Dir::Up,
+            on: false,
+        };
+        check(&rt, Part::Lever(Dir::Up), lever, "lever:up");
+        let repeater = Repeater::new(Side::East, Delay::Four, false, 0);
+        let part = Part::Repeater(Side::East, Delay::Four);
+        check(&rt, part, Cell::Repeater(repeater), "repeater:east:4");
+        for (facing, sticky, text) in [
+            (Dir::West, false, "piston:west"),
+            (Dir::Down, true, "sticky:down"),
+        ] {
+            let cell = Cell::Piston {
+                facing,
+                sticky,
+                extended: false,
+            };
+            check(&rt, Part::Piston { facing, sticky }, cell, text);
         }
     }
 
     #[test]
     fn no_other_text_is_read(rt: HostRuntime) {
-        for text in ["air", "", "Stone", "stone ", " stone", "stone:", "stone:on"] {
+        for text in [
+            "air",
+            "",
+            "Stone",
+            "stone ",
+            " stone",
+            "stone:",
+            "stone:on",
+            "dust:0",
+            "torch:up",
+            "torch",
+            "lever",
+            "repeater:east",
+            "repeater:east:5",
+            "repeater:up:1",
+            "repeater:east:04",
+            "lamp:off:0",
+            "piston",
+            "piston:east:in",
+            "head:east:plain",
+            "head",
+            "sticky:east:in",
+            "chest ",
+            "Chest",
+        ] {
             assert_eq!(rt; Part::read(text), None, "{text}");
         }
+    }
+
+    fn plain_parts(parts: &mut Vec<Part>) -> Result<(), Fail> {
+        for part in [
+            Part::Stone,
+            Part::Dirt,
+            Part::Planks,
+            Part::Glass,
+            Part::Obsidian,
+            Part::Bedrock,
+            Part::Chest,
+            Part::Dust,
+            Part::Lamp,
+            Part::Torch(Mount::Floor),
+        ] {
+            parts.push(part)?;
+        }
+        Ok(())
+    }
+
+    fn parts_of_a_side(parts: &mut Vec<Part>, side: Side) -> Result<(), Fail> {
+        parts.push(Part::Torch(Mount::Wall(side)))?;
+        for delay in [Delay::One, Delay::Two, Delay::Three, Delay::Four] {
+            parts.push(Part::Repeater(side, delay))?;
+        }
+        Ok(())
+    }
+
+    fn faced_parts(parts: &mut Vec<Part>, facing: Dir) -> Result<(), Fail> {
+        parts.push(Part::Lever(facing))?;
+        for sticky in [false, true] {
+            parts.push(Part::Piston { facing, sticky })?;
+        }
+        Ok(())
+    }
+
+    #[test]
+    fn each_of_48_parts_is_read_back(rt: HostRuntime) -> Result<(), Fail> {
+        let mut parts = Vec::new(rt.alloc());
+        plain_parts(&mut parts)?;
+        for side in [Side::East, Side::West, Side::South, Side::North] {
+            parts_of_a_side(&mut parts, side)?;
+        }
+        for facing in [
+            Dir::East,
+            Dir::West,
+            Dir::Up,
+            Dir::Down,
+            Dir::South,
+            Dir::North,
+        ] {
+            faced_parts(&mut parts, facing)?;
+        }
+        assert_eq!(rt; parts.len(), 48);
+        for part in &parts {
+            assert_eq!(rt; Part::read(&part.text()), Some(*part));
+        }
+        Ok(())
     }
 }

@@ -1,0 +1,41 @@
+ghost use Rattle.std.specs.Prelude.{◌≡◌, IfSome, Some};
+ghost use Rattle.vx_block.specs.States.{side_dir, dir_word};
+
+use vx_geom::Dir;
+
+/// One of the four horizontal directions.
+#[derive(Clone, Copy, Debug, PartialEq, Eq, Hash)]
+pub enum Side {
+    East,
+    West,
+    South,
+    North,
+}
+
+impl Side {
+    /// The direction of this side.
+    pub fn dir(self) -> Dir
+        ensures { result ≡ side_dir self }
+    {
+        match self {
+            Side::East => Dir::East,
+            Side::West => Dir::West,
+            Side::South => Dir::South,
+            Side::North => Dir::North,
+        }
+    }
+
+    /// The side that has this word, letter for letter.
+    pub(crate) fn read(word: &str) -> Option<Side>
+        ensures found { IfSome result (λ s. dir_word (side_dir s) ≡ word.now) }
+        ensures only { (s : Side) → dir_word (side_dir s) ≡ word.now → result ≡ Some s }
+    {
+        match word {
+            "east" => Some(Side::East),
+            "west" => Some(Side::West),
+            "south" => Some(Side::South),
+            "north" => Some(Side::North),
+            _ => None,
+        }
+    }
+}

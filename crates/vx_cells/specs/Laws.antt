@@ -1,15 +1,14 @@
 use Rattle.std.specs.Prelude.{◌≡◌, ◌≢◌, true}
-use Rattle.vx_block.specs.declared.cell.Cell.{Cell}
 use Rattle.vx_geom.specs.declared.pos.Pos.{Pos}
 use Rattle.vx_geom.specs.Sizes.{AreSizes}
-use Rattle.vx_cells.specs.SectorCells.{SectorCells, IsWhole, holds, cell_at, with_cell}
+use Rattle.vx_cells.specs.SectorCells.{SectorCells, Block, IsWhole, holds, block_at, with_block}
 
--- the cell that was set is the one that is there
-abbrev pub SetCellIsRead : Type 0
-SetCellIsRead = (c : SectorCells) (p : Pos) (cell : Cell) → AreSizes c.bounds → IsWhole c → holds c p ≡ true
-    → cell_at (with_cell c p cell) p ≡ cell
+-- what was put at a position stands there
+abbrev pub SetBlockIsRead : Type 0
+SetBlockIsRead = (c : SectorCells) (p : Pos) (block : Block) → AreSizes c.bounds → IsWhole c → holds c p ≡ true
+    → block_at (with_block c p block) p ≡ block
 
--- a cell that was set changes no other
-abbrev pub OtherCellsStay : Type 0
-OtherCellsStay = (c : SectorCells) (p q : Pos) (cell : Cell) → AreSizes c.bounds → holds c p ≡ true → holds c q ≡ true → q ≢ p
-    → cell_at (with_cell c p cell) q ≡ cell_at c q
+-- it changes what stands at no other, cell and slots
+abbrev pub OtherBlocksStay : Type 0
+OtherBlocksStay = (c : SectorCells) (p q : Pos) (block : Block) → AreSizes c.bounds → holds c p ≡ true → holds c q ≡ true → q ≢ p
+    → block_at (with_block c p block) q ≡ block_at c q

@@ -1,2 +1,5 @@
+pub mod Chests
+pub mod Codes
 pub mod Laws
 pub mod SectorCells
+pub mod Stored

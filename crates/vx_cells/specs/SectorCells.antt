@@ -1,19 +1,50 @@
-use Rattle.std.specs.Prelude.{◌≡◌, ℕ, Bool, false, nat_eq, List, length, replicate, slice_index_or, slice_set}
+use Rattle.std.specs.Prelude.{◌≡◌, ℕ, ◌≤◌, Bool, true, false, nat_eq, List, length, replicate, slice_index_or, slice_set, if◌then◌else◌, Option, Some, None}
+use Rattle.std.specs.List.{All}
 use Rattle.std.specs.Option.{option_map_or}
 use Rattle.vx_block.specs.declared.cell.Cell.{Cell}
-use Rattle.vx_block.specs.declared.cell.Cell.TheVariants.{Air}
+use Rattle.vx_block.specs.declared.cell.Cell.TheVariants.{Air, Chest}
 use Rattle.vx_geom.specs.declared.pos.Pos.{Pos}
 use Rattle.vx_geom.specs.Sizes.{Sizes, sector_of, sector_cells, place_in_sector}
+use Rattle.vx_cells.specs.declared.stack.Stack.{Stack}
 
--- the cells of one sector of a world, in the order of their places
+-- what stands at a place: a cell, and the slots of a chest
+pub record Block : Type 0 where
+  pub cell : Cell
+  pub slots : List (Option Stack)
+
+-- the cell is a chest
+abbrev pub is_chest : Cell → Bool
+is_chest Chest = true
+is_chest _ = false
+
+-- how many slots a cell has: a chest 27, another none
+abbrev pub slot_count : Cell → ℕ
+slot_count cell = if is_chest cell then 27 else 0
+
+-- a cell as it is put down: a chest begins empty
+abbrev pub placed : Cell → Block
+placed cell = record { cell = cell; slots = replicate (slot_count cell) None }
+
+-- a slot is empty, or holds 1 to 64 of an item
+abbrev pub IsSlot : Option Stack → Type 0
+IsSlot None = Unit {0}
+IsSlot (Some stack) = (1 ≤ stack.count) × (stack.count ≤ 64)
+
+-- a chest has its 27 slots, and no other cell has any
+pub record IsBlock (b : Block) : Type 0 where
+  pub slots : length b.slots ≡ slot_count b.cell
+  pub each : All IsSlot b.slots
+
+-- one sector of a world: what stands at each of its places, in their order
 pub record SectorCells : Type 0 where
   pub bounds : Sizes
   pub sector : ℕ
-  pub cells : List Cell
+  pub blocks : List Block
 
--- there is a cell for each place
+-- something stands at each place, and each chest has its slots
 pub record IsWhole (c : SectorCells) : Type 0 where
-  pub whole : length c.cells ≡ sector_cells c.bounds
+  pub whole : length c.blocks ≡ sector_cells c.bounds
+  pub each : All IsBlock c.blocks
 
 -- the position is of this sector
 unfoldable pub holds : SectorCells → Pos → Bool
@@ -21,12 +52,32 @@ holds c p = option_map_or (nat_eq c.sector) (sector_of c.bounds p) false
 
 -- nothing but air
 abbrev pub only_air : Sizes → ℕ → SectorCells
-only_air bounds sector = record { bounds = bounds; sector = sector; cells = replicate (sector_cells bounds) Air }
+only_air bounds sector = record { bounds = bounds; sector = sector; blocks = replicate (sector_cells bounds) (placed Air) }
 
--- the cell at a position of the sector
-unfoldable pub cell_at : SectorCells → Pos → Cell
-cell_at c p = slice_index_or c.cells (place_in_sector c.bounds p) Air
+-- what stands at a position of the sector
+unfoldable pub block_at : SectorCells → Pos → Block
+block_at c p = slice_index_or c.blocks (place_in_sector c.bounds p) (placed Air)
 
--- another cell at one position, and the others as they are
-unfoldable pub with_cell : SectorCells → Pos → Cell → SectorCells
-with_cell c p cell = record c { cells = slice_set c.cells (place_in_sector c.bounds p) cell }
+-- its cell
+abbrev pub cell_at : SectorCells → Pos → Cell
+cell_at c p = (block_at c p).cell
+
+-- its slots, where it is a chest
+abbrev pub chest_at : SectorCells → Pos → Option (List (Option Stack))
+chest_at c p = if is_chest (cell_at c p) then Some (block_at c p).slots else None
+
+-- something else at one position, and all the others as they are
+unfoldable pub with_block : SectorCells → Pos → Block → SectorCells
+with_block c p block = record c { blocks = slice_set c.blocks (place_in_sector c.bounds p) block }
+
+-- a cell put down at one position
+abbrev pub with_cell : SectorCells → Pos → Cell → SectorCells
+with_cell c p cell = with_block c p (placed cell)
+
+-- something else in one slot, and the cell and the other slots as they are
+abbrev pub with_content : Block → ℕ → Option Stack → Block
+with_content b slot content = record b { slots = slice_set b.slots slot content }
+
+-- something else in one slot of the chest at a position
+abbrev pub with_slot : SectorCells → Pos → ℕ → Option Stack → SectorCells
+with_slot c p slot content = with_block c p (with_content (block_at c p) slot content)

@@ -1,11 +1,11 @@
-ghost use Rattle.vx_cells.specs.Laws.{SetCellIsRead, OtherCellsStay};
+ghost use Rattle.vx_cells.specs.Laws.{SetBlockIsRead, OtherBlocksStay};
 
-/// The cell that was set is the one that is there.
-pub fn set_cell_is_read()
-    ensures { SetCellIsRead }
+/// What was put at a position stands there.
+pub fn set_block_is_read()
+    ensures { SetBlockIsRead }
 {}
 
-/// A cell that is set changes no other cell of the sector.
-pub fn other_cells_stay()
-    ensures { OtherCellsStay }
+/// What is put at a position changes no other, neither its cell nor its slots.
+pub fn other_blocks_stay()
+    ensures { OtherBlocksStay }
 {}

@@ -1,8 +1,12 @@
-//! The cells of one sector of the world.
+//! The cells of one sector of the world, and the chests in it.
 #![tactic(auto)]
 
 mod cells;
+mod chests;
+mod code;
 mod laws;
+mod stack;
 
 pub use cells::Cells;
-pub use laws::{other_cells_stay, set_cell_is_read};
+pub use laws::{other_blocks_stay, set_block_is_read};
+pub use stack::{SLOTS, Slot, Stack};

@@ -1,5 +1,0 @@
-use Rattle.vx_cells.proofs.CellLaws.{set_cell_is_read}
-use Rattle.vx_cells.proofs.laws.set_cell_is_read.Goals as goal
-
-pub returns : goal.returns
-returns c = set_cell_is_read

@@ -1,2 +1,5 @@
 pub mod ActingLemmas
+pub mod ChestLemmas
+pub mod ContentsLemmas
 pub mod Outside
+pub mod WindowLemmas

@@ -1,54 +1,68 @@
 -- Which commands are out of the world.
-use Rattle.std.proofs.Common.{◌≡◌, ◌≢◌, Bool, true, false, not, [], ◌∷◌, Err, refl}
-use Rattle.std.proofs.lemmas.Bool.{cases_Bool}
-use Rattle.std.proofs.Common.{inl, inr}
-use Rattle.vx_cells.specs.SectorCells.{holds, cell_at}
-use Rattle.vx_decide.specs.declared.verdict.Verdict.{Verdict}
-use Rattle.vx_decide.specs.declared.verdict.Verdict.TheVariants.{Permit, Deny}
-use Rattle.vx_flag.specs.declared.action.Action.TheVariants.{Placing, Breaking}
+use Rattle.std.proofs.Common.{◌≡◌, ◌≢◌, ◌<◌, Bool, true, false, not, if◌then◌else◌, Result, Err, refl, subst, inl, inr}
+use Rattle.std.proofs.lemmas.Bool.{cases_Bool, leb-false}
+use Rattle.vx_cells.specs.SectorCells.{SectorCells, holds}
+use Rattle.vx_region.specs.Regions.{Regions}
 use Rattle.vx_sector.specs.SectorData.{SectorData, SeatData}
-use Rattle.vx_sector.specs.declared.cmd.Cmd.{Cmd}
-use Rattle.vx_sector.specs.declared.cmd.Cmd.TheVariants.{Look, Place, Break}
-use Rattle.vx_sector.specs.declared.reply.Reply.{Reply}
-use Rattle.vx_sector.specs.declared.refusal.Refusal.TheVariants.{OutOfWorld, HistoryFull, Occupied, Nothing, Unbreakable}
-use Rattle.vx_sector.specs.Acting.{place_of, ok_unless, refuse_if, refuse_denied, first_some, judged, is_full, is_air, is_bedrock, answer_of}
+use Rattle.vx_sector.specs.Commands.{place_of}
+use Rattle.vx_sector.specs.Acting.{acted}
+use Rattle.vx_sector.specs.Windows.{answer_of, is_full, leaves_trace, is_recorded, recorded, sector_after, count_of, most_entries}
 use Rattle.vx_sector.specs.Laws.{OutsideIsRefused}
+use Rattle.vx_sector.specs.declared.cmd.Cmd.{Cmd}
+use Rattle.vx_sector.specs.declared.reply.Reply.{Reply}
+use Rattle.vx_sector.specs.declared.refusal.Refusal.{Refusal}
+use Rattle.vx_sector.specs.declared.refusal.Refusal.TheVariants.{OutOfWorld, HistoryFull}
+use Rattle.vx_sector.proofs.ActingLemmas.{acted_recorded}
 
-look_inside : (full : Bool) (x : Reply) → ok_unless (first_some (refuse_if (not true) OutOfWorld ∷ refuse_if full HistoryFull ∷ [])) x ≢ Err OutOfWorld
-look_inside true x same = cc
-look_inside false x same = cc
-
-place_inside : (full : Bool) (v : Verdict) (taken : Bool) (x : Reply)
-    → ok_unless (first_some (refuse_if (not true) OutOfWorld ∷ refuse_if full HistoryFull ∷ refuse_denied v ∷ refuse_if taken Occupied ∷ [])) x ≢ Err OutOfWorld
-place_inside true v taken x same = cc
-place_inside false (Deny rule) taken x same = cc
-place_inside false (Permit rule) true x same = cc
-place_inside false (Permit rule) false x same = cc
-
-break_inside : (full : Bool) (v : Verdict) (none bedrock : Bool) (x : Reply)
-    → ok_unless (first_some (refuse_if (not true) OutOfWorld ∷ refuse_if full HistoryFull ∷ refuse_denied v ∷ refuse_if none Nothing ∷ refuse_if bedrock Unbreakable ∷ [])) x ≢ Err OutOfWorld
-break_inside true v none bedrock x same = cc
-break_inside false (Deny rule) none bedrock x same = cc
-break_inside false (Permit rule) true bedrock x same = cc
-break_inside false (Permit rule) false true x same = cc
-break_inside false (Permit rule) false false x same = cc
+recorded_inside : (held full : Bool) (answer : Result Reply Refusal) → held ≡ true → is_recorded answer ≡ true
+    → (if not held then Err OutOfWorld else if full then Err HistoryFull else answer) ≢ Err OutOfWorld
+recorded_inside true true answer is_held kept same = cc
+recorded_inside true false answer is_held kept same =
+    let no_trace : false ≡ true = subst (λ a. is_recorded a ≡ true) same kept in cc
+recorded_inside false full answer is_held kept same = cc
 
 -- a position of the sector is not out of the world
 pub inside_is_not_refused : (s : SectorData) (seat : SeatData) (cmd : Cmd) → holds s.cells (place_of cmd) ≡ true → answer_of s seat cmd ≢ Err OutOfWorld
 unfolding answer_of
-inside_is_not_refused s seat (Look p) held same = look_inside (is_full s) _ (rw held at same)
-inside_is_not_refused s seat (Place p part) held same = place_inside (is_full s) (judged s seat Placing p) (not (is_air (cell_at s.cells p))) _ (rw held at same)
-inside_is_not_refused s seat (Break p) held same = break_inside (is_full s) (judged s seat Breaking p) (is_air (cell_at s.cells p)) (is_bedrock (cell_at s.cells p)) _ (rw held at same)
+inside_is_not_refused s seat cmd held same = recorded_inside _ (is_full s) _ held (acted_recorded s.version.policy s.cells seat cmd) same
 
 -- a position elsewhere is
 pub elsewhere_is_refused : (s : SectorData) (seat : SeatData) (cmd : Cmd) → holds s.cells (place_of cmd) ≡ false → answer_of s seat cmd ≡ Err OutOfWorld
 unfolding answer_of
-elsewhere_is_refused s seat (Look p) other = rw other refl
-elsewhere_is_refused s seat (Place p part) other = rw other refl
-elsewhere_is_refused s seat (Break p) other = rw other refl
+elsewhere_is_refused s seat cmd other = rw other refl
 
 pub outside_is_refused : OutsideIsRefused
 outside_is_refused s seat cmd = (not_held, elsewhere_is_refused s seat cmd)
   where
     not_held : answer_of s seat cmd ≡ Err OutOfWorld → holds s.cells (place_of cmd) ≡ false
     not_held same = elim (cases_Bool (holds s.cells (place_of cmd))) [ inl held ↦ absurd (inside_is_not_refused s seat cmd held same) | inr other ↦ other ]
+
+-- where the record is not full, there is room in it
+pub room_where_not_full : (s : SectorData) → is_full s ≡ false → count_of s < most_entries
+unfolding is_full
+room_where_not_full s free = leb-false most_entries (count_of s) free
+
+-- a command at a position of the sector finds no room where the record is full
+pub full_is_refused : (s : SectorData) (seat : SeatData) (cmd : Cmd) → holds s.cells (place_of cmd) ≡ true → is_full s ≡ true → answer_of s seat cmd ≡ Err HistoryFull
+unfolding answer_of
+full_is_refused s seat cmd held full = rw (held, full) refl
+
+-- and is answered by the rules where there is room
+pub answered_by_the_rules : (s : SectorData) (seat : SeatData) (cmd : Cmd) → holds s.cells (place_of cmd) ≡ true → is_full s ≡ false
+    → acted s.version.policy s.cells seat cmd ≡ answer_of s seat cmd
+unfolding answer_of
+answered_by_the_rules s seat cmd held free = rw (held, free) refl
+
+-- the rules answer nothing that leaves no trace
+pub not_answered : (regions : Regions) (c : SectorCells) (seat : SeatData) (cmd : Cmd) (answer : Result Reply Refusal) (refusal : Refusal) → answer ≡ acted regions c seat cmd
+    → leaves_trace refusal ≡ false → answer ≢ Err refusal
+not_answered regions c seat cmd answer refusal acts no_trace same =
+    let kept : is_recorded answer ≡ true = rw acts (acted_recorded regions c seat cmd) in
+    let lost : leaves_trace refusal ≡ true = subst (λ a. is_recorded a ≡ true) same kept in cc
+
+-- so each of its answers is recorded
+pub after_acted : (s : SectorData) (seat : SeatData) (cmd : Cmd) (answer : Result Reply Refusal) → answer ≡ acted s.version.policy s.cells seat cmd
+    → recorded s (record { seat = seat; cmd = cmd; answer = answer }) ≡ sector_after s seat cmd answer
+unfolding sector_after
+after_acted s seat cmd answer acts =
+    let kept : is_recorded answer ≡ true = rw acts (acted_recorded s.version.policy s.cells seat cmd) in rw kept refl

@@ -1,30 +1,31 @@
-use Rattle.std.specs.Prelude.{ℕ, ◌+◌, ◌^◌, nat_le, Bool, true, false, not, if◌then◌else◌, length, List, [], ◌∷◌, ◌++◌, Option, Some, None, Result, Ok, Err}
+use Rattle.std.specs.Prelude.{◌≡◌, ℕ, ◌+◌, ◌<◌, Bool, true, false, not, ◌||◌, nat_lt, nat_eq, if◌then◌else◌, slice_index_or, List, [], ◌∷◌, Option, Some, None, Result, Ok, Err}
+use Rattle.std.specs.List.{list_any}
+use Rattle.std.specs.Option.{option_and_then}
 use Rattle.vx_geom.specs.declared.pos.Pos.{Pos}
 use Rattle.vx_flag.specs.declared.action.Action.{Action}
-use Rattle.vx_flag.specs.declared.action.Action.TheVariants.{Placing, Breaking}
+use Rattle.vx_flag.specs.declared.action.Action.TheVariants.{Placing, Breaking, Turning, Reaching}
 use Rattle.vx_block.specs.declared.cell.Cell.{Cell}
-use Rattle.vx_block.specs.declared.cell.Cell.TheVariants.{Air, Bedrock}
+use Rattle.vx_block.specs.declared.cell.Cell.TheVariants as cell
 use Rattle.vx_block.specs.Part.{part_cell}
-use Rattle.vx_cells.specs.SectorCells.{SectorCells, holds, cell_at, with_cell}
+use Rattle.vx_cells.specs.declared.stack.Stack.{Stack}
+use Rattle.vx_cells.specs.SectorCells.{SectorCells, IsSlot, is_chest, block_at, cell_at, with_cell, with_slot}
+use Rattle.vx_region.specs.Regions.{Regions}
 use Rattle.vx_region.specs.Subjects.{Named}
 use Rattle.vx_decide.specs.declared.rule.Rule.{Rule}
 use Rattle.vx_decide.specs.declared.verdict.Verdict.{Verdict}
 use Rattle.vx_decide.specs.declared.verdict.Verdict.TheVariants.{Permit, Deny}
 use Rattle.vx_decide.specs.Verdict.{verdict}
-use Rattle.vx_policy.specs.declared.version.Version.{Version}
-use Rattle.vx_sector.specs.SectorData.{SectorData, SeatData, EntryData}
+use Rattle.vx_sector.specs.Commands.{place_of, action_of}
+use Rattle.vx_sector.specs.SectorData.{SeatData}
+use Rattle.vx_sector.specs.Slots.{count_in, is_filled, holds_other, with_more, with_fewer}
 use Rattle.vx_sector.specs.declared.cmd.Cmd.{Cmd}
-use Rattle.vx_sector.specs.declared.cmd.Cmd.TheVariants.{Look, Place, Break}
+use Rattle.vx_sector.specs.declared.cmd.Cmd.TheVariants.{Look, Place, Break, Turn, OpenChest, Put, Take}
+use Rattle.vx_sector.specs.declared.effect.Effect.{Effect}
+use Rattle.vx_sector.specs.declared.effect.Effect.TheVariants.{Same, NewCell, NewSlot}
 use Rattle.vx_sector.specs.declared.reply.Reply.{Reply}
-use Rattle.vx_sector.specs.declared.reply.Reply.TheVariants.{Seen, Done}
+use Rattle.vx_sector.specs.declared.reply.Reply.TheVariants.{Seen, Done, Opened}
 use Rattle.vx_sector.specs.declared.refusal.Refusal.{Refusal}
-use Rattle.vx_sector.specs.declared.refusal.Refusal.TheVariants.{OutOfWorld, HistoryFull, Denied, Occupied, Nothing, Unbreakable, NoMemory}
-
--- the position that a command speaks of
-abbrev pub place_of : Cmd → Pos
-place_of (Look p) = p
-place_of (Place p part) = p
-place_of (Break p) = p
+use Rattle.vx_sector.specs.declared.refusal.Refusal.TheVariants.{Denied, Occupied, Nothing, NotLever, NotChest, NotEmpty, Extended, Unbreakable, NoSlot, OtherItem, BadCount}
 
 -- a refusal, where its cause holds
 abbrev pub refuse_if : Bool → Refusal → Option Refusal
@@ -40,62 +41,70 @@ abbrev pub rule_of : Verdict → Rule
 rule_of (Permit rule) = rule
 rule_of (Deny rule) = rule
 
--- how many entries a sector records
-abbrev pub most_entries : ℕ
-most_entries = 2 ^ 40
-
--- how many entries were recorded, in closed windows too
-abbrev pub count_of : SectorData → ℕ
-count_of s = length s.entries + s.closed
-
--- as many entries were recorded as may be
-unfoldable pub is_full : SectorData → Bool
-is_full s = nat_le most_entries (count_of s)
-
 -- what the policy says to the player of the seat on the action at the place
-abbrev pub judged : SectorData → SeatData → Action → Pos → Verdict
-judged s seat action p = verdict s.version.policy (Named seat.name) action p
+abbrev pub judged : Regions → SeatData → Action → Pos → Verdict
+judged regions seat action p = verdict regions (Named seat.name) action p
 
 -- nothing is there
 abbrev pub is_air : Cell → Bool
-is_air Air = true
+is_air cell.Air = true
 is_air _ = false
 
 -- what is there does not break
 abbrev pub is_bedrock : Cell → Bool
-is_bedrock Bedrock = true
+is_bedrock cell.Bedrock = true
 is_bedrock _ = false
 
--- a value, unless something stands against it
-abbrev pub ok_unless : {X : Type 0} → Option Refusal → X → Result X Refusal
-ok_unless (Some refusal) x = Err refusal
-ok_unless None x = Ok x
+-- a piston that is extended, or its head
+abbrev pub is_extended : Cell → Bool
+is_extended (cell.Piston facing sticky extended) = extended
+is_extended (cell.Head facing sticky) = true
+is_extended _ = false
 
--- the rule that permits the player of the seat the action at the place, or the refusal
-unfoldable pub permitted : SectorData → SeatData → Action → Pos → Result Rule Refusal
-permitted s seat action p =
-    if not (holds s.cells p) then Err OutOfWorld
-    else if is_full s then Err HistoryFull
-    else ok_unless (refuse_denied (judged s seat action p)) (rule_of (judged s seat action p))
+-- a lever, on or off
+abbrev pub is_lever : Cell → Bool
+is_lever (cell.Lever facing on) = true
+is_lever _ = false
 
--- what stands against a command, in the order in which it is looked for
-abbrev pub objections : SectorData → SeatData → Cmd → List (Option Refusal)
-objections s seat (Look p) =
-    refuse_if (not (holds s.cells p)) OutOfWorld
-    ∷ refuse_if (is_full s) HistoryFull
+-- a lever switched
+abbrev pub turned : Cell → Cell
+turned (cell.Lever facing on) = cell.Lever facing (not on)
+turned other = other
+
+-- the slots of the chest at a position; none where there is no chest
+abbrev pub slots_at : SectorCells → Pos → List (Option Stack)
+slots_at c p = (block_at c p).slots
+
+-- one slot of the chest at a position
+abbrev pub slot_at : SectorCells → Pos → ℕ → Option Stack
+slot_at c p slot = slice_index_or (slots_at c p) slot None
+
+-- what the policy has against a command: a denial, by its rule
+abbrev pub denial : Regions → SeatData → Cmd → Option Refusal
+denial regions seat cmd = option_and_then (λ action. refuse_denied (judged regions seat action (place_of cmd))) (action_of cmd)
+
+-- what stands in the way of a command that is permitted, in the order in which it is looked for
+abbrev pub hindrances : SectorCells → Cmd → List (Option Refusal)
+hindrances c (Look p) = []
+hindrances c (Place p part) = refuse_if (not (is_air (cell_at c p))) Occupied ∷ []
+hindrances c (Break p) =
+    refuse_if (is_air (cell_at c p)) Nothing
+    ∷ refuse_if (is_extended (cell_at c p)) Extended
+    ∷ refuse_if (is_bedrock (cell_at c p)) Unbreakable
+    ∷ refuse_if (list_any is_filled (slots_at c p)) NotEmpty
     ∷ []
-objections s seat (Place p part) =
-    refuse_if (not (holds s.cells p)) OutOfWorld
-    ∷ refuse_if (is_full s) HistoryFull
-    ∷ refuse_denied (judged s seat Placing p)
-    ∷ refuse_if (not (is_air (cell_at s.cells p))) Occupied
+hindrances c (Turn p) = refuse_if (not (is_lever (cell_at c p))) NotLever ∷ []
+hindrances c (OpenChest p) = refuse_if (not (is_chest (cell_at c p))) NotChest ∷ []
+hindrances c (Put p slot item count) =
+    refuse_if (not (is_chest (cell_at c p))) NotChest
+    ∷ refuse_if (nat_lt 26 slot) NoSlot
+    ∷ refuse_if (holds_other item (slot_at c p slot)) OtherItem
+    ∷ refuse_if (nat_eq count 0 || nat_lt 64 (count_in (slot_at c p slot) + count)) BadCount
     ∷ []
-objections s seat (Break p) =
-    refuse_if (not (holds s.cells p)) OutOfWorld
-    ∷ refuse_if (is_full s) HistoryFull
-    ∷ refuse_denied (judged s seat Breaking p)
-    ∷ refuse_if (is_air (cell_at s.cells p)) Nothing
-    ∷ refuse_if (is_bedrock (cell_at s.cells p)) Unbreakable
+hindrances c (Take p slot count) =
+    refuse_if (not (is_chest (cell_at c p))) NotChest
+    ∷ refuse_if (nat_lt 26 slot) NoSlot
+    ∷ refuse_if (nat_eq count 0 || nat_lt (count_in (slot_at c p slot)) count) BadCount
     ∷ []
 
 -- the first that is there
@@ -104,47 +113,51 @@ first_some [] = None
 first_some (Some x ∷ os) = Some x
 first_some (None ∷ os) = first_some os
 
+-- a value, unless something stands against it
+abbrev pub ok_unless : {X : Type 0} → Option Refusal → X → Result X Refusal
+ok_unless (Some refusal) x = Err refusal
+ok_unless None x = Ok x
+
 -- the answer to a command that nothing stands against
-abbrev pub reply_of : SectorData → SeatData → Cmd → Reply
-reply_of s seat (Look p) = Seen (cell_at s.cells p)
-reply_of s seat (Place p part) = Done (rule_of (judged s seat Placing p))
-reply_of s seat (Break p) = Done (rule_of (judged s seat Breaking p))
+abbrev pub reply_of : Regions → SectorCells → SeatData → Cmd → Reply
+reply_of regions c seat (Look p) = Seen (cell_at c p)
+reply_of regions c seat (Place p part) = Done (rule_of (judged regions seat Placing p))
+reply_of regions c seat (Break p) = Done (rule_of (judged regions seat Breaking p))
+reply_of regions c seat (Turn p) = Done (rule_of (judged regions seat Turning p))
+reply_of regions c seat (OpenChest p) = Opened (rule_of (judged regions seat Reaching p)) (slots_at c p)
+reply_of regions c seat (Put p slot item count) = Done (rule_of (judged regions seat Reaching p))
+reply_of regions c seat (Take p slot count) = Done (rule_of (judged regions seat Reaching p))
 
--- the answer that the rules give
-unfoldable pub answer_of : SectorData → SeatData → Cmd → Result Reply Refusal
-answer_of s seat cmd = ok_unless (first_some (objections s seat cmd)) (reply_of s seat cmd)
+-- what a command does where nothing stands against it
+abbrev pub effect_of : SectorCells → Cmd → Effect
+effect_of c (Look p) = Same
+effect_of c (Place p part) = NewCell (part_cell part)
+effect_of c (Break p) = NewCell cell.Air
+effect_of c (Turn p) = NewCell (turned (cell_at c p))
+effect_of c (OpenChest p) = Same
+effect_of c (Put p slot item count) = NewSlot slot (with_more item count (slot_at c p slot))
+effect_of c (Take p slot count) = NewSlot slot (with_fewer count (slot_at c p slot))
 
--- the cells after a command that was carried out
-abbrev pub cells_after : SectorCells → Cmd → SectorCells
-cells_after c (Look p) = c
-cells_after c (Place p part) = with_cell c p (part_cell part)
-cells_after c (Break p) = with_cell c p Air
+-- what is done fits what stands at the position: a slot is one of a chest there, and may hold what it is to hold
+abbrev pub Fits : SectorCells → Pos → Effect → Type 0
+Fits c p (NewSlot slot content) = (is_chest (cell_at c p) ≡ true) × (slot < 27) × IsSlot content
+Fits c p _ = Unit {0}
 
--- an answer changes the cells where the command was carried out
+-- the answer that the rules give to a command of a seat: a denial first, then what stands in its way
+unfoldable pub acted : Regions → SectorCells → SeatData → Cmd → Result Reply Refusal
+acted regions c seat cmd = ok_unless (first_some (denial regions seat cmd ∷ hindrances c cmd)) (reply_of regions c seat cmd)
+
+-- the cells after something was done at a position
+abbrev pub applied : SectorCells → Pos → Effect → SectorCells
+applied c p Same = c
+applied c p (NewCell new) = with_cell c p new
+applied c p (NewSlot slot content) = with_slot c p slot content
+
+-- an answered command has its effect, a refused one none
+abbrev pub effect_by : SectorCells → Cmd → Result Reply Refusal → Effect
+effect_by c cmd (Ok reply) = effect_of c cmd
+effect_by c cmd (Err refusal) = Same
+
+-- the cells after a command and its answer
 abbrev pub cells_by : SectorCells → Cmd → Result Reply Refusal → SectorCells
-cells_by c cmd (Ok reply) = cells_after c cmd
-cells_by c cmd (Err refusal) = c
-
--- the command with its answer at the end of the record, and what it does done
-abbrev pub recorded : SectorData → EntryData → SectorData
-recorded s entry = record s { cells = cells_by s.cells entry.cmd entry.answer; entries = s.entries ++ entry ∷ [] }
-
--- a refusal leaves no trace where the position is not of the sector, where the record is full, or where memory was wanting
-abbrev pub leaves_trace : Refusal → Bool
-leaves_trace OutOfWorld = false
-leaves_trace HistoryFull = false
-leaves_trace NoMemory = false
-leaves_trace _ = true
-
--- an answer is recorded, but for a refusal that leaves no trace
-abbrev pub is_recorded : Result Reply Refusal → Bool
-is_recorded (Ok reply) = true
-is_recorded (Err refusal) = leaves_trace refusal
-
--- the sector after a command and its answer
-unfoldable pub sector_after : SectorData → SeatData → Cmd → Result Reply Refusal → SectorData
-sector_after s seat cmd answer = if is_recorded answer then recorded s (record { seat = seat; cmd = cmd; answer = answer }) else s
-
--- the sector as its next window begins: judged by another version, with nothing recorded in it yet
-unfoldable pub renewed : SectorData → Version → SectorData
-renewed s version = record s { version = version; entries = []; closed = count_of s }
+cells_by c cmd answer = applied c (place_of cmd) (effect_by c cmd answer)

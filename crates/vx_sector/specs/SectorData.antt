@@ -18,8 +18,15 @@ pub record EntryData : Type 0 where
   pub cmd : Cmd
   pub answer : Result Reply Refusal
 
--- a sector: its cells, the version that judges the commands of its window, their record, and how many were recorded before
+-- what a window begins with: the cells, and the version that judges its commands
+pub record FreshData : Type 0 where
+  pub cells : SectorCells
+  pub version : Version
+
+-- a sector: the cells as its window began and as they are, the version that judges the commands of the window, their record, and how
+-- many were recorded in the windows before
 pub record SectorData : Type 0 where
+  pub base : SectorCells
   pub cells : SectorCells
   pub version : Version
   pub entries : List EntryData

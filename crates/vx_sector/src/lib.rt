@@ -1,17 +1,29 @@
 //! One sector of the world: its cells, the policy that judges its commands, and the record of them.
 #![tactic(auto)]
 
+mod acting;
+mod chests;
 mod cmd;
+mod contents;
+mod effect;
 mod entry;
+mod fresh;
 mod laws;
+mod outcome;
 mod refusal;
 mod reply;
 mod seat;
 mod sector;
+#[cfg(test)]
+mod tests;
 
 pub use cmd::Cmd;
 pub use entry::Entry;
-pub use laws::{one_cell_changes, outside_is_refused, refusal_leaves_cells};
+pub use fresh::Fresh;
+pub use laws::{
+    denied_by_the_policy, one_place_changes, outside_is_refused, refusal_leaves_cells,
+    shown_by_leave,
+};
 pub use refusal::Refusal;
 pub use reply::Reply;
 pub use seat::Seat;

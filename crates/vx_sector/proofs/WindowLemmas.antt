@@ -1,0 +1,46 @@
+-- One more entry at the end of a window.
+use Rattle.std.proofs.Common.{◌≡◌, ◌<◌, true, List, [], ◌∷◌, ◌++◌, length-append, refl, ap, sym, subst, arith, ◌∙◌}
+use Rattle.vx_geom.specs.declared.pos.Pos.{Pos}
+use Rattle.vx_sector.specs.declared.effect.Effect.{Effect}
+use Rattle.vx_cells.specs.SectorCells.{SectorCells, holds}
+use Rattle.vx_region.specs.Regions.{Regions}
+use Rattle.vx_sector.specs.SectorData.{SectorData, EntryData}
+use Rattle.vx_sector.specs.Commands.{place_of}
+use Rattle.vx_sector.specs.Acting.{acted, applied, effect_by, cells_by}
+use Rattle.vx_sector.specs.Windows.{after, IsWindow, IsSector, most_entries, count_of, recorded}
+
+-- the entry has the answer that the rules give on the cells
+abbrev pub IsNext : Regions → SectorCells → EntryData → Type 0
+IsNext regions c entry = (holds c (place_of entry.cmd) ≡ true) × (entry.answer ≡ acted regions c entry.seat entry.cmd)
+
+pub after_push : (c : SectorCells) (entries : List EntryData) (entry : EntryData) → after c (entries ++ entry ∷ []) ≡ cells_by (after c entries) entry.cmd entry.answer
+after_push c [] entry = refl
+after_push c (first ∷ entries) entry = after_push (cells_by c first.cmd first.answer) entries entry
+
+pub window_push : (regions : Regions) (c : SectorCells) (entries : List EntryData) (entry : EntryData)
+    → IsWindow regions c entries → IsNext regions (after c entries) entry → IsWindow regions c (entries ++ entry ∷ [])
+window_push regions c [] entry window next = (next.0, next.1, tt)
+window_push regions c (first ∷ entries) entry window next =
+    (window.0, window.1, window_push regions (cells_by c first.cmd first.answer) entries entry window.2 next)
+
+-- what a command and its answer leave is a sector, if the answer is the one that the rules give and there is room
+pub sector_recorded : (s : SectorData) (entry : EntryData) → IsSector s → IsNext s.version.policy s.cells entry → count_of s < most_entries
+    → IsSector (recorded s entry)
+sector_recorded s entry sector next room = record {
+  window = window_push s.version.policy s.base s.entries entry sector.window (subst (λ c. IsNext s.version.policy c entry) sector.cells next);
+  cells = ap (λ c. cells_by c entry.cmd entry.answer) sector.cells ∙ sym (after_push s.base s.entries entry);
+  most = omega (arith, length-append s.entries (entry ∷ []));
+}
+
+-- the same in the words of the code: n is s with something done at a position, and one more entry
+pub sector_changed : (s t n : SectorData) (entry : EntryData) (p : Pos) (effect : Effect)
+    → s ≡ t → IsSector s → IsNext t.version.policy t.cells entry → count_of t < most_entries → p ≡ place_of entry.cmd → effect ≡ effect_by t.cells entry.cmd entry.answer
+    → n.base ≡ s.base → n.version ≡ s.version → n.closed ≡ s.closed → n.cells ≡ applied s.cells p effect → n.entries ≡ s.entries ++ entry ∷ []
+    → IsSector n
+sector_changed s t n entry p effect same sector next room there does base version closed cells entries =
+    let next_here : IsNext s.version.policy s.cells entry = subst (λ (r : SectorData). IsNext r.version.policy r.cells entry) (sym same) next in
+    let room_here : count_of s < most_entries = subst (λ (r : SectorData). count_of r < most_entries) (sym same) room in
+    let does_here : effect ≡ effect_by s.cells entry.cmd entry.answer = subst (λ (r : SectorData). effect ≡ effect_by r.cells entry.cmd entry.answer) (sym same) does in
+    let cells_here : n.cells ≡ cells_by s.cells entry.cmd entry.answer = rw (← does_here, ← there) cells in
+    let whole : n ≡ recorded s entry = λ i. record { base = base i; cells = cells_here i; version = version i; entries = entries i; closed = closed i } in
+    subst IsSector (sym whole) (sector_recorded s entry sector next_here room_here)

@@ -1,0 +1,137 @@
+//! What the rules answer to a command, and what it does.
+ghost use Rattle.std.specs.Prelude.{◌≡◌, true, IfOk, MatchResult, Ok, Err};
+ghost use Rattle.vx_cells.specs.SectorCells.{IsWhole, holds};
+ghost use Rattle.vx_sector.specs.SectorData.{seat_of};
+ghost use Rattle.vx_sector.specs.Commands.{place_of};
+ghost use Rattle.vx_sector.specs.Acting.{judged, refuse_denied, rule_of, ok_unless, first_some, hindrances, effect_of, effect_by, acted, Fits};
+
+use crate::chests::{is_in_use, opening, putting, taking};
+use crate::cmd::Cmd;
+use crate::effect::Effect;
+use crate::outcome::Outcome;
+use crate::refusal::Refusal;
+use crate::reply::Reply;
+use crate::seat::Seat;
+use vx_block::{Cell, Part};
+use vx_cells::Cells;
+use vx_decide::{Decide, Plain, Rule, Verdict};
+use vx_flag::Action;
+use vx_geom::Pos;
+use vx_region::{RegionSet, Subject};
+
+/// The answer of the rules to a command at a position of the sector, and what the command does.
+pub fn acted(regions: &RegionSet, cells: &Cells, seat: &Seat, cmd: &Cmd) -> Outcome
+    requires held { holds cells.now (place_of cmd.now) ≡ true }
+    requires whole { IsWhole cells.now }
+    ensures answer { result.answer ≡ acted regions.now cells.now (seat_of seat.now) cmd.now }
+    ensures effect { result.effect ≡ effect_by cells.now cmd.now result.answer }
+    ensures fits { Fits cells.now (place_of cmd.now) result.effect }
+{
+    match carried_out(regions, cells, seat, cmd) {
+        Ok((reply, effect)) => Outcome {
+            answer: Ok(reply),
+            effect,
+        },
+        Err(refusal) => Outcome {
+            answer: Err(refusal),
+            effect: Effect::Same,
+        },
+    }
+}
+
+// The reply to a command that nothing stands against, and what the command does.
+#[tactic(auto, unfolding(crate::specs::Acting::acted))]
+fn carried_out(
+    regions: &RegionSet,
+    cells: &Cells,
+    seat: &Seat,
+    cmd: &Cmd,
+) -> Result<(Reply, Effect), Refusal>
+    requires held { holds cells.now (place_of cmd.now) ≡ true }
+    requires whole { IsWhole cells.now }
+    ensures answer { MatchResult result
+        (λ done. acted regions.now cells.now (seat_of seat.now) cmd.now ≡ Ok done.0)
+        (λ refusal. acted regions.now cells.now (seat_of seat.now) cmd.now ≡ Err refusal) }
+    ensures effect { IfOk result (λ done. done.1 ≡ effect_of cells.now cmd.now) }
+    ensures fits { IfOk result (λ done. Fits cells.now (place_of cmd.now) done.1) }
+{
+    let p = cmd.place();
+    let Some(action) = cmd.action() else {
+        return Ok((Reply::Seen(cells.get(p)), Effect::Same));
+    };
+    let rule = permitted(regions, seat, action, p)?;
+    if matches!(cmd, Cmd::OpenChest(_)) {
+        let slots = opening(cells, p)?;
+        return Ok((Reply::Opened(rule, slots), Effect::Same));
+    }
+    let effect = effect(cells, cmd)?;
+    Ok((Reply::Done(rule), effect))
+}
+
+// The rule that permits the player of the seat the action at the place.
+fn permitted(regions: &RegionSet, seat: &Seat, action: Action, p: Pos) -> Result<Rule, Refusal>
+    ensures { result ≡ ok_unless (refuse_denied (judged regions.now (seat_of seat.now) action p)) (rule_of (judged regions.now (seat_of seat.now) action p)) }
+{
+    match Plain::new(regions).decide(&Subject::Player(seat.name), action, p) {
+        Verdict::Permit(rule) => Ok(rule),
+        Verdict::Deny(rule) => Err(Refusal::Denied(rule)),
+    }
+}
+
+// What a permitted command does, or what stands in its way.
+fn effect(cells: &Cells, cmd: &Cmd) -> Result<Effect, Refusal>
+    requires held { holds cells.now (place_of cmd.now) ≡ true }
+    requires whole { IsWhole cells.now }
+    ensures effect { result ≡ ok_unless (first_some (hindrances cells.now cmd.now)) (effect_of cells.now cmd.now) }
+    ensures fits { IfOk result (λ effect. Fits cells.now (place_of cmd.now) effect) }
+{
+    match cmd {
+        Cmd::Look(_) => Ok(Effect::Same),
+        Cmd::Place(p, part) => placing(cells, *p, *part),
+        Cmd::Break(p) => breaking(cells, *p),
+        Cmd::Turn(p) => turning(cells, *p),
+        Cmd::OpenChest(p) => {
+            opening(cells, *p)?;
+            Ok(Effect::Same)
+        }
+        Cmd::Put(p, slot, item, count) => putting(cells, *p, *slot, *item, *count),
+        Cmd::Take(p, slot, count) => taking(cells, *p, *slot, *count),
+    }
+}
+
+// A part put where there is air.
+fn placing(cells: &Cells, p: Pos, part: Part) -> Result<Effect, Refusal>
+    requires { holds cells.now p ≡ true }
+    ensures { result ≡ ok_unless (first_some (hindrances cells.now (Cmd.Place p part))) (effect_of cells.now (Cmd.Place p part)) }
+{
+    let Cell::Air = cells.get(p) else {
+        return Err(Refusal::Occupied);
+    };
+    Ok(Effect::NewCell(part.cell()))
+}
+
+// Air left where there is a part.
+fn breaking(cells: &Cells, p: Pos) -> Result<Effect, Refusal>
+    requires held { holds cells.now p ≡ true }
+    requires whole { IsWhole cells.now }
+    ensures { result ≡ ok_unless (first_some (hindrances cells.now (Cmd.Break p))) (effect_of cells.now (Cmd.Break p)) }
+{
+    match cells.get(p) {
+        Cell::Air => Err(Refusal::Nothing),
+        Cell::Piston { extended: true, .. } | Cell::Head { .. } => Err(Refusal::Extended),
+        Cell::Bedrock => Err(Refusal::Unbreakable),
+        _ if is_in_use(cells, p) => Err(Refusal::NotEmpty),
+        _ => Ok(Effect::NewCell(Cell::Air)),
+    }
+}
+
+// A lever switched.
+fn turning(cells: &Cells, p: Pos) -> Result<Effect, Refusal>
+    requires { holds cells.now p ≡ true }
+    ensures { result ≡ ok_unless (first_some (hindrances cells.now (Cmd.Turn p))) (effect_of cells.now (Cmd.Turn p)) }
+{
+    let Cell::Lever { facing, on } = cells.get(p) else {
+        return Err(Refusal::NotLever);
+    };
+    Ok(Effect::NewCell(Cell::Lever { facing, on: !on }))
+}

@@ -1,0 +1,119 @@
+//! What is shown of a chest, put into it and taken out of it.
+ghost use Rattle.std.specs.Prelude.{◌≡◌, ◌<◌, true, not, nat_lt, [], ◌∷◌, IfOk, MatchResult, Some};
+ghost use Rattle.std.specs.List.{All, list_any};
+ghost use Rattle.vx_cells.specs.SectorCells.{IsWhole, IsSlot, is_chest, holds, cell_at};
+ghost use Rattle.vx_sector.specs.Slots.{count_in, is_filled, holds_other};
+ghost use Rattle.vx_sector.specs.Acting.{refuse_if, ok_unless, first_some, hindrances, effect_of, Fits, slots_at, slot_at};
+
+use crate::cmd::Cmd;
+use crate::effect::Effect;
+use crate::refusal::Refusal;
+use vx_cells::{Cells, SLOTS, Slot, Stack};
+use vx_geom::Pos;
+
+/// How many items a slot takes.
+const STACK: u8 = 64;
+
+/// The slots of the chest to be opened.
+pub fn opening(cells: &Cells, p: Pos) -> Result<[Slot; SLOTS], Refusal>
+    requires { holds cells.now p ≡ true }
+    ensures slots { result ≡ ok_unless (first_some (hindrances cells.now (Cmd.OpenChest p))) (slots_at cells.now p) }
+    ensures each { IfOk result (All IsSlot) }
+{
+    cells.chest(p).ok_or(Refusal::NotChest)
+}
+
+/// So many of an item put into a slot of a chest.
+pub fn putting(cells: &Cells, p: Pos, slot: u8, item: u16, count: u8) -> Result<Effect, Refusal>
+    requires { holds cells.now p ≡ true }
+    ensures effect { result ≡ ok_unless (first_some (hindrances cells.now (Cmd.Put p slot item count))) (effect_of cells.now (Cmd.Put p slot item count)) }
+    ensures fits { IfOk result (λ effect. Fits cells.now p effect) }
+{
+    let content = content_of(cells, p, slot)?;
+    if holds_other(item, content) {
+        return Err(Refusal::OtherItem);
+    }
+    let held = count_in(content);
+    if count == 0 || count > STACK - held {
+        return Err(Refusal::BadCount);
+    }
+    let count = held + count;
+    Ok(Effect::NewSlot(slot, Some(Stack { item, count })))
+}
+
+/// So many taken out of a slot of a chest. One from which all are taken is empty.
+pub fn taking(cells: &Cells, p: Pos, slot: u8, count: u8) -> Result<Effect, Refusal>
+    requires { holds cells.now p ≡ true }
+    ensures effect { result ≡ ok_unless (first_some (hindrances cells.now (Cmd.Take p slot count))) (effect_of cells.now (Cmd.Take p slot count)) }
+    ensures fits { IfOk result (λ effect. Fits cells.now p effect) }
+{
+    let content = content_of(cells, p, slot)?;
+    if count == 0 {
+        return Err(Refusal::BadCount);
+    }
+    let Some(stack) = content else {
+        return Err(Refusal::BadCount);
+    };
+    if count > stack.count {
+        return Err(Refusal::BadCount);
+    }
+    if count == stack.count {
+        return Ok(Effect::NewSlot(slot, None));
+    }
+    let count = stack.count - count;
+    Ok(Effect::NewSlot(slot, Some(Stack { count, ..stack })))
+}
+
+/// Whether a chest is there that holds something.
+pub fn is_in_use(cells: &Cells, p: Pos) -> bool
+    requires held { holds cells.now p ≡ true }
+    requires whole { IsWhole cells.now }
+    ensures { result ≡ list_any is_filled (slots_at cells.now p) }
+{
+    match cells.chest(p) {
+        Some(slots) => any_filled(&slots),
+        None => false,
+    }
+}
+
+/// Whether any of the slots holds something.
+pub fn any_filled(slots: &[Slot]) -> bool
+    ensures { result ≡ list_any is_filled slots.now }
+{
+    slots.iter().any(|slot| slot.is_some())
+}
+
+// What is in a slot of the chest at a position.
+fn content_of(cells: &Cells, p: Pos, slot: u8) -> Result<Slot, Refusal>
+    requires { holds cells.now p ≡ true }
+    ensures { MatchResult result
+        (λ content. (is_chest (cell_at cells.now p) ≡ true) × (slot < 27) × (content ≡ slot_at cells.now p slot) × IsSlot content)
+        (λ refusal. first_some (refuse_if (not (is_chest (cell_at cells.now p))) Refusal.NotChest ∷ refuse_if (nat_lt 26 slot) Refusal.NoSlot ∷ []) ≡ Some refusal) }
+{
+    let slots = opening(cells, p)?;
+    let index = usize::from(slot);
+    if index >= SLOTS {
+        return Err(Refusal::NoSlot);
+    }
+    Ok(slots[index])
+}
+
+// How many items a slot holds.
+fn count_in(content: Slot) -> u8
+    ensures { result ≡ count_in content }
+{
+    match content {
+        Some(stack) => stack.count,
+        None => 0,
+    }
+}
+
+// Whether a slot holds another item than this one.
+fn holds_other(item: u16, content: Slot) -> bool
+    ensures { result ≡ holds_other item content }
+{
+    match content {
+        Some(stack) => stack.item != item,
+        None => false,
+    }
+}

@@ -9,14 +9,17 @@ use Rattle.vx_block.specs.Part.{part_cell}
 use Rattle.vx_geom.specs.declared.pos.Pos.{Pos}
 use Rattle.vx_geom.specs.Sizes.{Sizes, AreSizes, sector_count, sector_of, is_inside}
 use Rattle.vx_geom.proofs.SectorLemmas.{held_at, in_sector}
-use Rattle.vx_cells.specs.SectorCells.{SectorCells, holds, with_cell}
+use Rattle.vx_cells.specs.SectorCells.{SectorCells, holds, with_block, with_cell}
 use Rattle.vx_policy.specs.declared.version.Version.{Version}
 use Rattle.vx_region.specs.Regions.{Regions}
 use Rattle.vx_region.specs.Words.{is_amid}
-use Rattle.vx_sector.specs.Acting.{place_of, answer_of, cells_by, is_recorded, sector_after, renewed}
+use Rattle.vx_sector.specs.Acting.{applied, effect_by}
+use Rattle.vx_sector.specs.Commands.{place_of}
+use Rattle.vx_sector.specs.Windows.{answer_of, is_recorded, sector_after, renewed}
 use Rattle.vx_sector.specs.SectorData.{SectorData, SeatData}
 use Rattle.vx_sector.specs.declared.cmd.Cmd.{Cmd}
-use Rattle.vx_sector.specs.declared.cmd.Cmd.TheVariants.{Look, Place, Break}
+use Rattle.vx_sector.specs.declared.effect.Effect.{Effect}
+use Rattle.vx_sector.specs.declared.effect.Effect.TheVariants.{Same, NewCell, NewSlot}
 use Rattle.vx_sector.specs.declared.reply.Reply.{Reply}
 use Rattle.vx_sector.specs.declared.refusal.Refusal.{Refusal}
 use Rattle.vx_sector.specs.declared.refusal.Refusal.TheVariants.{OutOfWorld}
@@ -24,7 +27,7 @@ use Rattle.vx_sector.proofs.Outside.{inside_is_not_refused}
 use Rattle.vx_script.specs.declared.fault.Fault.TheVariants.{TooManyPlayers}
 use Rattle.vx_script.specs.Grounds.{airs}
 use Rattle.vx_script.specs.ScriptLines.{Nothing, World, Player, Set, Act, Region, Tick}
-use Rattle.vx_script.specs.Transcript.{Opening, Play, is_named, with_size, set_in, with_part, sector_at, header_after, begun, begun_with, opened, opened_with, most_players, sector_asked, acted, acted_at, answer_in, acted_in, next_version}
+use Rattle.vx_script.specs.Transcript.{Opening, Play, is_named, with_size, set_in, with_part, sector_at, header_after, begun, begun_with, opened, opened_with, most_players, sector_asked, acted, acted_at, answer_in, acted_in, renewed_by, next_version}
 use Rattle.vx_script.specs.Worlds.{AreSectors, IsGround, IsWorld, SizesAreSound, HeadersKeepGround, WorldsBeginWhole, CommandsKeepWorlds, TicksKeepWorlds, OutOfWorldIsOutside}
 use Rattle.vx_script.proofs.Placed.{placed_at, placed_again, airs_count, airs_placed, holds_found, found_within}
 
@@ -60,7 +63,7 @@ sizes_are_sound sx sz s v said = by (is_amid 1 sx 8) (is_amid 1 sz 8) (is_amid 1
 -- a cell that is set keeps the sectors in their places
 module _ (o next : Opening) (p : Pos) (part : Part) (sizes : Sizes) (ground : AreSectors sizes o.sectors) (said : o.sizes ≡ Some sizes) where
   set_whole : (k : ℕ) (c : Option SectorCells) → slice_get o.sectors k ≡ c → set_in o p part k c ≡ Some next → IsGround next
-  unfolding with_cell
+  unfolding with_block
   set_whole k None found made = cc
   set_whole k (Some c) found made = by (holds c p) made
     where
@@ -120,27 +123,25 @@ headers_keep_ground (Region e) o next sizes ground made = cc
 headers_keep_ground Tick o next sizes ground made = cc
 
 -- a command keeps the bounds and the number of its sector
-same_bounds : (c : SectorCells) (cmd : Cmd) (answer : Result Reply Refusal) → (cells_by c cmd answer).bounds ≡ c.bounds
-unfolding with_cell
-same_bounds c (Look p) (Ok reply) = refl
-same_bounds c (Place p part) (Ok reply) = refl
-same_bounds c (Break p) (Ok reply) = refl
-same_bounds c cmd (Err refusal) = refl
+same_bounds : (c : SectorCells) (p : Pos) (effect : Effect) → (applied c p effect).bounds ≡ c.bounds
+unfolding with_block
+same_bounds c p Same = refl
+same_bounds c p (NewCell cell) = refl
+same_bounds c p (NewSlot slot content) = refl
 
-same_number : (c : SectorCells) (cmd : Cmd) (answer : Result Reply Refusal) → (cells_by c cmd answer).sector ≡ c.sector
-unfolding with_cell
-same_number c (Look p) (Ok reply) = refl
-same_number c (Place p part) (Ok reply) = refl
-same_number c (Break p) (Ok reply) = refl
-same_number c cmd (Err refusal) = refl
+same_number : (c : SectorCells) (p : Pos) (effect : Effect) → (applied c p effect).sector ≡ c.sector
+unfolding with_block
+same_number c p Same = refl
+same_number c p (NewCell cell) = refl
+same_number c p (NewSlot slot content) = refl
 
 after_bounds : (s : SectorData) (seat : SeatData) (cmd : Cmd) (answer : Result Reply Refusal) → (sector_after s seat cmd answer).cells.bounds ≡ s.cells.bounds
 unfolding sector_after
-after_bounds s seat cmd answer = elim (cases_Bool (is_recorded answer)) [ inl traced ↦ rw traced (same_bounds s.cells cmd answer) | inr none ↦ rw none refl ]
+after_bounds s seat cmd answer = elim (cases_Bool (is_recorded answer)) [ inl traced ↦ rw traced (same_bounds s.cells (place_of cmd) (effect_by s.cells cmd answer)) | inr none ↦ rw none refl ]
 
 after_number : (s : SectorData) (seat : SeatData) (cmd : Cmd) (answer : Result Reply Refusal) → (sector_after s seat cmd answer).cells.sector ≡ s.cells.sector
 unfolding sector_after
-after_number s seat cmd answer = elim (cases_Bool (is_recorded answer)) [ inl traced ↦ rw traced (same_number s.cells cmd answer) | inr none ↦ rw none refl ]
+after_number s seat cmd answer = elim (cases_Bool (is_recorded answer)) [ inl traced ↦ rw traced (same_number s.cells (place_of cmd) (effect_by s.cells cmd answer)) | inr none ↦ rw none refl ]
 
 pub commands_keep_worlds : CommandsKeepWorlds
 unfolding acted
@@ -157,7 +158,7 @@ commands_keep_worlds play seat cmd whole = by (sector_asked play cmd)
     by None = whole
     by (Some k) = in_sector_of k (slice_get play.sectors k) refl
 
-cells_renewed : (v : Version) (ss : List SectorData) → map cells_of (map (λ s. renewed s v) ss) ≡ map cells_of ss
+cells_renewed : (v : Version) (ss : List SectorData) → map cells_of (map (renewed_by v) ss) ≡ map cells_of ss
 unfolding renewed
 cells_renewed v [] = refl
 cells_renewed v (s ∷ ss) = ap (λ cs. s.cells ∷ cs) (cells_renewed v ss)

@@ -26,3 +26,7 @@ natural_within high (negsuc n) = None
 -- a number of 8 bits without a sign
 unfoldable pub u8_of : List ℕ → Option ℕ
 u8_of text = option_and_then (natural_within 255) (number_of text)
+
+-- a number of 16 bits without a sign
+unfoldable pub u16_of : List ℕ → Option ℕ
+u16_of text = option_and_then (natural_within 65535) (number_of text)

@@ -3,7 +3,7 @@ use Rattle.vx_block.specs.declared.part.Part.{Part}
 use Rattle.vx_block.specs.Part.{part_of}
 use Rattle.vx_geom.specs.declared.pos.Pos.{Pos}
 use Rattle.vx_region.specs.Words.{read_name}
-use Rattle.vx_script.specs.Numbers.{i32_of, u8_of}
+use Rattle.vx_script.specs.Numbers.{i32_of, u8_of, u16_of}
 
 -- words that are left to read
 abbrev pub Rest : Type 0
@@ -35,6 +35,13 @@ unfoldable pub byte_at : Rest → Option (ℕ × Rest)
 byte_at words = do
   word ← next_of words
   n ← u8_of word.0
+  Some (n, word.1)
+
+-- the number of an item, of 16 bits
+unfoldable pub item_at : Rest → Option (ℕ × Rest)
+item_at words = do
+  word ← next_of words
+  n ← u16_of word.0
   Some (n, word.1)
 
 -- a number of 32 bits

@@ -6,10 +6,10 @@ use Rattle.vx_geom.specs.Sizes.{Sizes}
 use Rattle.vx_region.specs.Words.{is_amid}
 use Rattle.vx_policy.specs.Asked.{Asked, asked}
 use Rattle.vx_sector.specs.declared.cmd.Cmd.{Cmd}
-use Rattle.vx_sector.specs.declared.cmd.Cmd.TheVariants.{Look, Place, Break}
+use Rattle.vx_sector.specs.declared.cmd.Cmd.TheVariants.{Look, Place, Break, Turn, OpenChest, Put, Take}
 use Rattle.vx_script.specs.EditLines.{edit_of}
 use Rattle.vx_script.specs.Words.{words_of}
-use Rattle.vx_script.specs.Readings.{Rest, ◌>>=◌, next_of, at_end, byte_at, position_at, part_at, name_at}
+use Rattle.vx_script.specs.Readings.{Rest, ◌>>=◌, next_of, at_end, byte_at, item_at, position_at, part_at, name_at}
 use Rattle.vx_script.specs.declared.line.Line.{Line}
 use Rattle.vx_script.specs.declared.line.Line.TheVariants as line
 
@@ -52,12 +52,18 @@ player_line words = do
   name ← name_at words
   at_end name.1 (Player name.0)
 
+-- `X Y Z PART`
+unfoldable pub placed_part : Rest → Option (Pos × Part)
+placed_part words = do
+  p ← position_at words
+  part ← part_at p.1
+  at_end part.1 (p.0, part.0)
+
 -- `set X Y Z PART`
 unfoldable pub set_line : Rest → Option Said
 set_line words = do
-  p ← position_at words
-  part ← part_at p.1
-  at_end part.1 (Set p.0 part.0)
+  placed ← placed_part words
+  Some (Set placed.0 placed.1)
 
 -- `look X Y Z`
 unfoldable pub look_of : Rest → Option Cmd
@@ -68,9 +74,8 @@ look_of words = do
 -- `place X Y Z PART`
 unfoldable pub place_of : Rest → Option Cmd
 place_of words = do
-  p ← position_at words
-  part ← part_at p.1
-  at_end part.1 (Place p.0 part.0)
+  placed ← placed_part words
+  Some (Place placed.0 placed.1)
 
 -- `break X Y Z`
 unfoldable pub break_of : Rest → Option Cmd
@@ -78,12 +83,45 @@ break_of words = do
   p ← position_at words
   at_end p.1 (Break p.0)
 
+-- `turn X Y Z`
+unfoldable pub turn_of : Rest → Option Cmd
+turn_of words = do
+  p ← position_at words
+  at_end p.1 (Turn p.0)
+
+-- `open X Y Z`
+unfoldable pub open_of : Rest → Option Cmd
+open_of words = do
+  p ← position_at words
+  at_end p.1 (OpenChest p.0)
+
+-- `put X Y Z SLOT ITEM COUNT`
+unfoldable pub put_of : Rest → Option Cmd
+put_of words = do
+  p ← position_at words
+  slot ← byte_at p.1
+  item ← item_at slot.1
+  count ← byte_at item.1
+  at_end count.1 (Put p.0 slot.0 item.0 count.0)
+
+-- `take X Y Z SLOT COUNT`
+unfoldable pub take_of : Rest → Option Cmd
+take_of words = do
+  p ← position_at words
+  slot ← byte_at p.1
+  count ← byte_at slot.1
+  at_end count.1 (Take p.0 slot.0 count.0)
+
 -- a command by its first word
 unfoldable pub command_of : List ℕ → Rest → Option Cmd
 command_of verb words =
     if bytes_eq verb (codes "look") then look_of words
     else if bytes_eq verb (codes "place") then place_of words
     else if bytes_eq verb (codes "break") then break_of words
+    else if bytes_eq verb (codes "turn") then turn_of words
+    else if bytes_eq verb (codes "open") then open_of words
+    else if bytes_eq verb (codes "put") then put_of words
+    else if bytes_eq verb (codes "take") then take_of words
     else None
 
 -- `as NAME` and a command

@@ -15,8 +15,9 @@ use Rattle.vx_policy.specs.declared.edit_refusal.EditRefusal.{EditRefusal}
 use Rattle.vx_policy.specs.declared.version.Version.{Version}
 use Rattle.vx_board.specs.Accepted.{most_edits}
 use Rattle.vx_board.specs.Texts.{edit_text}
-use Rattle.vx_sector.specs.SectorData.{SectorData, SeatData}
-use Rattle.vx_sector.specs.Acting.{place_of, answer_of, sector_after, count_of, renewed}
+use Rattle.vx_sector.specs.SectorData.{SectorData, SeatData, FreshData}
+use Rattle.vx_sector.specs.Commands.{place_of}
+use Rattle.vx_sector.specs.Windows.{answer_of, sector_after, count_of, first_window, renewed}
 use Rattle.vx_sector.specs.Texts.{reply_text, refusal_text}
 use Rattle.vx_sector.specs.declared.cmd.Cmd.{Cmd}
 use Rattle.vx_sector.specs.declared.reply.Reply.{Reply}
@@ -105,13 +106,17 @@ header_after o (Act name cmd) = None
 header_after o (Region e) = None
 header_after o Tick = None
 
--- a sector with these cells in its first window
-abbrev pub first_window : Version → SectorCells → SectorData
-first_window version cells = record { cells = cells; version = version; entries = []; closed = 0 }
+-- what a window over these cells begins with, judged by this version
+abbrev pub window_over : Version → SectorCells → FreshData
+window_over version cells = record { cells = cells; version = version }
+
+-- a sector with these cells in its first window, judged by this version
+abbrev pub opened_by : Version → SectorCells → SectorData
+opened_by version cells = first_window (window_over version cells)
 
 -- the same, judged by the policy of the opening
 abbrev pub opened_with : Regions → SectorCells → SectorData
-opened_with rs = first_window (record { tick = 1; edits = 0; policy = rs })
+opened_with rs = opened_by (record { tick = 1; edits = 0; policy = rs })
 
 -- the world of an opening
 abbrev pub opened : Regions → Opening → Sizes → Play
@@ -209,9 +214,13 @@ edit_turn play e go = if nat_le most_edits (length play.accepted) then Err Histo
 abbrev pub next_version : Play → Version
 next_version play = record { tick = play.ticks + 2; edits = length play.accepted; policy = policy_of play }
 
+-- a sector as it begins its next window over its cells, judged by this version
+abbrev pub renewed_by : Version → SectorData → SectorData
+renewed_by version s = renewed s (window_over version s.cells)
+
 -- the play after a tick: each sector begins a window by the next version
 abbrev pub ticked : Play → Play
-ticked play = record play { sectors = map (λ s. renewed s (next_version play)) play.sectors; ticks = play.ticks + 1 }
+ticked play = record play { sectors = map (renewed_by (next_version play)) play.sectors; ticks = play.ticks + 1 }
 
 unfoldable pub tick_turn : Play → (Play → Result (List ℕ) Fault) → Result (List ℕ) Fault
 tick_turn play go = if nat_le most_ticks play.ticks then Err HistoryFull else prepend (line_text (codes "tick " ++ decimal (play.ticks + 1))) (go (ticked play))

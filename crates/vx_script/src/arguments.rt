@@ -1,7 +1,7 @@
 ghost use Rattle.std.specs.Prelude.{◌≡◌, option_map};
-ghost use Rattle.vx_script.specs.Readings.{Reads, at_end, byte_at, coordinate_at, position_at, part_at, name_at};
+ghost use Rattle.vx_script.specs.Readings.{Reads, at_end, byte_at, item_at, coordinate_at, position_at, part_at, name_at};
 
-use crate::number::{read_i32, read_u8};
+use crate::number::{read_i32, read_u8, read_u16};
 use crate::words::Words;
 use vx_block::Part;
 use vx_geom::Pos;
@@ -13,6 +13,14 @@ pub fn byte(words: &mut Words) -> Option<u8>
     ensures { Reads result words.new (byte_at words.old) }
 {
     read_u8(words.next()?)
+}
+
+/// Reads the number of an item, from 0 to 65535.
+#[tactic(auto, unfolding(crate::specs::Readings::item_at))]
+pub fn item(words: &mut Words) -> Option<u16>
+    ensures { Reads result words.new (item_at words.old) }
+{
+    read_u16(words.next()?)
 }
 
 /// Reads a position: x, y and z.

@@ -116,7 +116,7 @@ impl Header {
             Line::Skipped => Ok(true),
             Line::World(bounds) => self.take_size(alloc, *bounds),
             Line::Player(name) => self.take_player(name),
-            Line::Set(p, part) => Ok(self.take_part(*p, *part)),
+            Line::Set(p, part) => self.take_part(*p, *part),
             Line::As(_, _) | Line::Region(_) | Line::Tick => Ok(false),
         }
     }
@@ -188,24 +188,25 @@ impl Header {
     }
 
     #[tactic(auto, unfolding(crate::specs::Transcript::with_part, crate::specs::Transcript::sector_at))]
-    fn take_part(&mut self, p: Pos, part: Part) -> bool
-        ensures taken { result ≡ true → with_part self.old p part ≡ Some self.new }
-        ensures refused { result ≡ false → with_part self.old p part ≡ None }
+    fn take_part(&mut self, p: Pos, part: Part) -> Result<bool, Fault>
+        ensures taken { result ≡ Ok true → with_part self.old p part ≡ Some self.new }
+        ensures refused { result ≡ Ok false → with_part self.old p part ≡ None }
+        ensures err { IfErr result (λ fault. fault ≡ Fault.NoMemory) }
     {
         let Some(bounds) = self.bounds else {
-            return false;
+            return Ok(false);
         };
         let Some(number) = bounds.sector_of(p) else {
-            return false;
+            return Ok(false);
         };
         let Some(cells) = self.sectors.get_mut(number as usize) else {
-            return false;
+            return Ok(false);
         };
         if !cells.holds(p) {
-            return false;
+            return Ok(false);
         }
-        cells.set(p, part.cell());
-        true
+        cells.set(p, part.cell()).map_err(|_| Fault::NoMemory)?;
+        Ok(true)
     }
 }
 

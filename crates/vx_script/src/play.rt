@@ -1,6 +1,5 @@
 ghost use Rattle.std.specs.Prelude.{◌≡◌, vec_len, map, IfOk, OnOk};
-ghost use Rattle.vx_sector.specs.Acting.{renewed};
-ghost use Rattle.vx_script.specs.Transcript.{first_window};
+ghost use Rattle.vx_script.specs.Transcript.{window_over, opened_by, renewed_by};
 
 use crate::fault::Fault;
 use crate::line::Line;
@@ -13,7 +12,7 @@ use vx_cells::Cells;
 use vx_geom::Bounds;
 use vx_policy::{Edit, Policy, Version};
 use vx_region::Name;
-use vx_sector::{Cmd, Refusal, Reply, Seat, Sector};
+use vx_sector::{Cmd, Fresh, Refusal, Reply, Seat, Sector};
 
 /// How many players a world may have.
 pub const PLAYERS: usize = 16;
@@ -131,7 +130,7 @@ impl<J: Naming> Play<J> {
             Some(Line::Skipped) => Ok(()),
             Some(Line::As(name, cmd)) => self.play(&name, cmd, number, writer),
             Some(Line::Region(edit)) => self.edit(alloc, edit, writer),
-            Some(Line::Tick) => self.tick(writer),
+            Some(Line::Tick) => self.tick(alloc, writer),
             _ => Err(Fault::Syntax(number)),
         }
     }
@@ -198,7 +197,7 @@ impl<J: Naming> Play<J> {
 
     // Begins the next window of each sector, by the policy after the edits so far.
     #[tactic(auto, unfolding(crate::specs::Transcript::tick_turn))]
-    fn tick<W: Write>(&mut self, writer: &mut W) -> Result<(), Fault>
+    fn tick<W: Write>(&mut self, alloc: Global, writer: &mut W) -> Result<(), Fault>
         ensures ok { OnOk result ((text : List ℕ) × Appends (W.contents writer.old) (W.contents writer.new) text
             × ((go : transcript.Play → Result (List ℕ) Fault) → tick_turn self.old go ≡ prepend text (go self.new))) }
         ensures history { result ≡ Err Fault.HistoryFull
@@ -209,17 +208,17 @@ impl<J: Naming> Play<J> {
         if TICKS <= self.ticks {
             return Err(Fault::HistoryFull);
         }
-        self.next_window().map_err(|_| Fault::NoMemory)?;
+        self.next_window(alloc).map_err(|_| Fault::NoMemory)?;
         let tick = self.ticks;
         writeln!(writer, "tick {tick}").map_err(|_| Fault::WriteFailed)
     }
 
-    fn next_window(&mut self) -> Result<(), AllocError>
+    fn next_window(&mut self, alloc: Global) -> Result<(), AllocError>
         requires { self.old.ticks < most_ticks }
         ensures { OnOk result (self.new ≡ ticked self.old) }
     {
         let version = self.desk.fix(self.ticks + 2)?;
-        renew_sectors(&mut self.sectors, &version)?;
+        renew_sectors(alloc, &mut self.sectors, &version)?;
         self.ticks += 1;
         Ok(())
     }
@@ -252,22 +251,30 @@ fn open_sectors(
     cells: Vec<Cells>,
     version: &Version,
 ) -> Result<Vec<Sector>, AllocError>
-    ensures sectors { IfOk result (λ sectors. sectors.items ≡ map (first_window version.now) cells.items) }
+    ensures sectors { IfOk result (λ sectors. sectors.items ≡ map (opened_by version.now) cells.items) }
     ensures few { IfOk result (λ sectors. vec_len sectors ≡ vec_len cells) }
 {
     let mut sectors = Vec::with_capacity(alloc, cells.len())?;
     for cells in cells {
-        sectors.push(Sector::new(alloc, cells, version.try_clone()?))?;
+        sectors.push(Sector::new(fresh(alloc, &cells, version)?))?;
     }
     Ok(sectors)
 }
 
 // Begins the next window of each sector, judged by this version.
-fn renew_sectors(sectors: &mut [Sector], version: &Version) -> Result<(), AllocError>
-    ensures { OnOk result (sectors.new ≡ map (λ s. renewed s version.now) sectors.old) }
+fn renew_sectors(alloc: Global, sectors: &mut [Sector], version: &Version) -> Result<(), AllocError>
+    ensures { OnOk result (sectors.new ≡ map (renewed_by version.now) sectors.old) }
 {
     for sector in sectors.iter_mut() {
-        let _closed = sector.renew(version.try_clone()?);
+        let fresh = fresh(alloc, sector.cells(), version)?;
+        let _closed = sector.renew(fresh);
     }
     Ok(())
+}
+
+// What a window over a copy of these cells begins with.
+fn fresh(alloc: Global, cells: &Cells, version: &Version) -> Result<Fresh, AllocError>
+    ensures { IfOk result (λ fresh. fresh ≡ window_over version.now cells.now) }
+{
+    Fresh::new(alloc, cells.bounds(), cells.sector(), cells, version)
 }

@@ -1,16 +1,17 @@
 ghost use Rattle.std.specs.Prelude.{◌≡◌, ◌==◌, option_map};
 ghost use Rattle.std.specs.List.{list_all};
-ghost use Rattle.vx_script.specs.ScriptLines.{said, is_printable, is_comment, world_line, player_line, set_line, look_of, place_of, break_of, command_of, as_line, region_line, tick_line, line_by, line_in, line_of, sizes_of};
+ghost use Rattle.vx_script.specs.ScriptLines.{said, is_printable, is_comment, world_line, player_line, set_line, placed_part, look_of, place_of, break_of, turn_of, open_of, put_of, take_of, command_of, as_line, region_line, tick_line, line_by, line_in, line_of, sizes_of};
 ghost use Rattle.vx_script.specs.Unread.{Gives};
 
-use crate::arguments::{at_end, byte, name, part, position};
+use crate::arguments::{at_end, byte, item, name, part, position};
 use crate::edit_reading::read_edit;
 use crate::line::Line;
 use crate::unread::Unread;
 use crate::words::Words;
 use std::alloc::Global;
 use std::str;
-use vx_geom::Bounds;
+use vx_block::Part;
+use vx_geom::{Bounds, Pos};
 use vx_sector::Cmd;
 
 /// Reads a line. This is the one table of the lines of a script.
@@ -108,9 +109,18 @@ fn player_line(words: &mut Words) -> Option<Line>
 fn set_line(words: &mut Words) -> Option<Line>
     ensures { option_map said result ≡ set_line words.old }
 {
+    let (p, part) = placed_part(words)?;
+    Some(Line::Set(p, part))
+}
+
+// Reads a position and a part, which end the line.
+#[tactic(auto, unfolding(crate::specs::ScriptLines::placed_part))]
+fn placed_part(words: &mut Words) -> Option<(Pos, Part)>
+    ensures { result ≡ placed_part words.old }
+{
     let p = position(words)?;
     let part = part(words)?;
-    at_end(words, Line::Set(p, part))
+    at_end(words, (p, part))
 }
 
 #[tactic(auto, unfolding(crate::specs::ScriptLines::as_line))]
@@ -131,6 +141,10 @@ fn command_of(verb: &str, words: &mut Words) -> Option<Cmd>
         "look" => look_of(words),
         "place" => place_of(words),
         "break" => break_of(words),
+        "turn" => turn_of(words),
+        "open" => open_of(words),
+        "put" => put_of(words),
+        "take" => take_of(words),
         _ => None,
     }
 }
@@ -147,9 +161,8 @@ fn look_of(words: &mut Words) -> Option<Cmd>
 fn place_of(words: &mut Words) -> Option<Cmd>
     ensures { result ≡ place_of words.old }
 {
-    let p = position(words)?;
-    let part = part(words)?;
-    at_end(words, Cmd::Place(p, part))
+    let (p, part) = placed_part(words)?;
+    Some(Cmd::Place(p, part))
 }
 
 #[tactic(auto, unfolding(crate::specs::ScriptLines::break_of))]
@@ -158,6 +171,43 @@ fn break_of(words: &mut Words) -> Option<Cmd>
 {
     let p = position(words)?;
     at_end(words, Cmd::Break(p))
+}
+
+#[tactic(auto, unfolding(crate::specs::ScriptLines::turn_of))]
+fn turn_of(words: &mut Words) -> Option<Cmd>
+    ensures { result ≡ turn_of words.old }
+{
+    let p = position(words)?;
+    at_end(words, Cmd::Turn(p))
+}
+
+#[tactic(auto, unfolding(crate::specs::ScriptLines::open_of))]
+fn open_of(words: &mut Words) -> Option<Cmd>
+    ensures { result ≡ open_of words.old }
+{
+    let p = position(words)?;
+    at_end(words, Cmd::OpenChest(p))
+}
+
+#[tactic(auto, unfolding(crate::specs::ScriptLines::put_of))]
+fn put_of(words: &mut Words) -> Option<Cmd>
+    ensures { result ≡ put_of words.old }
+{
+    let p = position(words)?;
+    let slot = byte(words)?;
+    let item = item(words)?;
+    let count = byte(words)?;
+    at_end(words, Cmd::Put(p, slot, item, count))
+}
+
+#[tactic(auto, unfolding(crate::specs::ScriptLines::take_of))]
+fn take_of(words: &mut Words) -> Option<Cmd>
+    ensures { result ≡ take_of words.old }
+{
+    let p = position(words)?;
+    let slot = byte(words)?;
+    let count = byte(words)?;
+    at_end(words, Cmd::Take(p, slot, count))
 }
 
 fn bounds_of(sx: u8, sz: u8, s: u8) -> Option<Bounds>

@@ -1,3 +1,4 @@
+mod commands;
 mod edits;
 
 use crate::{Fault, run};
@@ -178,7 +179,10 @@ fn the_first_faulty_line_ends_the_run(rt: HostRuntime) {
         ("world 1 1 1\nplayer ann\nas ann look 0 0 -2147483649\n", 3),
         ("world 1 1 1\nplayer ann\nas ann look 0 0 0x1\n", 3),
         ("world 1 1 1\nplayer ann\nas ann look 0 0 -\n", 3),
-        ("world 1 1 1\nplayer ann\nas ann place 0 0 0 lamp\n", 3),
+        (
+            "world 1 1 1\nplayer ann\nas ann place 0 0 0 head:east:plain\n",
+            3,
+        ),
         ("world 1 1 1\nplayer ann\nas ann\tlook 0 0 0\n", 3),
         ("world 1 1 1\r\n", 1),
         ("# caf\u{e9}\n", 1),

@@ -1,7 +1,7 @@
 use Rattle.std.proofs.Common.{◌≡◌, map}
-use Rattle.vx_script.specs.Transcript.{first_window}
+use Rattle.vx_script.specs.Transcript.{opened_by}
 use Rattle.vx_script.proofs.play.open_sectors.Given as goal
 
 -- the sectors of the cells so far
 abbrev pub invariant-loop-cells : goal.invariant-loop-cells
-invariant-loop-cells l = l.sectors.items ≡ map (first_window l.version) l.yielded
+invariant-loop-cells l = l.sectors.items ≡ map (opened_by l.version) l.yielded

@@ -1,8 +1,8 @@
 use Rattle.std.proofs.Common.{◌≡◌}
-use Rattle.vx_sector.specs.Acting.{renewed}
+use Rattle.vx_script.specs.Transcript.{renewed_by}
 use Rattle.vx_script.proofs.Renewals.{changed_up_to}
 use Rattle.vx_script.proofs.play.renew_sectors.Given as goal
 
 -- the sectors so far are renewed, and the others as they were
 abbrev pub invariant-loop-sector : goal.invariant-loop-sector
-invariant-loop-sector l = l.sectors ≡ changed_up_to (λ s. renewed s l.version) l.sector-index l.fn.sectors
+invariant-loop-sector l = l.sectors ≡ changed_up_to (renewed_by l.version) l.sector-index l.fn.sectors

@@ -42,7 +42,7 @@ lines() {
 "$root/run" - </dev/null >/dev/null
 printf '%-20s %8s %8s %10s %12s %10s\n' lines regions count us a_second KiB_more
 for row in "priority 4000 200000" "flag 4000 200000" "owner 4000 200000" "reshape 4000 200000" "parent 4000 200000" \
-  "refused 4000 200000" "remove_and_define 4000 20000" "edit_and_tick 4000 2000" "tick 4000 1000000" "tick 1 1000000"; do
+  "refused 4000 200000" "remove_and_define 4000 20000" "edit_and_tick 4000 2000" "tick 4000 5000" "tick 1 5000"; do
   set -- $row
   world "$2" >"$work/plain.vx"
   { cat "$work/plain.vx"; lines "${1//_/ }" "$3" "$2"; } >"$work/full.vx"

@@ -193,21 +193,29 @@ fn open_of(words: &mut Words) -> Option<Cmd>
 fn put_of(words: &mut Words) -> Option<Cmd>
     ensures { result ≡ put_of words.old }
 {
-    let p = position(words)?;
+    let at = position(words)?;
     let slot = byte(words)?;
     let item = item(words)?;
     let count = byte(words)?;
-    at_end(words, Cmd::Put(p, slot, item, count))
+    at_end(
+        words,
+        Cmd::Put {
+            at,
+            slot,
+            item,
+            count,
+        },
+    )
 }
 
 #[tactic(auto, unfolding(crate::specs::ScriptLines::take_of))]
 fn take_of(words: &mut Words) -> Option<Cmd>
     ensures { result ≡ take_of words.old }
 {
-    let p = position(words)?;
+    let at = position(words)?;
     let slot = byte(words)?;
     let count = byte(words)?;
-    at_end(words, Cmd::Take(p, slot, count))
+    at_end(words, Cmd::Take { at, slot, count })
 }
 
 fn bounds_of(sx: u8, sz: u8, s: u8) -> Option<Bounds>

@@ -1,17 +1,19 @@
 //! What the rules answer to a command, and what it does.
-ghost use Rattle.std.specs.Prelude.{◌≡◌, true, IfOk, MatchResult, Ok, Err};
+ghost use Rattle.std.specs.Prelude.{◌≡◌, ◌⊎◌, true, Some, None, IfOk, IfErr, MatchResult, Ok, Err};
 ghost use Rattle.vx_cells.specs.SectorCells.{IsWhole, holds};
 ghost use Rattle.vx_sector.specs.SectorData.{seat_of};
 ghost use Rattle.vx_sector.specs.Commands.{place_of};
-ghost use Rattle.vx_sector.specs.Acting.{judged, refuse_denied, rule_of, ok_unless, first_some, hindrances, effect_of, effect_by, acted, Fits};
+ghost use Rattle.vx_sector.specs.Acting.{judged, refuse_denied, rule_of, ok_unless, first_some, hindrances, slots_at, effect_of, effect_by, acted, Fits};
 
 use crate::chests::{is_in_use, opening, putting, taking};
 use crate::cmd::Cmd;
+use crate::contents::Contents;
 use crate::effect::Effect;
 use crate::outcome::Outcome;
 use crate::refusal::Refusal;
 use crate::reply::Reply;
 use crate::seat::Seat;
+use std::alloc::Global;
 use vx_block::{Cell, Part};
 use vx_cells::Cells;
 use vx_decide::{Decide, Plain, Rule, Verdict};
@@ -19,29 +21,39 @@ use vx_flag::Action;
 use vx_geom::Pos;
 use vx_region::{RegionSet, Subject};
 
-/// The answer of the rules to a command at a position of the sector, and what the command does.
-pub fn acted(regions: &RegionSet, cells: &Cells, seat: &Seat, cmd: &Cmd) -> Outcome
+/// The answer of the rules to a command at a position of the sector, and what the command does. It takes memory for what an opened chest
+/// holds; its only error is that there is none.
+pub fn acted(
+    alloc: Global,
+    regions: &RegionSet,
+    cells: &Cells,
+    seat: &Seat,
+    cmd: &Cmd,
+) -> Result<Outcome, Refusal>
     requires held { holds cells.now (place_of cmd.now) ≡ true }
     requires whole { IsWhole cells.now }
-    ensures answer { result.answer ≡ acted regions.now cells.now (seat_of seat.now) cmd.now }
-    ensures effect { result.effect ≡ effect_by cells.now cmd.now result.answer }
-    ensures fits { Fits cells.now (place_of cmd.now) result.effect }
+    ensures answer { IfOk result (λ outcome. outcome.answer ≡ acted regions.now cells.now (seat_of seat.now) cmd.now) }
+    ensures effect { IfOk result (λ outcome. outcome.effect ≡ effect_by cells.now cmd.now outcome.answer) }
+    ensures fits { IfOk result (λ outcome. Fits cells.now (place_of cmd.now) outcome.effect) }
+    ensures memory { IfErr result (λ refusal. refusal ≡ Refusal.NoMemory) }
 {
-    match carried_out(regions, cells, seat, cmd) {
-        Ok((reply, effect)) => Outcome {
+    match carried_out(alloc, regions, cells, seat, cmd) {
+        Ok((reply, effect)) => Ok(Outcome {
             answer: Ok(reply),
             effect,
-        },
-        Err(refusal) => Outcome {
+        }),
+        Err(Refusal::NoMemory) => Err(Refusal::NoMemory),
+        Err(refusal) => Ok(Outcome {
             answer: Err(refusal),
             effect: Effect::Same,
-        },
+        }),
     }
 }
 
 // The reply to a command that nothing stands against, and what the command does.
 #[tactic(auto, unfolding(crate::specs::Acting::acted))]
 fn carried_out(
+    alloc: Global,
     regions: &RegionSet,
     cells: &Cells,
     seat: &Seat,
@@ -51,7 +63,7 @@ fn carried_out(
     requires whole { IsWhole cells.now }
     ensures answer { MatchResult result
         (λ done. acted regions.now cells.now (seat_of seat.now) cmd.now ≡ Ok done.0)
-        (λ refusal. acted regions.now cells.now (seat_of seat.now) cmd.now ≡ Err refusal) }
+        (λ refusal. (acted regions.now cells.now (seat_of seat.now) cmd.now ≡ Err refusal) ⊎ (refusal ≡ Refusal.NoMemory)) }
     ensures effect { IfOk result (λ done. done.1 ≡ effect_of cells.now cmd.now) }
     ensures fits { IfOk result (λ done. Fits cells.now (place_of cmd.now) done.1) }
 {
@@ -61,8 +73,8 @@ fn carried_out(
     };
     let rule = permitted(regions, seat, action, p)?;
     if matches!(cmd, Cmd::OpenChest(_)) {
-        let slots = opening(cells, p)?;
-        return Ok((Reply::Opened(rule, slots), Effect::Same));
+        let contents = shown(alloc, cells, p)?;
+        return Ok((Reply::Opened(rule, contents), Effect::Same));
     }
     let effect = effect(cells, cmd)?;
     Ok((Reply::Done(rule), effect))
@@ -76,6 +88,17 @@ fn permitted(regions: &RegionSet, seat: &Seat, action: Action, p: Pos) -> Result
         Verdict::Permit(rule) => Ok(rule),
         Verdict::Deny(rule) => Err(Refusal::Denied(rule)),
     }
+}
+
+// What the chest to be opened holds.
+fn shown(alloc: Global, cells: &Cells, p: Pos) -> Result<Contents, Refusal>
+    requires { holds cells.now p ≡ true }
+    ensures { MatchResult result
+        (λ contents. (first_some (hindrances cells.now (Cmd.OpenChest p)) ≡ None) × (contents ≡ slots_at cells.now p))
+        (λ refusal. (first_some (hindrances cells.now (Cmd.OpenChest p)) ≡ Some refusal) ⊎ (refusal ≡ Refusal.NoMemory)) }
+{
+    let slots = opening(cells, p)?;
+    Contents::new(alloc, slots).map_err(|_| Refusal::NoMemory)
 }
 
 // What a permitted command does, or what stands in its way.
@@ -94,8 +117,13 @@ fn effect(cells: &Cells, cmd: &Cmd) -> Result<Effect, Refusal>
             opening(cells, *p)?;
             Ok(Effect::Same)
         }
-        Cmd::Put(p, slot, item, count) => putting(cells, *p, *slot, *item, *count),
-        Cmd::Take(p, slot, count) => taking(cells, *p, *slot, *count),
+        Cmd::Put {
+            at,
+            slot,
+            item,
+            count,
+        } => putting(cells, *at, *slot, *item, *count),
+        Cmd::Take { at, slot, count } => taking(cells, *at, *slot, *count),
     }
 }
 

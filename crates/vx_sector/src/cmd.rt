@@ -15,10 +15,19 @@ pub enum Cmd {
     Turn(Pos),
     /// Shows what a chest holds.
     OpenChest(Pos),
-    /// Puts so many of an item into a slot of a chest.
-    Put(Pos, u8, u16, u8),
+    /// Puts so many of an item into a slot of a chest. Slots have the numbers 0 to 26, and take 64.
+    Put {
+        at: Pos,
+        slot: u8,
+        item: u16,
+        count: u8,
+    },
     /// Takes so many out of a slot of a chest.
-    Take(Pos, u8, u8),
+    Take {
+        at: Pos,
+        slot: u8,
+        count: u8,
+    },
 }
 
 impl Cmd {
@@ -35,8 +44,8 @@ impl Cmd {
             | Cmd::Break(p)
             | Cmd::Turn(p)
             | Cmd::OpenChest(p)
-            | Cmd::Put(p, _, _, _)
-            | Cmd::Take(p, _, _) => *p,
+            | Cmd::Put { at: p, .. }
+            | Cmd::Take { at: p, .. } => *p,
         }
     }
 
@@ -49,9 +58,7 @@ impl Cmd {
             Cmd::Place(_, _) => Some(Action::Placing),
             Cmd::Break(_) => Some(Action::Breaking),
             Cmd::Turn(_) => Some(Action::Turning),
-            Cmd::OpenChest(_) | Cmd::Put(_, _, _, _) | Cmd::Take(_, _, _) => {
-                Some(Action::Reaching)
-            }
+            Cmd::OpenChest(_) | Cmd::Put { .. } | Cmd::Take { .. } => Some(Action::Reaching),
         }
     }
 }

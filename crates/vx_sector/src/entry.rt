@@ -4,7 +4,7 @@ use crate::reply::Reply;
 use crate::seat::Seat;
 
 /// One recorded call: who made it, what it was, and what was answered.
-#[derive(Clone, Copy, Debug, PartialEq, Eq)]
+#[derive(Debug, PartialEq, Eq, Drop)]
 pub struct Entry {
     pub seat: Seat,
     pub cmd: Cmd,

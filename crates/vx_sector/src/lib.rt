@@ -18,6 +18,7 @@ mod sector;
 mod tests;
 
 pub use cmd::Cmd;
+pub use contents::Contents;
 pub use entry::Entry;
 pub use fresh::Fresh;
 pub use laws::{

@@ -1,20 +1,33 @@
-ghost use Rattle.std.specs.Prelude.{Some};
+ghost use Rattle.std.specs.Prelude.{◌≡◌, Some, IfOk};
 
 use crate::contents::Contents;
+use std::alloc::AllocError;
 use std::fmt;
 use vx_block::Cell;
-use vx_cells::{SLOTS, Slot};
 use vx_decide::Rule;
 
 /// The answer to a command that was carried out.
-#[derive(Clone, Copy, Debug, PartialEq, Eq)]
+#[derive(Debug, PartialEq, Eq, Drop)]
 pub enum Reply {
     /// The cell that a look showed.
     Seen(Cell),
     /// What the command does is done, by leave of the rule.
     Done(Rule),
     /// What the chest holds, slot by slot, shown by leave of the rule.
-    Opened(Rule, [Slot; SLOTS]),
+    Opened(Rule, Contents),
+}
+
+impl Reply {
+    /// A copy of the reply.
+    pub fn try_clone(&self) -> Result<Reply, AllocError>
+        ensures { IfOk result (λ copy. copy ≡ self.now) }
+    {
+        match self {
+            Reply::Seen(cell) => Ok(Reply::Seen(*cell)),
+            Reply::Done(rule) => Ok(Reply::Done(*rule)),
+            Reply::Opened(rule, contents) => Ok(Reply::Opened(*rule, contents.try_clone()?)),
+        }
+    }
 }
 
 impl fmt::Display for Reply {
@@ -26,10 +39,7 @@ impl fmt::Display for Reply {
         match self {
             Reply::Seen(cell) => write!(f, "seen {cell}"),
             Reply::Done(rule) => write!(f, "ok {rule}"),
-            Reply::Opened(rule, slots) => {
-                let contents = Contents { slots };
-                write!(f, "ok {rule} holds{contents}")
-            }
+            Reply::Opened(rule, contents) => write!(f, "ok {rule} holds{contents}"),
         }
     }
 }

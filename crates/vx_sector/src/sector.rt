@@ -1,4 +1,4 @@
-ghost use Rattle.std.specs.Prelude.{◌≡◌, ◌≤◌, ◌<◌, ◌⊎◌, ◌↔◌, true, false, Err, IfErr, OnOk, OnErr};
+ghost use Rattle.std.specs.Prelude.{◌≡◌, ◌≤◌, ◌<◌, ◌⊎◌, ◌↔◌, true, false, Err, IfOk, IfErr, OnOk, OnErr};
 ghost use Rattle.vx_cells.specs.SectorCells.{holds, with_cell};
 ghost use Rattle.vx_sector.specs.Acting.{acted, effect_by, Fits};
 ghost use Rattle.vx_sector.specs.Commands.{place_of};
@@ -161,15 +161,11 @@ impl Sector {
         if self.is_full() {
             return Err(Refusal::HistoryFull);
         }
-        let outcome = acted(self.version.policy.regions(), &self.cells, &seat, &cmd);
-        self.record(
-            Entry {
-                seat,
-                cmd,
-                answer: outcome.answer,
-            },
-            outcome.effect,
-        )?;
+        let alloc = *self.entries.allocator();
+        let regions = self.version.policy.regions();
+        let outcome = acted(alloc, regions, &self.cells, &seat, &cmd)?;
+        let answer = copied(&outcome.answer)?;
+        self.record(Entry { seat, cmd, answer }, outcome.effect)?;
         outcome.answer
     }
 
@@ -201,6 +197,20 @@ impl Sector {
         ensures { result ≡ is_full self.now }
     {
         ENTRIES <= self.count()
+    }
+}
+
+// A copy of an answer.
+fn copied(answer: &Result<Reply, Refusal>) -> Result<Result<Reply, Refusal>, Refusal>
+    ensures ok { IfOk result (λ copy. copy ≡ answer.now) }
+    ensures memory { IfErr result (λ refusal. refusal ≡ Refusal.NoMemory) }
+{
+    match answer {
+        Ok(reply) => match reply.try_clone() {
+            Ok(copy) => Ok(Ok(copy)),
+            Err(_) => Err(Refusal::NoMemory),
+        },
+        Err(refusal) => Ok(Err(*refusal)),
     }
 }
 

@@ -1,6 +1,10 @@
-use Rattle.std.proofs.Common.{◌≡◌, inl, inr, true, sym, subst, refl, ◌∙◌, rules}
-use Rattle.vx_sector.specs.SectorData.{seat_of}
-use Rattle.vx_sector.specs.Windows.{is_recorded}
+use Rattle.std.proofs.Common.{◌≡◌, inl, inr, true, false, sym, subst, ap, refl, ◌∙◌, rules}
+use Rattle.vx_cells.specs.SectorCells.{holds}
+use Rattle.vx_sector.specs.declared.cmd.Cmd.{Cmd}
+use Rattle.vx_sector.specs.declared.seat.Seat.{Seat}
+use Rattle.vx_sector.specs.Commands.{place_of}
+use Rattle.vx_sector.specs.SectorData.{SectorData, seat_of}
+use Rattle.vx_sector.specs.Windows.{answer_of, is_full, is_recorded, sector_after}
 use Rattle.vx_sector.proofs.ActingLemmas.{acted_recorded}
 use Rattle.vx_sector.proofs.Outside.{elsewhere_is_refused, full_is_refused, answered_by_the_rules, not_answered, after_acted, room_where_not_full}
 use Rattle.vx_sector.proofs.sector.Sector.act.Goals as goal
@@ -20,10 +24,17 @@ returns-then-is_full-clause-memory c = inl (sym (full_is_refused _ _ _ (search r
 pub record-requires-clause-room : goal.record-requires-clause-room
 record-requires-clause-room c = room_where_not_full c.args.self.now (search rules)
 
+wanted : (s : SectorData) (seat : Seat) (cmd : Cmd) → holds s.cells (place_of cmd) ≡ true → is_full s ≡ false → is_recorded (answer_of s (seat_of seat) cmd) ≡ true
+wanted s seat cmd held room = subst (λ a. is_recorded a ≡ true) (answered_by_the_rules s (seat_of seat) cmd held room) (acted_recorded _ _ _ _)
+
+pub returns-in_err-outcome-clause-memory : goal.returns-in_err-outcome-clause-memory
+returns-in_err-outcome-clause-memory c = inr (wanted c.args.self.now c.args.seat c.args.cmd (search rules) (search rules))
+
+pub returns-in_err-answer-clause-memory : goal.returns-in_err-answer-clause-memory
+returns-in_err-answer-clause-memory c = inr (wanted c.args.self.now c.args.seat c.args.cmd (search rules) (search rules))
+
 pub returns-in_err-record-clause-memory : goal.returns-in_err-record-clause-memory
-returns-in_err-record-clause-memory c =
-    let same = answered_by_the_rules c.args.self.now (seat_of c.args.seat) c.args.cmd (search rules) (search rules) in
-    inr (subst (λ a. is_recorded a ≡ true) same (acted_recorded _ _ _ _))
+returns-in_err-record-clause-memory c = inr (wanted c.args.self.now c.args.seat c.args.cmd (search rules) (search rules))
 
 pub returns-clause-answer : goal.returns-clause-answer
 returns-clause-answer c = inl ((search rules) ∙ answered_by_the_rules c.args.self.now (seat_of c.args.seat) c.args.cmd (search rules) (search rules))
@@ -33,9 +44,10 @@ returns-clause-memory c = inl ((search rules) ∙ answered_by_the_rules c.args.s
 
 pub returns-clause-after : goal.returns-clause-after
 returns-clause-after c = c.in_ok-record.ensures.ok ∙ after_acted c.args.self.now (seat_of c.args.seat) c.args.cmd _ (search rules)
+    ∙ ap (λ answer. sector_after c.args.self.now (seat_of c.args.seat) c.args.cmd answer) c.in_ok-answer.ensures.ok
 
 pub returns-clause-outside : goal.returns-clause-outside
-returns-clause-outside c = (λ outside. absurd (not_answered _ _ _ _ _ _ c.acted-outcome.ensures.answer refl outside), λ elsewhere. absurd (search rules))
+returns-clause-outside c = (λ outside. absurd (not_answered _ _ _ _ _ _ c.in_ok-outcome.ensures.answer refl outside), λ elsewhere. absurd (search rules))
 
 pub returns-clause-full : goal.returns-clause-full
-returns-clause-full c = (λ full. absurd (not_answered _ _ _ _ _ _ c.acted-outcome.ensures.answer refl full), λ full. absurd (search rules))
+returns-clause-full c = (λ full. absurd (not_answered _ _ _ _ _ _ c.in_ok-outcome.ensures.answer refl full), λ full. absurd (search rules))

@@ -3,7 +3,7 @@ use Rattle.std.proofs.Common.{◌≡◌, ℤ, Bool, true, false, ◌&&◌, ◌||
 use Rattle.std.specs.Int.{int_max}
 use Rattle.std.proofs.lemmas.Int.{ints}
 use Rattle.std.proofs.Math.Bool.{and-true, or-true}
-use Rattle.vx_geom.proofs.Lists.{drop_at}
+use Rattle.vx_base.proofs.Lists.{drop_at}
 use Rattle.vx_region.specs.Regions.{Entry}
 use Rattle.vx_decide.specs.RegionGroups.{Members, none_higher}
 use Rattle.vx_decide.specs.Tops.{raised, top_from, top, is_at_most}

@@ -2,7 +2,7 @@
 use Rattle.std.proofs.Common.{◌≡◌, ℕ, zero, suc, ◌+◌, ◌<◌, Bool, true, false, nat_lt, if◌then◌else◌, List, [], ◌∷◌, drop, slice_get, Option, Some, None, Contains, ◌⊎◌, inl, inr, refl, ap, sym, ◌∙◌, subst, arith}
 use Rattle.std.proofs.lemmas.Bool.{ltb-true, ltb-false}
 use Rattle.std.proofs.lemmas.List.Elements.{Contains-append_right, Contains-append_left}
-use Rattle.vx_geom.proofs.Lists.{drop_at}
+use Rattle.vx_base.proofs.Lists.{drop_at}
 use Rattle.vx_region.specs.Regions.{Entry, RegionData}
 use Rattle.vx_region.specs.Forest.{IsAscending}
 use Rattle.vx_decide.specs.RegionGroups.{Members, lesser, least}

@@ -57,7 +57,7 @@ impl Bounds {
     }
 
     /// Whether the world has a cell there.
-    #[tactic(auto, using(crate::proofs::Signed::signed), unfolding(crate::specs::Sizes::is_inside))]
+    #[tactic(auto, using(vx_base::proofs::Signed::signed), unfolding(crate::specs::Sizes::is_inside))]
     pub fn inside(&self, p: Pos) -> bool
         ensures { result ≡ is_inside self.now p }
     {
@@ -68,7 +68,7 @@ impl Bounds {
     }
 
     /// The number of the sector that holds the position, row by row from the north west; `None` outside the world.
-    #[tactic(auto, using(crate::proofs::Signed::signed), unfolding(crate::specs::Sizes::sector_of, crate::specs::Sizes::sector_number))]
+    #[tactic(auto, using(vx_base::proofs::Signed::signed), unfolding(crate::specs::Sizes::sector_of, crate::specs::Sizes::sector_number))]
     pub fn sector_of(&self, p: Pos) -> Option<u32>
         ensures { result ≡ sector_of self.now p }
     {
@@ -88,7 +88,7 @@ impl Bounds {
     }
 
     /// The place of a position among the cells of its sector.
-    #[tactic(auto, using(crate::proofs::Signed::signed), unfolding(crate::specs::Sizes::place_in_sector))]
+    #[tactic(auto, using(vx_base::proofs::Signed::signed), unfolding(crate::specs::Sizes::place_in_sector))]
     pub fn place_in_sector(&self, p: Pos) -> u32
         requires { is_inside self.now p ≡ true }
         ensures value { result ≡ place_in_sector self.now p }

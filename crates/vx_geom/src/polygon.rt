@@ -46,14 +46,14 @@ fn passes_east(a: &(i32, i32), b: &(i32, i32), p: &Pos) -> bool
     spans(a, b, p) && 0 < cross(a, b, p)
 }
 
-#[tactic(auto, using(crate::proofs::Signed::signed), unfolding(crate::specs::Polygon::spans))]
+#[tactic(auto, using(vx_base::proofs::Signed::signed), unfolding(crate::specs::Polygon::spans))]
 fn spans(a: &(i32, i32), b: &(i32, i32), p: &Pos) -> bool
     ensures { result ≡ spans a.now b.now p.now }
 {
     a.1 <= p.z && p.z < b.1
 }
 
-#[tactic(auto, using(crate::proofs::Signed::signed), unfolding(crate::specs::Polygon::in_box))]
+#[tactic(auto, using(vx_base::proofs::Signed::signed), unfolding(crate::specs::Polygon::in_box))]
 fn in_box(a: &(i32, i32), b: &(i32, i32), p: &Pos) -> bool
     ensures { result ≡ in_box a.now b.now p.now }
 {
@@ -68,7 +68,7 @@ fn is_between(a: i32, b: i32, c: i32) -> bool
 }
 
 // The gaps of coordinates have up to 33 bits, their products 65 and the difference of these 66.
-#[tactic(auto, using(crate::proofs::Signed::signed), unfolding(crate::specs::Polygon::cross))]
+#[tactic(auto, using(vx_base::proofs::Signed::signed), unfolding(crate::specs::Polygon::cross))]
 fn cross(a: &(i32, i32), b: &(i32, i32), p: &Pos) -> i128
     ensures { result ≡ cross a.now b.now p.now }
 {

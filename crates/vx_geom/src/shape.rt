@@ -189,7 +189,7 @@ fn same_ends(a: i32, b: i32, c: i32, d: i32) -> bool
 }
 
 // The corner with the lesser of each two coordinates.
-#[tactic(auto, using(crate::proofs::Signed::signed), unfolding(crate::specs::Outline::lower))]
+#[tactic(auto, using(vx_base::proofs::Signed::signed), unfolding(crate::specs::Outline::lower))]
 fn lower(a: Pos, b: Pos) -> Pos
     ensures { result ≡ lower a b }
 {
@@ -197,21 +197,21 @@ fn lower(a: Pos, b: Pos) -> Pos
 }
 
 // The corner with the greater of each two coordinates.
-#[tactic(auto, using(crate::proofs::Signed::signed), unfolding(crate::specs::Outline::higher))]
+#[tactic(auto, using(vx_base::proofs::Signed::signed), unfolding(crate::specs::Outline::higher))]
 fn higher(a: Pos, b: Pos) -> Pos
     ensures { result ≡ higher a b }
 {
     Pos::new(a.x.max(b.x), a.y.max(b.y), a.z.max(b.z))
 }
 
-#[tactic(auto, using(crate::proofs::Signed::signed), unfolding(crate::specs::Outline::in_cuboid))]
+#[tactic(auto, using(vx_base::proofs::Signed::signed), unfolding(crate::specs::Outline::in_cuboid))]
 fn in_cuboid(low: &Pos, high: &Pos, p: &Pos) -> bool
     ensures { result ≡ in_cuboid low.now high.now p.now }
 {
     in_columns(low, high, p) && is_amid(low.y, high.y, p.y)
 }
 
-#[tactic(auto, using(crate::proofs::Signed::signed), unfolding(crate::specs::Outline::in_columns))]
+#[tactic(auto, using(vx_base::proofs::Signed::signed), unfolding(crate::specs::Outline::in_columns))]
 fn in_columns(low: &Pos, high: &Pos, p: &Pos) -> bool
     ensures { result ≡ in_columns low.now high.now p.now }
 {

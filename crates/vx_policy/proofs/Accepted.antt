@@ -4,7 +4,7 @@ use Rattle.std.specs.List.{slice_get, list_any}
 use Rattle.std.specs.Option.{option_and_then}
 use Rattle.std.proofs.lemmas.Bool.{cases_Bool, eq-eqb, leb-false}
 use Rattle.vx_geom.specs.Written.{Written, outline_asked}
-use Rattle.vx_geom.proofs.Lists.{none_found}
+use Rattle.vx_base.proofs.Lists.{none_found}
 use Rattle.vx_region.specs.Ancestry.{has_child, is_under}
 use Rattle.vx_region.specs.Regions.{Entry, Regions, region_at, number_of, is_global_id, HasSettings}
 use Rattle.vx_region.specs.Words.{read_id, read_name}

@@ -1,7 +1,7 @@
 -- The first cause that stands against an edit.
 use Rattle.std.proofs.Common.{◌≡◌, ◌↔◌, Bool, true, false, cond, List, [], ◌∷◌, ◌++◌, find, Some, None, refl, ap, ◌∙◌}
 use Rattle.std.specs.List.{list_any}
-use Rattle.vx_geom.proofs.Lists.{IsFirst, first_found}
+use Rattle.vx_base.proofs.Lists.{IsFirst, first_found}
 use Rattle.vx_region.specs.Regions.{Regions}
 use Rattle.vx_policy.specs.Asked.{Asked}
 use Rattle.vx_policy.specs.Laws.{IsFirstCause}

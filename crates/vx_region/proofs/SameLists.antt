@@ -1,7 +1,7 @@
 -- The turns of a loop over two lists at one index, whose invariant speaks of what is left of both, `same_left test xs ys i`.
 use Rattle.std.proofs.Common.{◌≡◌, ℕ, ◌+◌, Bool, true, false, ◌&&◌, List, ◌∷◌, drop, Some, slice_get, ap, ◌∙◌}
 use Rattle.std.specs.Cmp.Lexicographic.{pointwise}
-use Rattle.vx_geom.proofs.Lists.{drop_at}
+use Rattle.vx_base.proofs.Lists.{drop_at}
 
 -- what is left of both is the same
 abbrev pub same_left : {X : Type 0} → (X → X → Bool) → List X → List X → ℕ → Bool

@@ -1,5 +1,5 @@
 use Rattle.std.proofs.Common.{◌&&◌, refl, sym, ◌∙◌}
-use Rattle.vx_geom.proofs.Lists.{any_here, any_next}
+use Rattle.vx_base.proofs.Lists.{any_here, any_next}
 use Rattle.vx_region.specs.Ancestry.{is_above}
 use Rattle.vx_region.specs.Regions.{Entry}
 use Rattle.vx_decide.specs.Asked.{asked}

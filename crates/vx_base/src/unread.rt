@@ -1,16 +1,16 @@
 use std::alloc::{AllocError, AllocFailed};
 
-/// Why nothing was read from a line of a script, or from a regions file.
+/// Why nothing was read from a text, as a line of a script or a regions file.
 #[derive(Clone, Copy, Debug, PartialEq, Eq)]
 pub enum Unread {
-    /// What is written there is none.
+    /// The text is not one that may stand there.
     Faulty,
     NoMemory,
 }
 
 impl From<AllocError> for Unread {
     ghost use Rattle.std.specs.Prelude.{◌≡◌};
-    ghost use Rattle.vx_script.specs.declared.unread.Unread.TheVariants.{NoMemory};
+    ghost use Rattle.vx_base.specs.declared.unread.Unread.TheVariants.{NoMemory};
 
     ghost from_gives = { λ _ e. e ≡ NoMemory };
 
@@ -21,7 +21,7 @@ impl From<AllocError> for Unread {
 
 impl<T: Drop> From<AllocFailed<T>> for Unread {
     ghost use Rattle.std.specs.Prelude.{◌≡◌};
-    ghost use Rattle.vx_script.specs.declared.unread.Unread.TheVariants.{NoMemory};
+    ghost use Rattle.vx_base.specs.declared.unread.Unread.TheVariants.{NoMemory};
 
     ghost from_gives = { λ _ e. e ≡ NoMemory };
 

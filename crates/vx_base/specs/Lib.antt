@@ -1,0 +1,2 @@
+pub mod Then
+pub mod Unread

@@ -14,7 +14,7 @@ use Rattle.vx_sector.specs.SectorData.{SeatData}
 use Rattle.vx_sector.specs.declared.cmd.Cmd.{Cmd}
 use Rattle.vx_script.specs.declared.fault.Fault.{Fault}
 use Rattle.vx_script.specs.declared.fault.Fault.TheVariants.{HistoryFull, Syntax, TooManyPlayers}
-use Rattle.vx_script.specs.ScriptLines.{Said, Nothing, World, Player, Set, Act, Region, Tick}
+use Rattle.vx_grammar.specs.ScriptLines.{Said, Nothing, World, Player, Set, Act, Region, Tick}
 use Rattle.vx_script.specs.Lines.{lines_of}
 use Rattle.vx_script.specs.Transcript.{Opening, Play, read_of, prepend, or_syntax, acted, is_history, played, policy_of, edit_told, edit_turn, tick_turn, ticked, most_ticks, seat_named, body_turn, body_run, and_play, begun, begun_with, opened, first_line, is_named, header_after, header_turn, header_end, is_peopled, done_text, most_players, line_text, answer_text, header_run, no_opening, transcript}
 use Rattle.vx_script.specs.FirstFault.{IsFirstFault, FirstFault}

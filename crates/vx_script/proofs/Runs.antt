@@ -4,7 +4,7 @@ use Rattle.std.proofs.lemmas.Bool.{lt-ltb}
 use Rattle.vx_region.specs.Regions.{Regions}
 use Rattle.vx_script.specs.declared.fault.Fault.{Fault}
 use Rattle.vx_script.specs.declared.fault.Fault.TheVariants.{Syntax}
-use Rattle.vx_script.specs.ScriptLines.{Said, line_of}
+use Rattle.vx_grammar.specs.ScriptLines.{Said, line_of}
 use Rattle.vx_script.specs.Transcript.{Opening, Play, most_bytes, read_of, prepend, body_turn, body_run, header_turn, header_run, begun, and_play, run_from, no_opening, transcript}
 use Rattle.vx_script.specs.Lines.{lines_of}
 

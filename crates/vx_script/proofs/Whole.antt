@@ -26,7 +26,7 @@ use Rattle.vx_sector.specs.declared.refusal.Refusal.TheVariants.{OutOfWorld}
 use Rattle.vx_sector.proofs.Outside.{inside_is_not_refused}
 use Rattle.vx_script.specs.declared.fault.Fault.TheVariants.{TooManyPlayers}
 use Rattle.vx_script.specs.Grounds.{airs}
-use Rattle.vx_script.specs.ScriptLines.{Nothing, World, Player, Set, Act, Region, Tick}
+use Rattle.vx_grammar.specs.ScriptLines.{Nothing, World, Player, Set, Act, Region, Tick}
 use Rattle.vx_script.specs.Transcript.{Opening, Play, is_named, with_size, set_in, with_part, sector_at, header_after, begun, begun_with, opened, opened_with, most_players, sector_asked, acted, acted_at, answer_in, acted_in, renewed_by, next_version}
 use Rattle.vx_script.specs.Worlds.{AreSectors, IsGround, IsWorld, SizesAreSound, HeadersKeepGround, WorldsBeginWhole, CommandsKeepWorlds, TicksKeepWorlds, OutOfWorldIsOutside}
 use Rattle.vx_script.proofs.Placed.{placed_at, placed_again, airs_count, airs_placed, holds_found, found_within}

@@ -27,7 +27,7 @@ use Rattle.vx_script.specs.Grounds.{airs}
 use Rattle.vx_script.specs.declared.fault.Fault.{Fault}
 use Rattle.vx_script.specs.declared.fault.Fault.TheVariants.{HistoryFull, Syntax, TooManyPlayers}
 use Rattle.vx_script.specs.Lines.{lines_of}
-use Rattle.vx_script.specs.ScriptLines.{Said, Nothing, World, Player, Set, Act, Region, Tick, line_of}
+use Rattle.vx_grammar.specs.ScriptLines.{Said, Nothing, World, Player, Set, Act, Region, Tick, line_of}
 
 -- the world as it opens, so far: its size, once it was said, the cells of its sectors, and its players' names
 pub record Opening : Type 0 where

@@ -7,7 +7,7 @@ use Rattle.vx_sector.specs.Commands.{place_of}
 use Rattle.vx_sector.specs.SectorData.{SeatData}
 use Rattle.vx_sector.specs.declared.cmd.Cmd.{Cmd}
 use Rattle.vx_sector.specs.declared.refusal.Refusal.TheVariants.{OutOfWorld}
-use Rattle.vx_script.specs.ScriptLines.{Said, World, sizes_of}
+use Rattle.vx_grammar.specs.ScriptLines.{Said, World, sizes_of}
 use Rattle.vx_script.specs.Transcript.{Opening, Play, header_after, begun, acted, ticked}
 
 -- these are the sectors of a world of this size, in order, from number k on

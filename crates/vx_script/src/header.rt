@@ -38,7 +38,7 @@ impl Model for Header {
 }
 
 impl Header {
-    ghost use Rattle.vx_script.specs.ScriptLines.{said};
+    ghost use Rattle.vx_grammar.specs.ScriptLines.{said};
     ghost use Rattle.std.specs.Prelude.{ℕ, ◌⊎◌, List, Result, Some, Err, IfSome, option_map};
     ghost use Rattle.vx_region.specs.Regions.{Regions};
     ghost use Rattle.vx_script.specs.declared.fault.Fault.{Fault};

@@ -61,7 +61,7 @@ impl<J: Naming> Play<J> {
     ghost use Rattle.vx_region.specs.Texts.{texts};
     ghost use Rattle.vx_sector.specs.SectorData.{seat_of};
     ghost use Rattle.vx_script.specs.declared.fault.Fault.{Fault};
-    ghost use Rattle.vx_script.specs.ScriptLines.{said};
+    ghost use Rattle.vx_grammar.specs.ScriptLines.{said};
     ghost use Rattle.vx_script.specs.Transcript as transcript;
     ghost use Rattle.vx_script.specs.Transcript.{acted, body_turn, calls, done_text, edit_turn, opened_with, or_syntax, played, prepend, seat_named, tick_turn, ticked, most_ticks};
 

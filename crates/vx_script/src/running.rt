@@ -3,7 +3,7 @@ ghost use Rattle.std.specs.Io.KnownBytes.{Keeps, Appends, prepend_known};
 ghost use Rattle.vx_region.specs.Regions.{Regions};
 ghost use Rattle.vx_script.specs.Known.{Goes};
 ghost use Rattle.vx_script.specs.Lines.{lines_of};
-ghost use Rattle.vx_script.specs.ScriptLines.{said};
+ghost use Rattle.vx_grammar.specs.ScriptLines.{said};
 ghost use Rattle.vx_script.specs.Transcript.{body_run, header_end, header_run, run_from, transcript, read_of};
 
 use crate::fault::Fault;
@@ -12,7 +12,7 @@ use crate::line::Line;
 use crate::lines::{LINE_BYTES, Lines};
 use crate::play::Play;
 use crate::reading::read_line;
-use crate::unread::Unread;
+use vx_base::Unread;
 use std::alloc::Global;
 use std::io::{Read, Write};
 use std::marker::Brand;

@@ -4,7 +4,7 @@ use Rattle.std.proofs.KnownBytes.{Appends-trans}
 use Rattle.std.proofs.lemmas.Result.{err_from_is_err_and, on_ok_weaker}
 use Rattle.vx_script.specs.declared.fault.Fault.TheVariants.{Syntax}
 use Rattle.vx_script.specs.Lines.{lines_of}
-use Rattle.vx_script.specs.ScriptLines.{said}
+use Rattle.vx_grammar.specs.ScriptLines.{said}
 use Rattle.vx_script.specs.Transcript.{prepend, run_from}
 use Rattle.vx_script.proofs.Going.{if_known, of_known}
 use Rattle.vx_script.proofs.Runs.{run_begun}

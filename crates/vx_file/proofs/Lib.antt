@@ -1,0 +1,2 @@
+pub mod FileApplied
+pub mod FileLists

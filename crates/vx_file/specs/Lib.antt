@@ -1,0 +1,3 @@
+pub mod FileReads
+pub mod FileValues
+pub mod RegionsFile

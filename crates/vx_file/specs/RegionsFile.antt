@@ -1,0 +1,176 @@
+-- What a regions file means: the edits that make its policy out of the empty one.
+use Rattle.std.specs.Prelude.{◌≡◌, ℕ, pos, ◌&&◌, ◌==◌, Bool, false, if◌then◌else◌, nat_le, codes, IsUtf8, List, [], ◌∷◌, length, map, Option, Some, None}
+use Rattle.toml.specs.Data.{Data, Members as Table, integer, get_member, as_str, as_array, as_table}
+use Rattle.toml.specs.Parse.{parse_document}
+use Rattle.vx_flag.specs.Flag.{flag_text, flags}
+use Rattle.vx_flag.specs.declared.flag.Flag.{Flag}
+use Rattle.vx_geom.specs.Written.{Written, Path}
+use Rattle.vx_policy.specs.Asked.{Asked, Define, Priority, Parent, SetFlag, Owner, Member}
+use Rattle.vx_policy.specs.declared.listing.Listing.TheVariants.{Add}
+use Rattle.vx_region.specs.Regions.{global_id}
+use Rattle.vx_file.specs.FileValues.{data_of, has_only, joined, number_in, numbers_in, columns_in, corners_of, heights_of, setting_in}
+use Rattle.vx_base.specs.Then.{◌>>=◌}
+use Rattle.vx_file.specs.declared.tables.Role.{Role}
+use Rattle.vx_file.specs.declared.tables.Role.TheVariants.{Owners, Members}
+
+-- the text at a key
+unfoldable pub text_at : List ℕ → Table → Option (List ℕ)
+text_at key ms = do
+  d ← get_member key ms
+  as_str d
+
+-- what a value means that may be left out, and means no edit then
+abbrev pub if_there : (Data → Option (List Asked)) → Option Data → Option (List Asked)
+if_there f None = Some []
+if_there f (Some d) = f d
+
+-- what each of these values means, one after another
+abbrev pub in_turn : (Data → Option (List Asked)) → List Data → Option (List Asked)
+in_turn f ds = joined (map f ds)
+
+-- the polygon with these points and heights
+unfoldable pub polygon_of : Data → Data → Option Written
+polygon_of points heights = do
+  columns ← columns_in points
+  two ← numbers_in heights
+  ends ← heights_of two
+  Some (Path columns ends.0 ends.1)
+
+-- the shape that `cuboid`, `polygon` and `y` give: the first alone, or the other two
+unfoldable pub shape_of : Option Data → Option Data → Option Data → Option Written
+shape_of (Some cuboid) None None = numbers_in cuboid >>= corners_of
+shape_of None (Some polygon) (Some y) = polygon_of polygon y
+shape_of cuboid polygon y = None
+
+-- the shape of a region
+unfoldable pub shape_in : Table → Option Written
+shape_in ms = shape_of (get_member (codes "cuboid") ms) (get_member (codes "polygon") ms) (get_member (codes "y") ms)
+
+-- the keys that a region may have
+abbrev pub region_keys : List (List ℕ)
+region_keys =
+    codes "id" ∷ codes "cuboid" ∷ codes "polygon" ∷ codes "y" ∷ codes "priority" ∷ codes "parent" ∷ codes "owners" ∷ codes "members" ∷ codes "flags" ∷ []
+
+-- the definition of a region, with its id and its shape
+unfoldable pub definition_in : Table → Option Asked
+definition_in ms =
+    if has_only region_keys ms
+    then text_at (codes "id") ms >>= (λ id. shape_in ms >>= (λ shape. Some (Define id shape)))
+    else None
+
+-- the priority of the region of that id
+unfoldable pub priority_in : List ℕ → Data → Option (List Asked)
+priority_in id d = do
+  n ← number_in d
+  Some (Priority id n ∷ [])
+
+-- the parent of the region of that id
+unfoldable pub parent_in : List ℕ → Data → Option (List Asked)
+parent_in id d = do
+  parent ← as_str d
+  Some (Parent id (Some parent) ∷ [])
+
+-- one name of an owner or a member of the region of that id
+abbrev pub says : Role → List ℕ → List ℕ → Asked
+says Owners id name = Owner id Add name
+says Members id name = Member id Add name
+
+-- a value that is to be such a name
+unfoldable pub name_in : Role → List ℕ → Data → Option (List Asked)
+name_in role id d = do
+  name ← as_str d
+  Some (says role id name ∷ [])
+
+-- an array of such names
+unfoldable pub names_in : Role → List ℕ → Data → Option (List Asked)
+names_in role id d = do
+  items ← as_array d
+  in_turn (name_in role id) (data_of items)
+
+-- what a value sets one flag to
+unfoldable pub flag_in : List ℕ → Flag → Data → Option (List Asked)
+flag_in id flag d = do
+  setting ← setting_in d
+  Some (SetFlag id flag setting ∷ [])
+
+-- what a table sets the flags of the region of that id to, in the order of the list of flags
+unfoldable pub flags_in : List ℕ → Table → Option (List Asked)
+flags_in id ms =
+    if has_only (map flag_text flags) ms
+    then joined (map (λ flag. if_there (flag_in id flag) (get_member (flag_text flag) ms)) flags)
+    else None
+
+-- the same, of a value that is to be a table
+unfoldable pub flags_at : List ℕ → Data → Option (List Asked)
+flags_at id d = do
+  ms ← as_table d
+  flags_in id ms
+
+-- the priority and the parent of the region of that id
+unfoldable pub rank_in : List ℕ → Table → Option (List Asked)
+rank_in id ms =
+    joined (if_there (priority_in id) (get_member (codes "priority") ms) ∷ if_there (parent_in id) (get_member (codes "parent") ms) ∷ [])
+
+-- its owners and its members
+unfoldable pub people_in : List ℕ → Table → Option (List Asked)
+people_in id ms =
+    joined (if_there (names_in Owners id) (get_member (codes "owners") ms) ∷ if_there (names_in Members id) (get_member (codes "members") ms) ∷ [])
+
+-- what is said of a region beside its definition
+unfoldable pub changes_in : Table → Option (List Asked)
+changes_in ms = do
+  id ← text_at (codes "id") ms
+  joined (rank_in id ms ∷ people_in id ms ∷ if_there (flags_at id) (get_member (codes "flags") ms) ∷ [])
+
+-- the definition in a value that is to be a region's table
+unfoldable pub definition_at : Data → Option (List Asked)
+definition_at d = do
+  ms ← as_table d
+  definition ← definition_in ms
+  Some (definition ∷ [])
+
+-- what is said beside it there
+unfoldable pub changes_at : Data → Option (List Asked)
+changes_at d = do
+  ms ← as_table d
+  changes_in ms
+
+-- these regions: first they are all defined, then the rest of each is said
+unfoldable pub regions_of : List Data → Option (List Asked)
+regions_of ds = joined (in_turn definition_at ds ∷ in_turn changes_at ds ∷ [])
+
+-- the regions of an array
+unfoldable pub regions_in : Data → Option (List Asked)
+regions_in d = do
+  items ← as_array d
+  regions_of (data_of items)
+
+-- the keys that the file may have
+abbrev pub file_keys : List (List ℕ)
+file_keys = codes "version" ∷ codes "region" ∷ codes "global" ∷ []
+
+-- the value is the whole number 1
+abbrev pub is_one : Option Data → Bool
+is_one (Some (integer (pos n))) = n == 1
+is_one d = false
+
+-- the regions of a document, then the flags of the world at large
+unfoldable pub contents_in : Table → Option (List Asked)
+contents_in ms =
+    joined (if_there regions_in (get_member (codes "region") ms) ∷ if_there (flags_at global_id) (get_member (codes "global") ms) ∷ [])
+
+-- the edits that a document of version 1 means
+unfoldable pub edits_in_table : Table → Option (List Asked)
+edits_in_table ms = if has_only file_keys ms && is_one (get_member (codes "version") ms) then contents_in ms else None
+
+-- how many bytes a regions file may have
+abbrev pub most_bytes : ℕ
+most_bytes = 1048576
+
+-- the edits that the bytes of a regions file mean
+unfoldable pub edits_in : List ℕ → Option (List Asked)
+edits_in bytes = if nat_le (length bytes) most_bytes then parse_document bytes >>= edits_in_table else None
+
+-- the bytes are text, and a regions file that means these edits
+abbrev pub FileSays : List ℕ → List Asked → Type 0
+FileSays bytes edits = IsUtf8 bytes × (edits_in bytes ≡ Some edits)

@@ -1,0 +1,195 @@
+//! What the table of a region means.
+ghost use Rattle.std.specs.Prelude.{◌≡◌, [], ◌∷◌, map, Some, None, option_map, option_copied, string_bytes};
+ghost use Rattle.toml.specs.Data.{get_member};
+ghost use Rattle.toml.specs.View.{view, table_view};
+ghost use Rattle.vx_policy.specs.Asked.{asked};
+ghost use Rattle.vx_file.specs.FileReads.{Adds};
+ghost use Rattle.vx_file.specs.RegionsFile.{if_there, in_turn, text_at, says, definition_in, definition_at, priority_in, parent_in, name_in, names_in, rank_in, people_in, changes_in, changes_at};
+ghost use Rattle.vx_base.specs.Unread.{Gives};
+
+use crate::edits::add;
+use crate::flags::flags;
+use crate::keys::{has_only, text_at, value_at};
+use crate::shapes::shape;
+use crate::values::number;
+use vx_base::Unread;
+use std::alloc::Global;
+use toml::{Table, Value};
+use vx_policy::{Edit, Listing};
+
+/// The keys that a region may have.
+const REGION_KEYS: [&str; 9] = [
+    "id", "cuboid", "polygon", "y", "priority", "parent", "owners", "members", "flags",
+];
+
+/// What a name in a region's table is of.
+#[derive(Clone, Copy, Debug)]
+enum Role {
+    Owners,
+    Members,
+}
+
+/// Adds the definition of a region.
+#[tactic(auto, unfolding(crate::specs::RegionsFile::definition_at))]
+pub fn definition(alloc: Global, value: &Value, edits: &mut Vec<Edit>) -> Result<(), Unread>
+    ensures { Adds result edits.old.items edits.new.items (definition_at (view value.now)) }
+{
+    let Some(table) = value.as_table() else {
+        return Err(Unread::Faulty);
+    };
+    let edit = definition_of(alloc, table)?;
+    add(edits, edit)
+}
+
+#[tactic(auto, unfolding(crate::specs::RegionsFile::definition_in))]
+fn definition_of(alloc: Global, table: &Table) -> Result<Edit, Unread>
+    ensures { Gives asked result (definition_in (table_view table.now)) }
+{
+    if !has_only(table, &REGION_KEYS) {
+        return Err(Unread::Faulty);
+    }
+    let Some(id) = text_at(table, "id") else {
+        return Err(Unread::Faulty);
+    };
+    let shape = shape(alloc, table)?;
+    Ok(Edit::Define(String::from_str(alloc, id)?, shape))
+}
+
+/// Adds what is said of a region beside its definition.
+#[tactic(auto, unfolding(crate::specs::RegionsFile::changes_at))]
+pub fn changes(alloc: Global, value: &Value, edits: &mut Vec<Edit>) -> Result<(), Unread>
+    ensures { Adds result edits.old.items edits.new.items (changes_at (view value.now)) }
+{
+    let Some(table) = value.as_table() else {
+        return Err(Unread::Faulty);
+    };
+    changes_of(alloc, table, edits)
+}
+
+#[tactic(auto, unfolding(crate::specs::RegionsFile::changes_in))]
+fn changes_of(alloc: Global, table: &Table, edits: &mut Vec<Edit>) -> Result<(), Unread>
+    ensures { Adds result edits.old.items edits.new.items (changes_in (table_view table.now)) }
+{
+    let Some(id) = text_at(table, "id") else {
+        return Err(Unread::Faulty);
+    };
+    rank(alloc, id, table, edits)?;
+    people(alloc, id, table, edits)?;
+    flags(alloc, id, value_at(table, "flags"), edits)
+}
+
+#[tactic(auto, unfolding(crate::specs::RegionsFile::rank_in))]
+fn rank(alloc: Global, id: &str, table: &Table, edits: &mut Vec<Edit>) -> Result<(), Unread>
+    ensures { Adds result edits.old.items edits.new.items (rank_in id.now (table_view table.now)) }
+{
+    priority(alloc, id, value_at(table, "priority"), edits)?;
+    parent(alloc, id, value_at(table, "parent"), edits)
+}
+
+#[tactic(auto, unfolding(crate::specs::RegionsFile::people_in))]
+fn people(alloc: Global, id: &str, table: &Table, edits: &mut Vec<Edit>) -> Result<(), Unread>
+    ensures { Adds result edits.old.items edits.new.items (people_in id.now (table_view table.now)) }
+{
+    names(alloc, Role::Owners, id, value_at(table, "owners"), edits)?;
+    names(alloc, Role::Members, id, value_at(table, "members"), edits)
+}
+
+#[tactic(auto, unfolding(crate::specs::RegionsFile::priority_in))]
+fn priority(
+    alloc: Global,
+    id: &str,
+    value: Option<&Value>,
+    edits: &mut Vec<Edit>,
+) -> Result<(), Unread>
+    ensures { Adds result edits.old.items edits.new.items (if_there (priority_in id.now) (option_map (λ v. view v.now) value.entry)) }
+{
+    let Some(value) = value else {
+        return Ok(());
+    };
+    let Some(priority) = number(value) else {
+        return Err(Unread::Faulty);
+    };
+    let id = String::from_str(alloc, id)?;
+    add(edits, Edit::Priority(id, priority))
+}
+
+#[tactic(auto, unfolding(crate::specs::RegionsFile::parent_in))]
+fn parent(
+    alloc: Global,
+    id: &str,
+    value: Option<&Value>,
+    edits: &mut Vec<Edit>,
+) -> Result<(), Unread>
+    ensures { Adds result edits.old.items edits.new.items (if_there (parent_in id.now) (option_map (λ v. view v.now) value.entry)) }
+{
+    let Some(value) = value else {
+        return Ok(());
+    };
+    let Some(parent) = value.as_str() else {
+        return Err(Unread::Faulty);
+    };
+    let id = String::from_str(alloc, id)?;
+    let parent = String::from_str(alloc, parent)?;
+    add(edits, Edit::Parent(id, Some(parent)))
+}
+
+#[tactic(auto, unfolding(crate::specs::RegionsFile::names_in), using(crate::proofs::FileLists::data_of_view))]
+fn names(
+    alloc: Global,
+    role: Role,
+    id: &str,
+    value: Option<&Value>,
+    edits: &mut Vec<Edit>,
+) -> Result<(), Unread>
+    ensures { Adds result edits.old.items edits.new.items (if_there (names_in role id.now) (option_map (λ v. view v.now) value.entry)) }
+{
+    let Some(value) = value else {
+        return Ok(());
+    };
+    let Some(values) = value.as_array() else {
+        return Err(Unread::Faulty);
+    };
+    each_name(alloc, role, id, values, edits)
+}
+
+fn each_name(
+    alloc: Global,
+    role: Role,
+    id: &str,
+    values: &[Value],
+    edits: &mut Vec<Edit>,
+) -> Result<(), Unread>
+    ensures { Adds result edits.old.items edits.new.items (in_turn (name_in role id.now) (map view values.now)) }
+{
+    for value in values {
+        name(alloc, role, id, value, edits)?;
+    }
+    Ok(())
+}
+
+#[tactic(auto, unfolding(crate::specs::RegionsFile::name_in))]
+fn name(
+    alloc: Global,
+    role: Role,
+    id: &str,
+    value: &Value,
+    edits: &mut Vec<Edit>,
+) -> Result<(), Unread>
+    ensures { Adds result edits.old.items edits.new.items (name_in role id.now (view value.now)) }
+{
+    let Some(name) = value.as_str() else {
+        return Err(Unread::Faulty);
+    };
+    let id = String::from_str(alloc, id)?;
+    let name = String::from_str(alloc, name)?;
+    add(edits, listed(role, id, name))
+}
+
+fn listed(role: Role, id: String, name: String) -> Edit
+    ensures { asked result ≡ says role (string_bytes id) (string_bytes name) }
+{
+    match role {
+        Role::Owners => Edit::Owner(id, Listing::Add, name),
+        Role::Members => Edit::Member(id, Listing::Add, name),
+    }
+}

@@ -1,0 +1,4 @@
+pub mod Cuts
+pub mod Points
+pub mod Printables
+pub mod Spelled

@@ -1,0 +1,69 @@
+ghost use Rattle.std.specs.Prelude.{◌≡◌, option_map};
+ghost use Rattle.vx_grammar.specs.Readings.{Reads, at_end, byte_at, item_at, coordinate_at, position_at, part_at, name_at};
+
+use crate::number::{read_i32, read_u8, read_u16};
+use crate::words::Words;
+use vx_block::Part;
+use vx_geom::Pos;
+use vx_region::Name;
+
+/// Reads a number from 0 to 255.
+#[tactic(auto, unfolding(crate::specs::Readings::byte_at))]
+pub fn byte(words: &mut Words) -> Option<u8>
+    ensures { Reads result words.new (byte_at words.old) }
+{
+    read_u8(words.next()?)
+}
+
+/// Reads the number of an item, from 0 to 65535.
+#[tactic(auto, unfolding(crate::specs::Readings::item_at))]
+pub fn item(words: &mut Words) -> Option<u16>
+    ensures { Reads result words.new (item_at words.old) }
+{
+    read_u16(words.next()?)
+}
+
+/// Reads a position: x, y and z.
+#[tactic(auto, unfolding(crate::specs::Readings::position_at))]
+pub fn position(words: &mut Words) -> Option<Pos>
+    ensures { Reads result words.new (position_at words.old) }
+{
+    let x = coordinate(words)?;
+    let y = coordinate(words)?;
+    let z = coordinate(words)?;
+    Some(Pos { y, z, x })
+}
+
+/// Reads a part by its text.
+#[tactic(auto, unfolding(crate::specs::Readings::part_at))]
+pub fn part(words: &mut Words) -> Option<Part>
+    ensures { Reads result words.new (part_at words.old) }
+{
+    Part::read(words.next()?)
+}
+
+/// Reads a player's name.
+#[tactic(auto, unfolding(crate::specs::Readings::name_at))]
+pub fn name(words: &mut Words) -> Option<Name>
+    ensures { Reads (option_map (λ name. name.text.bytes) result) words.new (name_at words.old) }
+{
+    Name::read(words.next()?).ok()
+}
+
+/// The value, where no word is left.
+pub fn at_end<X: Drop>(words: &mut Words, value: X) -> Option<X>
+    ensures { result ≡ at_end words.old value }
+{
+    match words.next() {
+        None => Some(value),
+        Some(_) => None,
+    }
+}
+
+/// Reads a number of 32 bits.
+#[tactic(auto, unfolding(crate::specs::Readings::coordinate_at))]
+pub fn coordinate(words: &mut Words) -> Option<i32>
+    ensures { Reads result words.new (coordinate_at words.old) }
+{
+    read_i32(words.next()?)
+}

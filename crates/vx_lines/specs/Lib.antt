@@ -1,0 +1,3 @@
+pub mod Buffered
+pub mod Lines
+pub mod Reading

@@ -1,7 +1,7 @@
 use Rattle.std.proofs.Common.{◌≡◌}
-use Rattle.vx_script.specs.Transcript.{renewed_by}
-use Rattle.vx_script.proofs.Renewals.{changed_up_to}
-use Rattle.vx_script.proofs.play.renew_sectors.Given as goal
+use Rattle.vx_play.specs.Plays.{renewed_by}
+use Rattle.vx_play.proofs.Renewals.{changed_up_to}
+use Rattle.vx_play.proofs.play.renew_sectors.Given as goal
 
 -- the sectors so far are renewed, and the others as they were
 abbrev pub invariant-loop-sector : goal.invariant-loop-sector

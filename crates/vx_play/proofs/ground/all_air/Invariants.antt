@@ -1,6 +1,6 @@
 use Rattle.std.proofs.Common.{◌≡◌, length}
-use Rattle.vx_script.specs.Grounds.{airs}
-use Rattle.vx_script.proofs.header.all_air.Given as goal
+use Rattle.vx_play.specs.Grounds.{airs}
+use Rattle.vx_play.proofs.ground.all_air.Given as goal
 
 -- the sectors up to this number
 abbrev pub invariant-loop-number : goal.invariant-loop-number

@@ -1,6 +1,6 @@
 ghost use Rattle.std.specs.Prelude.{◌≡◌, ◌<◌, length, IfSome};
 ghost use Rattle.vx_region.specs.Texts.{texts};
-ghost use Rattle.vx_script.specs.Transcript.{number_from};
+ghost use Rattle.vx_play.specs.Plays.{number_from};
 
 use vx_region::Name;
 

@@ -1,7 +1,7 @@
 use Rattle.std.proofs.Common.{◌≡◌, drop}
 use Rattle.vx_region.specs.Texts.{texts}
-use Rattle.vx_script.specs.Transcript.{number_from}
-use Rattle.vx_script.proofs.names.number_of.Given as goal
+use Rattle.vx_play.specs.Plays.{number_from}
+use Rattle.vx_play.proofs.names.number_of.Given as goal
 
 -- no name so far is the one
 abbrev pub invariant-loop-number : goal.invariant-loop-number

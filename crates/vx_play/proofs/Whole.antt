@@ -1,0 +1,174 @@
+-- What a world at play does keeps each of its sectors in its place.
+use Rattle.std.proofs.Common.{◌≡◌, ◌≢◌, ℕ, zero, suc, ◌*◌, ◌≤◌, Bool, true, false, List, [], ◌∷◌, ◌++◌, length, map, set, slice_get, Option, Some, None, option_map, Result, Ok, Err, if◌then◌else◌, refl, sym, ap, ◌∙◌, subst, inl, inr, arith}
+use Rattle.std.specs.Option.{option_and_then}
+use Rattle.std.proofs.Math.Nat.{mul-le-mul}
+use Rattle.std.proofs.lemmas.Bool.{cases_Bool}
+use Rattle.std.proofs.lemmas.List.{map-set, length-set, length-map}
+use Rattle.std.proofs.lemmas.Option.{slice_get-map}
+use Rattle.vx_block.specs.declared.part.Part.{Part}
+use Rattle.vx_block.specs.Part.{part_cell}
+use Rattle.vx_geom.specs.declared.pos.Pos.{Pos}
+use Rattle.vx_geom.specs.Sizes.{Sizes, AreSizes, sector_count, sector_of, is_inside}
+use Rattle.vx_geom.proofs.SectorLemmas.{held_at, in_sector}
+use Rattle.vx_cells.specs.SectorCells.{SectorCells, holds, with_block, with_cell}
+use Rattle.vx_policy.specs.declared.version.Version.{Version}
+use Rattle.vx_region.specs.Regions.{Regions}
+use Rattle.vx_sector.specs.Acting.{applied, effect_by}
+use Rattle.vx_sector.specs.Commands.{place_of}
+use Rattle.vx_sector.specs.Windows.{answer_of, is_recorded, sector_after, renewed}
+use Rattle.vx_sector.specs.SectorData.{SectorData, SeatData}
+use Rattle.vx_sector.specs.declared.cmd.Cmd.{Cmd}
+use Rattle.vx_sector.specs.declared.effect.Effect.{Effect}
+use Rattle.vx_sector.specs.declared.effect.Effect.TheVariants.{Same, NewCell, NewSlot}
+use Rattle.vx_sector.specs.declared.reply.Reply.{Reply}
+use Rattle.vx_sector.specs.declared.refusal.Refusal.{Refusal}
+use Rattle.vx_sector.specs.declared.refusal.Refusal.TheVariants.{OutOfWorld}
+use Rattle.vx_sector.proofs.Outside.{inside_is_not_refused}
+use Rattle.vx_play.specs.Grounds.{GroundData, airs, bare, set_in, with_part, AreSectors, IsGround}
+use Rattle.vx_play.specs.Plays.{PlayData, cells_of, IsWorld, opened, opened_by, opened_with, sector_asked, answered, answered_at, answer_in, left_in, renewed_by, next_version}
+use Rattle.vx_play.specs.Laws.{WorldsBeginWhole, CommandsKeepWorlds, TicksKeepWorlds, OutOfWorldIsOutside}
+use Rattle.vx_play.proofs.Placed.{placed_at, placed_again, airs_count, airs_placed, holds_found, found_within}
+use Rattle.vx_play.proofs.Renewals.{changed_up_to}
+
+-- another sector in the place of one, with the same number
+again : (sizes : Sizes) (cs : List SectorCells) (k : ℕ) (c d : SectorCells) → AreSectors sizes cs → slice_get cs k ≡ Some c
+    → d.bounds ≡ c.bounds → d.sector ≡ c.sector → AreSectors sizes (set cs k d)
+again sizes cs k c d are found bounds sector = record {
+  valid = are.valid;
+  all = length-set cs k d ∙ are.all;
+  each = placed_again sizes 0 k cs c d are.each found bounds sector;
+}
+
+-- nothing but air has each sector in its place
+pub air_is_ground : (sizes : Sizes) → AreSizes sizes → IsGround (bare sizes)
+air_is_ground sizes valid = record { valid = valid; all = airs_count sizes (sector_count sizes); each = airs_placed sizes (sector_count sizes) }
+
+-- a cell that is set keeps the sectors in their places
+module _ (g next : GroundData) (p : Pos) (part : Part) (ground : IsGround g) where
+  set_whole : (k : ℕ) (c : Option SectorCells) → slice_get g.sectors k ≡ c → set_in g p part k c ≡ Some next → IsGround next
+  unfolding with_block
+  set_whole k None found made = cc
+  set_whole k (Some c) found made = by (holds c p) made
+    where
+      by : (b : Bool) → (if b then Some (record g { sectors = set g.sectors k (with_cell c p (part_cell part)) }) else None) ≡ Some next → IsGround next
+      by false made = cc
+      by true made =
+          let same : record g { sectors = set g.sectors k (with_cell c p (part_cell part)) } ≡ next = cc in
+          subst IsGround same (again g.sizes g.sectors k c (with_cell c p (part_cell part)) ground found refl refl)
+
+  pub part_keeps_ground : with_part g p part ≡ Some next → IsGround next
+  unfolding with_part
+  part_keeps_ground made = by (sector_of g.sizes p) made
+    where
+      by : (k : Option ℕ) → option_and_then (λ k. set_in g p part k (slice_get g.sectors k)) k ≡ Some next → IsGround next
+      by None made = cc
+      by (Some k) made = set_whole k (slice_get g.sectors k) refl made
+
+-- the world that is made has the sectors of the ground
+pub cells_opened : (v : Version) (cs : List SectorCells) → map cells_of (map (opened_by v) cs) ≡ cs
+cells_opened v [] = refl
+cells_opened v (c ∷ cs) = ap (λ ds. c ∷ ds) (cells_opened v cs)
+
+pub worlds_begin_whole : WorldsBeginWhole
+worlds_begin_whole rs ground names whole = subst (AreSectors ground.sizes) (sym (cells_opened _ ground.sectors)) whole
+
+-- a command keeps the bounds and the number of its sector
+same_bounds : (c : SectorCells) (p : Pos) (effect : Effect) → (applied c p effect).bounds ≡ c.bounds
+unfolding with_block
+same_bounds c p Same = refl
+same_bounds c p (NewCell cell) = refl
+same_bounds c p (NewSlot slot content) = refl
+
+same_number : (c : SectorCells) (p : Pos) (effect : Effect) → (applied c p effect).sector ≡ c.sector
+unfolding with_block
+same_number c p Same = refl
+same_number c p (NewCell cell) = refl
+same_number c p (NewSlot slot content) = refl
+
+after_bounds : (s : SectorData) (seat : SeatData) (cmd : Cmd) (answer : Result Reply Refusal) → (sector_after s seat cmd answer).cells.bounds ≡ s.cells.bounds
+unfolding sector_after
+after_bounds s seat cmd answer = elim (cases_Bool (is_recorded answer)) [ inl traced ↦ rw traced (same_bounds s.cells (place_of cmd) (effect_by s.cells cmd answer)) | inr none ↦ rw none refl ]
+
+after_number : (s : SectorData) (seat : SeatData) (cmd : Cmd) (answer : Result Reply Refusal) → (sector_after s seat cmd answer).cells.sector ≡ s.cells.sector
+unfolding sector_after
+after_number s seat cmd answer = elim (cases_Bool (is_recorded answer)) [ inl traced ↦ rw traced (same_number s.cells (place_of cmd) (effect_by s.cells cmd answer)) | inr none ↦ rw none refl ]
+
+pub commands_keep_worlds : CommandsKeepWorlds
+unfolding answered
+commands_keep_worlds play seat cmd whole = by (sector_asked play cmd)
+  where
+    in_sector_of : (k : ℕ) (s : Option SectorData) → slice_get play.sectors k ≡ s → AreSectors play.sizes (map cells_of (left_in play.sectors k seat cmd s))
+    in_sector_of k None found = whole
+    in_sector_of k (Some s) found =
+        let next = sector_after s seat cmd (answer_of s seat cmd) in
+        subst (AreSectors play.sizes) (sym (map-set cells_of play.sectors k next))
+        (again play.sizes (map cells_of play.sectors) k s.cells next.cells whole (slice_get-map cells_of play.sectors k ∙ ap (option_map cells_of) found) (after_bounds s seat cmd _) (after_number s seat cmd _))
+
+    by : (k : Option ℕ) → AreSectors play.sizes (map cells_of (answered_at play.sectors seat cmd k).1)
+    by None = whole
+    by (Some k) = in_sector_of k (slice_get play.sectors k) refl
+
+cells_renewed : (v : Version) (ss : List SectorData) → map cells_of (map (renewed_by v) ss) ≡ map cells_of ss
+unfolding renewed
+cells_renewed v [] = refl
+cells_renewed v (s ∷ ss) = ap (λ cs. s.cells ∷ cs) (cells_renewed v ss)
+
+pub ticks_keep_worlds : TicksKeepWorlds
+ticks_keep_worlds play whole = subst (AreSectors play.sizes) (sym (cells_renewed (next_version play) play.sectors)) whole
+
+-- inside the world a command meets the sector that holds its position
+met_inside : (play : PlayData) (seat : SeatData) (cmd : Cmd) (k : ℕ) → IsWorld play → sector_of play.sizes (place_of cmd) ≡ Some k
+    → (answered_at play.sectors seat cmd (Some k)).0 ≢ Err OutOfWorld
+met_inside play seat cmd k whole found same =
+    let below = (in_sector play.sizes (place_of cmd) k whole.valid (held_at play.sizes (place_of cmd) k whole.valid found)).0 in
+    let there = found_within play.sectors k (omega (arith, below, whole.all, length-map play.sectors cells_of)) in
+    let placed = placed_at play.sizes 0 k (map cells_of play.sectors) there.0.cells whole.each (slice_get-map cells_of play.sectors k ∙ ap (option_map cells_of) there.1) in
+    let number : there.0.cells.sector ≡ k = omega (arith, placed.1) in
+    let held = holds_found there.0.cells (place_of cmd) k (ap (λ sizes. sector_of sizes (place_of cmd)) placed.0 ∙ found) number in
+    inside_is_not_refused there.0 seat cmd held (ap (answer_in seat cmd) (sym there.1) ∙ same)
+
+pub out_of_world_is_outside : OutOfWorldIsOutside
+unfolding answered sector_asked sector_of
+out_of_world_is_outside play seat cmd whole = (outside, λ other. rw other refl)
+  where
+    outside : (answered play seat cmd).0 ≡ Err OutOfWorld → is_inside play.sizes (place_of cmd) ≡ false
+    outside same = elim (cases_Bool (is_inside play.sizes (place_of cmd))) [
+      | inl inside ↦ absurd (met_inside play seat cmd _ whole (rw inside refl) (rw inside at same))
+      | inr other ↦ other
+    ]
+
+-- sectors that are renewed, and those that are not yet, keep their cells
+pub renewals_keep_cells : (v : Version) (i : ℕ) (ss : List SectorData) → map cells_of (changed_up_to (renewed_by v) i ss) ≡ map cells_of ss
+unfolding renewed
+renewals_keep_cells v i [] = refl
+renewals_keep_cells v zero (s ∷ ss) = refl
+renewals_keep_cells v (suc i) (s ∷ ss) = ap (λ cs. s.cells ∷ cs) (renewals_keep_cells v i ss)
+
+-- a world has 64 sectors at most
+pub few_sectors : (sizes : Sizes) (ss : List SectorData) → AreSectors sizes (map cells_of ss) → length ss ≤ 64
+few_sectors sizes ss are = omega (arith, length-map ss cells_of, are.all, mul-le-mul are.valid.sx_most are.valid.sz_most)
+
+-- a part is set in the sector that holds its position
+pub part_is_set : (g : GroundData) (p : Pos) (part : Part) (k : ℕ) (c d : SectorCells) → sector_of g.sizes p ≡ Some k → slice_get g.sectors k ≡ Some c
+    → holds c p ≡ true → d ≡ with_cell c p (part_cell part) → with_part g p part ≡ Some (record g { sectors = set g.sectors k d })
+unfolding with_part
+part_is_set g p part k c d found there held made =
+    ap (option_and_then (λ k. set_in g p part k (slice_get g.sectors k))) found
+    ∙ ap (set_in g p part k) there
+    ∙ ap (λ b. if b then Some (record g { sectors = set g.sectors k (with_cell c p (part_cell part)) }) else None) held
+    ∙ ap (λ d. Some (record g { sectors = set g.sectors k d })) (sym made)
+
+-- a command is answered in the sector of its position
+module _ (play : PlayData) (seat : SeatData) (cmd : Cmd) (k : ℕ) (s : SectorData) (found : sector_of play.sizes (place_of cmd) ≡ Some k) (there : slice_get play.sectors k ≡ Some s) where
+  pub answered_there : answered play seat cmd ≡ (answer_of s seat cmd, set play.sectors k (sector_after s seat cmd (answer_of s seat cmd)))
+  unfolding answered sector_asked
+  answered_there =
+      ap (answered_at play.sectors seat cmd) found
+      ∙ ap (λ o. (answer_in seat cmd o, left_in play.sectors k seat cmd o)) there
+
+  -- whatever it answered, each sector stays in its place
+  pub answer_keeps_world : (answer : Result Reply Refusal) → IsWorld play → AreSectors play.sizes (map cells_of (set play.sectors k (sector_after s seat cmd answer)))
+  answer_keeps_world answer whole =
+      let next = sector_after s seat cmd answer in
+      subst (AreSectors play.sizes) (sym (map-set cells_of play.sectors k next))
+      (again play.sizes (map cells_of play.sectors) k s.cells next.cells whole (slice_get-map cells_of play.sectors k ∙ ap (option_map cells_of) there) (after_bounds s seat cmd answer) (after_number s seat cmd answer))

@@ -1,0 +1,3 @@
+pub mod Grounds
+pub mod Laws
+pub mod Plays

@@ -1,0 +1,14 @@
+//! The world at play on one thread: its sectors in their places, its players, and the desk of its policy. It knows no script and
+//! no writer.
+#![tactic(auto)]
+
+mod ground;
+pub mod laws;
+mod names;
+mod play;
+mod tick_error;
+
+pub use ground::Ground;
+pub use names::number_of;
+pub use play::{MAX_PLAYERS, Play};
+pub use tick_error::TickError;

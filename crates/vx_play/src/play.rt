@@ -1,0 +1,194 @@
+ghost use Rattle.std.specs.Prelude.{◌≡◌, map, vec_len, IfOk, OnOk};
+ghost use Rattle.vx_play.specs.Plays.{cells_of, window_over, opened_by, renewed_by};
+
+use crate::ground::Ground;
+use crate::names::number_of;
+use crate::tick_error::TickError;
+use std::alloc::{AllocError, Global};
+use std::marker::Model;
+use vx_board::{DeskError, DeskState, Edited, Naming};
+use vx_cells::Cells;
+use vx_geom::Bounds;
+use vx_policy::{Edit, Policy, Version};
+use vx_region::Name;
+use vx_sector::{Cmd, Fresh, Refusal, Reply, Seat, Sector};
+
+/// How many players a world may have.
+pub const MAX_PLAYERS: usize = 16;
+
+/// How many ticks a world may have.
+const MAX_TICKS: u64 = 1_099_511_627_776;
+
+/// A world at play: its sectors in their places, its players in order of their seats, and the desk where its policy is edited.
+#[derive(Drop)]
+pub struct Play<J: Naming> {
+    bounds: Bounds,
+    sectors: Vec<Sector>,
+    names: Vec<Name>,
+    desk: DeskState<J>,
+    ticks: u64,
+}
+
+impl<J: Naming> Model for Play<J> {
+    ghost use Rattle.std.specs.Prelude.{◌≤◌, vec_len, map};
+    ghost use Rattle.vx_region.specs.Texts.{texts};
+    ghost use Rattle.vx_play.specs.Grounds.{AreSectors};
+    ghost use Rattle.vx_play.specs.Plays.{PlayData, cells_of, most_ticks};
+    ghost use Rattle.vx_play.specs.declared.play.TheConstants.{MAX_PLAYERS};
+
+    ghost Value = { PlayData };
+
+    ghost view = { λ a. record {
+      sizes = a.bounds;
+      sectors = a.sectors.items;
+      names = texts a.names.items;
+      first = J.first;
+      accepted = a.desk;
+      ticks = a.ticks;
+    } };
+
+    ghost invariant = { λ a. (vec_len a.names ≤ MAX_PLAYERS) × (a.ticks ≤ most_ticks)
+        × AreSectors a.bounds (map cells_of a.sectors.items) };
+}
+
+impl<J: Naming> Play<J> {
+    ghost use Rattle.std.specs.Prelude.{◌≢◌, ◌⊎◌, ◌<◌, ◌≤◌, ◌+◌, ◌++◌, ◌∷◌, ◌↔◌, [], Err, length, option_map, OnErr};
+    ghost use Rattle.vx_board.specs.Accepted.{IsAnswer};
+    ghost use Rattle.vx_policy.specs.Asked.{asked};
+    ghost use Rattle.vx_region.specs.Texts.{texts};
+    ghost use Rattle.vx_sector.specs.SectorData.{seat_of};
+    ghost use Rattle.vx_play.specs.declared.tick_error.TickError.TheVariants.{HistoryFull};
+    ghost use Rattle.vx_play.specs.Plays.{IsWorld, answered, calls, opened, policy_of, seat_named, ticked, most_ticks};
+
+    /// The world of this ground under this policy, with nothing done yet.
+    pub fn open(
+        alloc: Global,
+        ground: Ground,
+        names: Vec<Name>,
+        policy: Policy,
+    ) -> Result<Play<J>, AllocError>
+        requires named { policy ≡ J.first }
+        requires seats { vec_len names ≤ MAX_PLAYERS }
+        ensures { IfOk result (λ play. play ≡ opened J.first ground (texts names.items)) }
+    {
+        let (bounds, cells) = ground.into_parts();
+        let desk = DeskState::new(alloc, policy);
+        let version = desk.fix(1)?;
+        let sectors = open_sectors(alloc, cells, &version)?;
+        Ok(Play {
+            bounds,
+            sectors,
+            names,
+            desk,
+            ticks: 0,
+        })
+    }
+
+    /// The seat of the player of that name.
+    #[tactic(auto, unfolding(crate::specs::Plays::seat_named))]
+    pub fn seat(&self, name: &Name) -> Option<Seat>
+        ensures { option_map seat_of result ≡ seat_named self.now name.now.text.bytes }
+    {
+        let number = number_of(&self.names, name)?;
+        Some(Seat {
+            number: number as u8,
+            name: *name,
+        })
+    }
+
+    /// Carries out a command in the sector of its position, by the rules of docs/RULES.md; refused where it is outside the world.
+    #[tactic(auto, unfolding(crate::specs::Plays::answered, crate::specs::Plays::sector_asked))]
+    pub fn act(&mut self, seat: Seat, cmd: Cmd) -> Result<Reply, Refusal>
+        ensures answer { (result ≡ (answered self.old (seat_of seat) cmd).0)
+            ⊎ (result ≡ Err Refusal.NoMemory) }
+        ensures after { result ≢ Err Refusal.NoMemory
+            → self.new ≡ record self.old { sectors = (answered self.old (seat_of seat) cmd).1 } }
+    {
+        let Some(number) = self.bounds.sector_of(cmd.place()) else {
+            return Err(Refusal::OutOfWorld);
+        };
+        let Some(sector) = self.sectors.get_mut(number as usize) else {
+            return Err(Refusal::OutOfWorld);
+        };
+        sector.act(seat, cmd)
+    }
+
+    /// Accepts an edit, which counts from the next tick on, or refuses it. A refusal, for want of memory too, leaves all as it was.
+    pub fn edit(&mut self, alloc: Global, edit: Edit) -> Result<Edited, DeskError>
+        ensures answer { IsAnswer (policy_of self.old) (length self.old.accepted) (asked edit) result }
+        ensures ok { OnOk result
+            (self.new ≡ record self.old { accepted = self.old.accepted ++ asked edit ∷ [] }) }
+        ensures err { OnErr result (self.new ≡ self.old) }
+    {
+        self.desk.apply(alloc, edit)
+    }
+
+    /// Begins the next window of each sector, by the policy after the edits so far, and answers how many ticks there were. For want
+    /// of memory some sectors may be in their next window, and others not.
+    pub fn tick(&mut self, alloc: Global) -> Result<u64, TickError>
+        ensures ok { OnOk result (self.new ≡ ticked self.old) }
+        ensures count { IfOk result (λ ticks. ticks ≡ self.new.ticks) }
+        ensures full { (result ≡ Err HistoryFull) ↔ (most_ticks ≤ self.old.ticks) }
+    {
+        if MAX_TICKS <= self.ticks {
+            return Err(TickError::HistoryFull);
+        }
+        let version = self.desk.fix(self.ticks + 2)?;
+        renew_sectors(alloc, &mut self.sectors, &version)?;
+        self.ticks += 1;
+        Ok(self.ticks)
+    }
+
+    /// How many ticks there were.
+    pub fn ticks(&self) -> u64
+        ensures value { result ≡ self.now.ticks }
+        ensures whole { IsWorld self.now }
+    {
+        self.ticks
+    }
+
+    /// How many commands were recorded, in all sectors and windows.
+    pub fn calls(&self) -> u64
+        ensures { result ≡ calls self.now }
+    {
+        let mut calls = 0;
+        for sector in &self.sectors {
+            calls += sector.count();
+        }
+        calls
+    }
+}
+
+// The sectors as a world opens, judged by this version.
+fn open_sectors(
+    alloc: Global,
+    cells: Vec<Cells>,
+    version: &Version,
+) -> Result<Vec<Sector>, AllocError>
+    ensures { IfOk result (λ sectors. sectors.items ≡ map (opened_by version.now) cells.items) }
+{
+    let mut sectors = Vec::with_capacity(alloc, cells.len())?;
+    for cells in cells {
+        sectors.push(Sector::new(fresh(alloc, &cells, version)?))?;
+    }
+    Ok(sectors)
+}
+
+// Begins the next window of each sector, judged by this version.
+fn renew_sectors(alloc: Global, sectors: &mut [Sector], version: &Version) -> Result<(), AllocError>
+    ensures renewed { OnOk result (sectors.new ≡ map (renewed_by version.now) sectors.old) }
+    ensures cells { map cells_of sectors.new ≡ map cells_of sectors.old }
+{
+    for sector in sectors.iter_mut() {
+        let fresh = fresh(alloc, sector.cells(), version)?;
+        let _closed = sector.renew(fresh);
+    }
+    Ok(())
+}
+
+// What a window over a copy of these cells begins with.
+fn fresh(alloc: Global, cells: &Cells, version: &Version) -> Result<Fresh, AllocError>
+    ensures { IfOk result (λ fresh. fresh ≡ window_over version.now cells.now) }
+{
+    Fresh::new(alloc, cells.bounds(), cells.sector(), cells, version)
+}

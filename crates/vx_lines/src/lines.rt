@@ -87,6 +87,7 @@ impl Lines {
         ensures long { result ≡ Err TooLong
             → (self.new.number ≡ self.old.number)
             × ((more : List ℕ) → IsNextLong MAX_LINE_BYTES (pending self.old ++ more)) }
+        ensures within { IfOk result (λ _. self.new.number ≤ MAX_SCRIPT_BYTES) }
     {
         begin(&mut self.line, &mut self.open);
         let found = self.input.take_line(&mut self.line)?;
@@ -116,7 +117,8 @@ impl Lines {
         requires { self.old.rest ≡ [] }
         ensures line { result ≡ true → (lines_of (pending self.old) ≡ self.new.line ∷ [])
             × (self.new.number ≡ self.old.number + 1) }
-        ensures end { result ≡ false → pending self.old ≡ [] }
+        ensures end { result ≡ false → (pending self.old ≡ []) × (self.new.number ≡ self.old.number) }
+        ensures within { self.new.number ≤ MAX_SCRIPT_BYTES }
         ensures all { result ≡ true → pending self.new ≡ [] }
     {
         if !self.open || self.line.is_empty() {

@@ -1,7 +1,6 @@
 -- What a world at play does keeps each of its sectors in its place.
-use Rattle.std.proofs.Common.{◌≡◌, ◌≢◌, ℕ, zero, suc, ◌*◌, ◌≤◌, Bool, true, false, List, [], ◌∷◌, ◌++◌, length, map, set, slice_get, Option, Some, None, option_map, Result, Ok, Err, if◌then◌else◌, refl, sym, ap, ◌∙◌, subst, inl, inr, arith}
+use Rattle.std.proofs.Common.{◌≡◌, ◌≢◌, ℕ, zero, suc, Bool, true, false, List, [], ◌∷◌, ◌++◌, length, map, set, slice_get, Option, Some, None, option_map, Result, Ok, Err, if◌then◌else◌, refl, sym, ap, ◌∙◌, subst, inl, inr, arith}
 use Rattle.std.specs.Option.{option_and_then}
-use Rattle.std.proofs.Math.Nat.{mul-le-mul}
 use Rattle.std.proofs.lemmas.Bool.{cases_Bool}
 use Rattle.std.proofs.lemmas.List.{map-set, length-set, length-map}
 use Rattle.std.proofs.lemmas.Option.{slice_get-map}
@@ -143,10 +142,6 @@ unfolding renewed
 renewals_keep_cells v i [] = refl
 renewals_keep_cells v zero (s ∷ ss) = refl
 renewals_keep_cells v (suc i) (s ∷ ss) = ap (λ cs. s.cells ∷ cs) (renewals_keep_cells v i ss)
-
--- a world has 64 sectors at most
-pub few_sectors : (sizes : Sizes) (ss : List SectorData) → AreSectors sizes (map cells_of ss) → length ss ≤ 64
-few_sectors sizes ss are = omega (arith, length-map ss cells_of, are.all, mul-le-mul are.valid.sx_most are.valid.sz_most)
 
 -- a part is set in the sector that holds its position
 pub part_is_set : (g : GroundData) (p : Pos) (part : Part) (k : ℕ) (c d : SectorCells) → sector_of g.sizes p ≡ Some k → slice_get g.sectors k ≡ Some c

@@ -1,14 +1,4 @@
-pub mod Cuts
-pub mod Faults
-pub mod Feeds
-pub mod FileApplied
-pub mod FileLists
+pub mod FirstFaults
 pub mod Going
-pub mod Placed
-pub mod Points
-pub mod Printables
-pub mod Renewals
+pub mod Openings
 pub mod Runs
-pub mod Spelled
-pub mod Taking
-pub mod Whole

@@ -1,12 +1,14 @@
 -- What one more line does to the runs of the header and of the body.
-use Rattle.std.proofs.Common.{◌≡◌, ℕ, ◌+◌, ◌<◌, List, ◌∷◌, ◌++◌, length, Option, Some, None, Result, Ok, Err, if◌then◌else◌, refl, ap, sym, ◌∙◌, append_assoc}
+use Rattle.std.proofs.Common.{◌≡◌, ℕ, ◌+◌, ◌<◌, true, List, [], ◌∷◌, ◌++◌, length, Option, Some, None, if◌then◌else◌, refl, ap, sym, ◌∙◌, append_assoc}
 use Rattle.std.proofs.lemmas.Bool.{lt-ltb}
+use Rattle.vx_grammar.specs.ScriptLines.{Said, line_of}
+use Rattle.vx_lines.specs.Lines.{lines_of}
+use Rattle.vx_play.specs.Plays.{PlayData}
 use Rattle.vx_region.specs.Regions.{Regions}
 use Rattle.vx_script.specs.declared.fault.Fault.{Fault}
 use Rattle.vx_script.specs.declared.fault.Fault.TheVariants.{Syntax}
-use Rattle.vx_grammar.specs.ScriptLines.{Said, line_of}
-use Rattle.vx_script.specs.Transcript.{Opening, Play, most_bytes, read_of, prepend, body_turn, body_run, header_turn, header_run, begun, and_play, run_from, no_opening, transcript}
-use Rattle.vx_script.specs.Lines.{lines_of}
+use Rattle.vx_script.specs.Told.{Told, only, faulted, prepend}
+use Rattle.vx_script.specs.Transcript.{Opening, most_bytes, read_of, body_told, body_run, begun, header_told, header_run, header_end, is_peopled, done_text, run_from, no_opening, transcript}
 
 -- a line that is too long is none
 pub too_long : (line : List ℕ) → most_bytes < length line → read_of line ≡ None
@@ -14,44 +16,76 @@ unfolding read_of
 too_long line long = ap (λ b. if b then None else line_of line) (lt-ltb most_bytes (length line) long)
 
 -- what is written twice in a row is written once
-pub prepend-prepend : (a b : List ℕ) (r : Result (List ℕ) Fault) → prepend a (prepend b r) ≡ prepend (a ++ b) r
-prepend-prepend a b (Ok text) = ap Ok (sym (append_assoc a b text))
-prepend-prepend a b (Err fault) = refl
+pub prepend-prepend : (a b : List ℕ) (told : Told) → prepend a (prepend b told) ≡ prepend (a ++ b) told
+prepend-prepend a b told = ap (λ text. record { text = text; fault = told.fault }) (sym (append_assoc a b told.text))
 
-module _ (play : Play) (n : ℕ) (line : List ℕ) (lines : List (List ℕ)) where
+module _ (play : PlayData) (n : ℕ) (line : List ℕ) (lines : List (List ℕ)) where
   -- a line that is too long ends the body
-  pub body_long : most_bytes < length line → body_run play n (line ∷ lines) ≡ Err (Syntax n)
-  unfolding body_turn
-  body_long long = ap (λ read. body_turn play n read (λ next. body_run next (n + 1) lines)) (too_long line long)
+  pub body_long : most_bytes < length line → body_run play n (line ∷ lines) ≡ faulted (Syntax n)
+  unfolding body_told
+  body_long long = ap (λ read. body_told play n read (λ next. body_run next (n + 1) lines)) (too_long line long)
 
-  -- a line that was read is taken as it says
-  pub body_step : (said : Option Said) (text : List ℕ) (after : Play) → said ≡ read_of line
-      → ((go : Play → Result (List ℕ) Fault) → body_turn play n said go ≡ prepend text (go after))
-      → body_run play n (line ∷ lines) ≡ prepend text (body_run after (n + 1) lines)
-  body_step said text after same turn = ap (λ read. body_turn play n read (λ next. body_run next (n + 1) lines)) (sym same) ∙ turn (λ next. body_run next (n + 1) lines)
+  module _ (said : Option Said) (k : ℕ) (same : k ≡ n) (reads : said ≡ read_of line) where
+    body_line : body_run play n (line ∷ lines) ≡ body_told play k said (λ next. body_run next (n + 1) lines)
+    body_line = ap (λ read. body_told play n read (λ next. body_run next (n + 1) lines)) (sym reads)
+        ∙ ap (λ m. body_told play m said (λ next. body_run next (n + 1) lines)) (sym same)
 
-  pub body_stop : (said : Option Said) (fault : Fault) → said ≡ read_of line
-      → ((go : Play → Result (List ℕ) Fault) → body_turn play n said go ≡ Err fault) → body_run play n (line ∷ lines) ≡ Err fault
-  body_stop said fault same turn = ap (λ read. body_turn play n read (λ next. body_run next (n + 1) lines)) (sym same) ∙ turn (λ next. body_run next (n + 1) lines)
+    -- a line that was read is taken as it says
+    pub body_step : (text : List ℕ) (next : PlayData) → ((go : PlayData → Told) → body_told play k said go ≡ prepend text (go next))
+        → body_run play n (line ∷ lines) ≡ prepend text (body_run next (n + 1) lines)
+    body_step text next step = body_line ∙ step (λ next. body_run next (n + 1) lines)
+
+    -- or it ends the run
+    pub body_stop : (fault : Fault) → ((go : PlayData → Told) → body_told play k said go ≡ faulted fault) → body_run play n (line ∷ lines) ≡ faulted fault
+    body_stop fault step = body_line ∙ step (λ next. body_run next (n + 1) lines)
 
 module _ (rs : Regions) (o : Opening) (n : ℕ) (line : List ℕ) (lines : List (List ℕ)) where
   -- a line that is too long ends the header
-  pub header_long : most_bytes < length line → header_run rs o n (line ∷ lines) ≡ Err (Syntax n)
-  unfolding header_turn
-  header_long long = ap (λ read. header_turn rs o n read (λ next. header_run rs next (n + 1) lines) (λ play. body_run play n (line ∷ lines))) (too_long line long)
+  pub header_long : most_bytes < length line → header_run rs o n (line ∷ lines) ≡ faulted (Syntax n)
+  unfolding header_told
+  header_long long = ap (λ read. header_told rs o n read (λ next. header_run rs next (n + 1) lines) (λ play. body_run play n (line ∷ lines))) (too_long line long)
 
-  -- what a line of the header does is what its reading does
-  pub header_step : (said : Option Said) (result : Result (List ℕ) Fault) → said ≡ read_of line
-      → header_turn rs o n said (λ next. header_run rs next (n + 1) lines) (λ play. body_run play n (line ∷ lines)) ≡ result
-      → header_run rs o n (line ∷ lines) ≡ result
-  header_step said result same turn = ap (λ read. header_turn rs o n read (λ next. header_run rs next (n + 1) lines) (λ play. body_run play n (line ∷ lines))) (sym same) ∙ turn
+  module _ (said : Option Said) (k : ℕ) (same : k ≡ n) (reads : said ≡ read_of line) where
+    -- a line of the header does what it was read to say
+    header_line : header_run rs o n (line ∷ lines) ≡ header_told rs o k said (λ next. header_run rs next (n + 1) lines) (λ play. body_run play n (line ∷ lines))
+    header_line = ap (λ read. header_told rs o n read (λ next. header_run rs next (n + 1) lines) (λ play. body_run play n (line ∷ lines))) (sym reads)
+        ∙ ap (λ m. header_told rs o m said (λ next. header_run rs next (n + 1) lines) (λ play. body_run play n (line ∷ lines))) (sym same)
 
--- once the world is made, the first command is taken in it
-pub run_begun : (rs : Regions) (o : Opening) (n : ℕ) (command : Said) (lines : List (List ℕ)) (play : Play) → begun rs o n ≡ Ok play
-    → run_from rs o n command lines ≡ body_turn play n (Some command) (λ next. body_run next (n + 1) lines)
-run_begun rs o n command lines play made = ap (λ r. and_play r (λ play. body_turn play n (Some command) (λ next. body_run next (n + 1) lines))) made
+    -- it ends the run
+    pub header_stop : (fault : Fault) → ((go : Opening → Told) (body : PlayData → Told) → header_told rs o k said go body ≡ faulted fault)
+        → header_run rs o n (line ∷ lines) ≡ faulted fault
+    header_stop fault step = header_line ∙ step _ _
+
+    -- it is taken
+    pub header_step : (next : Opening) → ((go : Opening → Told) (body : PlayData → Told) → header_told rs o k said go body ≡ go next)
+        → header_run rs o n (line ∷ lines) ≡ header_run rs next (n + 1) lines
+    header_step next step = header_line ∙ step _ _
+
+    -- it is the first of the body
+    pub header_first : (command : Said) → said ≡ Some command → ((go : Opening → Told) (body : PlayData → Told) → header_told rs o k said go body ≡ begun rs o k body)
+        → header_run rs o n (line ∷ lines) ≡ run_from rs o n command lines
+    header_first command is step =
+        header_line ∙ step _ _
+        ∙ ap (λ m. begun rs o m (λ play. body_run play n (line ∷ lines))) same
+        ∙ ap (λ read. begun rs o n (λ play. body_told play n read (λ next. body_run next (n + 1) lines))) (sym reads ∙ is)
 
 -- a script runs from its first line with nothing said yet
 pub script_runs : (rs : Regions) (script : List ℕ) (o : Opening) (n : ℕ) → o ≡ no_opening → n ≡ 0 → transcript rs script ≡ header_run rs o (n + 1) (lines_of script)
 unfolding transcript
 script_runs rs script o n nothing none = ap (λ p. header_run rs p 1 (lines_of script)) (sym nothing) ∙ ap (λ k. header_run rs o (k + 1) (lines_of script)) (sym none)
+
+-- a script that ends in its header, with a world and a player in it
+pub header_peopled : (rs : Regions) (o : Opening) (n : ℕ) → is_peopled o ≡ true → header_end rs o n ≡ begun rs o n (λ play. only (done_text play))
+unfolding header_end
+header_peopled rs o n peopled = ap (λ b. if b then begun rs o n (λ play. only (done_text play)) else only []) peopled
+
+-- once the world is made, the first command is taken in it
+pub run_begun : (rs : Regions) (o : Opening) (n k j : ℕ) (command : Said) (lines : List (List ℕ)) (play next : PlayData) (text : List ℕ) → k ≡ n → j ≡ n
+    → ((body : PlayData → Told) → begun rs o k body ≡ body play)
+    → ((go : PlayData → Told) → body_told play j (Some command) go ≡ prepend text (go next))
+    → run_from rs o n command lines ≡ prepend text (body_run next (n + 1) lines)
+run_begun rs o n k j command lines play next text same too made step =
+    ap (λ m. begun rs o m (λ play. body_told play n (Some command) (λ next. body_run next (n + 1) lines))) (sym same)
+    ∙ made (λ play. body_told play n (Some command) (λ next. body_run next (n + 1) lines))
+    ∙ ap (λ m. body_told play m (Some command) (λ next. body_run next (n + 1) lines)) (sym too)
+    ∙ step (λ next. body_run next (n + 1) lines)

@@ -1,7 +1,9 @@
 ghost use Rattle.std.specs.Prelude.{◌≡◌};
 ghost use Rattle.vx_script.specs.Statuses.{status_of};
 
+use std::alloc::AllocError;
 use thiserror::Error;
+use vx_lines::ReadFailed;
 
 /// Why a run ended before its script did. docs/FORMATS.md has the table of numbers, words and statuses.
 #[derive(Clone, Copy, Debug, PartialEq, Eq, Error)]
@@ -39,5 +41,25 @@ impl Fault {
             | Fault::ReadFailed
             | Fault::WriteFailed => 1,
         }
+    }
+}
+
+impl From<AllocError> for Fault {
+    ghost use Rattle.vx_script.specs.declared.fault.Fault.TheVariants.{NoMemory};
+
+    ghost from_gives = { λ _ e. e ≡ NoMemory };
+
+    fn from(_refused: AllocError) -> Fault {
+        Fault::NoMemory
+    }
+}
+
+impl From<ReadFailed> for Fault {
+    ghost use Rattle.vx_script.specs.declared.fault.Fault.TheVariants as fault;
+
+    ghost from_gives = { λ _ e. e ≡ fault.ReadFailed };
+
+    fn from(_failed: ReadFailed) -> Fault {
+        Fault::ReadFailed
     }
 }

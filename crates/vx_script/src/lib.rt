@@ -1,25 +1,14 @@
-//! The script: its lines, what they mean, and the replies to them.
+//! The script: from the bytes of a script to the bytes of its replies.
 #![tactic(auto)]
 
-mod arguments;
-mod edit_reading;
+mod body;
 mod fault;
-mod file;
 mod header;
-mod input;
 pub mod laws;
-mod line;
-mod lines;
-mod names;
-mod number;
-mod play;
 mod reading;
+mod regions;
 mod running;
-#[cfg(test)]
-mod tests;
-mod unread;
-mod words;
 
 pub use fault::Fault;
-pub use file::regions_file;
+pub use regions::regions_file;
 pub use running::run;

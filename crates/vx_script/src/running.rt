@@ -1,22 +1,24 @@
-ghost use Rattle.std.specs.Prelude.{◌≡◌, ◌+◌, ◌≤◌, ℕ, List, Ok, Err, Some, option_map, None, IfSome, IfOk, IfErr, OnOk};
-ghost use Rattle.std.specs.Io.KnownBytes.{Keeps, Appends, prepend_known};
+ghost use Rattle.std.specs.Prelude.{◌≡◌, ◌+◌, ℕ, Ok, Err, None, IfSome, IfOk};
+ghost use Rattle.std.specs.Io.KnownBytes.{Keeps, prepend_known};
+ghost use Rattle.vx_grammar.specs.ScriptLines.{said};
+ghost use Rattle.vx_lines.specs.Lines.{lines_of};
+ghost use Rattle.vx_lines.specs.Reading.{pending};
 ghost use Rattle.vx_region.specs.Regions.{Regions};
 ghost use Rattle.vx_script.specs.Known.{Goes};
-ghost use Rattle.vx_script.specs.Lines.{lines_of};
-ghost use Rattle.vx_grammar.specs.ScriptLines.{said};
-ghost use Rattle.vx_script.specs.Transcript.{body_run, header_end, header_run, run_from, transcript, read_of};
+ghost use Rattle.vx_script.specs.Told.{IsOwn, Tells, Faults, faulted};
+ghost use Rattle.vx_script.specs.Transcript.{body_run, header_end, header_run, run_from, transcript};
 
+use crate::body::{finish, take_line};
 use crate::fault::Fault;
 use crate::header::Header;
-use crate::line::Line;
-use crate::lines::{LINE_BYTES, Lines};
-use crate::play::Play;
-use crate::reading::read_line;
-use vx_base::Unread;
+use crate::reading::{next_line, read_of};
 use std::alloc::Global;
 use std::io::{Read, Write};
 use std::marker::Brand;
 use vx_board::Naming;
+use vx_grammar::Line;
+use vx_lines::Lines;
+use vx_play::Play;
 use vx_policy::Policy;
 
 /// Runs a script: reads it to its end and writes the reply to each of its lines as it is read, then the last line. A fault
@@ -27,43 +29,35 @@ pub fn run<R: Read, W: Write>(
     writer: &mut W,
     policy: Policy,
 ) -> Result<(), Fault>
-    ensures ok { OnOk result (IfSome (R.remaining reader.old) (λ script. (text : List ℕ)
-        × Appends (W.contents writer.old) (W.contents writer.new) text × (transcript policy script ≡ Ok text))) }
-    ensures syntax { (k : ℕ) → result ≡ Err (Fault.Syntax k)
-        → IfSome (R.remaining reader.old) (λ script. transcript policy script ≡ Err (Fault.Syntax k)) }
-    ensures players { result ≡ Err Fault.TooManyPlayers
-        → IfSome (R.remaining reader.old) (λ script. transcript policy script ≡ Err Fault.TooManyPlayers) }
-    ensures history { result ≡ Err Fault.HistoryFull
-        → IfSome (R.remaining reader.old) (λ script. transcript policy script ≡ Err Fault.HistoryFull) }
+    ensures ok { IfSome (R.remaining reader.old) (λ script.
+        Tells (W.contents writer.old) (W.contents writer.new) result (transcript policy script)) }
+    ensures err { IfSome (R.remaining reader.old) (λ script.
+        Faults (W.contents writer.old) (W.contents writer.new) result (transcript policy script)) }
 {
-    let played = play::<Brand, R, W>(alloc, reader, writer, policy);
+    let played = run_script::<Brand, R, W>(alloc, reader, writer, policy);
     let flushed = writer.flush();
     played?;
     flushed.map_err(|_| Fault::WriteFailed)
 }
 
 #[tactic(auto, unfolding(crate::specs::Transcript::transcript))]
-fn play<J: Naming, R: Read, W: Write>(
+fn run_script<J: Naming, R: Read, W: Write>(
     alloc: Global,
     reader: &mut R,
     writer: &mut W,
     policy: Policy,
 ) -> Result<(), Fault>
     requires { policy ≡ J.first }
-    ensures ok { OnOk result (IfSome (R.remaining reader.old) (λ script. (text : List ℕ)
-        × Appends (W.contents writer.old) (W.contents writer.new) text × (transcript J.first script ≡ Ok text))) }
-    ensures syntax { (k : ℕ) → result ≡ Err (Fault.Syntax k)
-        → IfSome (R.remaining reader.old) (λ script. transcript J.first script ≡ Err (Fault.Syntax k)) }
-    ensures players { result ≡ Err Fault.TooManyPlayers
-        → IfSome (R.remaining reader.old) (λ script. transcript J.first script ≡ Err Fault.TooManyPlayers) }
-    ensures history { result ≡ Err Fault.HistoryFull
-        → IfSome (R.remaining reader.old) (λ script. transcript J.first script ≡ Err Fault.HistoryFull) }
+    ensures ok { IfSome (R.remaining reader.old) (λ script.
+        Tells (W.contents writer.old) (W.contents writer.new) result (transcript J.first script)) }
+    ensures err { IfSome (R.remaining reader.old) (λ script.
+        Faults (W.contents writer.old) (W.contents writer.new) result (transcript J.first script)) }
 {
     let mut lines = Lines::new(alloc)?;
     let mut header = Header::new(alloc);
     match read_header(alloc, &mut header, &mut lines, reader, writer)? {
-        None => end_header::<J, W>(alloc, header, policy, lines.number, writer),
-        Some(first) => play_on::<J, R, W>(alloc, header, policy, first, &mut lines, reader, writer),
+        None => end_header::<J, W>(alloc, header, policy, lines.number() + 1, writer),
+        Some(first) => run_body::<J, R, W>(alloc, header, policy, first, &mut lines, reader, writer),
     }
 }
 
@@ -75,22 +69,24 @@ fn read_header<R: Read, W: Write>(
     reader: &mut R,
     writer: &mut W,
 ) -> Result<Option<Line>, Fault>
-    ensures ended { result ≡ Ok None → IfSome (prepend_known lines.old.input (R.remaining reader.old)) (λ bytes. (rs : Regions)
-        → header_run rs header.old (lines.old.number + 1) (lines_of bytes) ≡ header_end rs header.new lines.new.number) }
-    ensures command { IfOk result (λ first. IfSome first (λ command. Goes
-        (prepend_known lines.old.input (R.remaining reader.old))
-        (prepend_known lines.new.input (R.remaining reader.new))
+    ensures ended { result ≡ Ok None
+        → IfSome (prepend_known (pending lines.old) (R.remaining reader.old)) (λ bytes. (rs : Regions)
+        → header_run rs header.old (lines.old.number + 1) (lines_of bytes)
+        ≡ header_end rs header.new (lines.new.number + 1)) }
+    ensures first { IfOk result (λ first. IfSome first (λ command. Goes
+        (prepend_known (pending lines.old) (R.remaining reader.old))
+        (prepend_known (pending lines.new) (R.remaining reader.new))
         (λ bytes rest. (rs : Regions) → header_run rs header.old (lines.old.number + 1) (lines_of bytes)
         ≡ run_from rs header.new lines.new.number (said command) (lines_of rest)))) }
-    ensures syntax { (k : ℕ) → result ≡ Err (Fault.Syntax k) → IfSome (prepend_known lines.old.input (R.remaining reader.old))
-        (λ bytes. (rs : Regions) → header_run rs header.old (lines.old.number + 1) (lines_of bytes) ≡ Err (Fault.Syntax k)) }
-    ensures players { result ≡ Err Fault.TooManyPlayers → ⊥ }
-    ensures history { result ≡ Err Fault.HistoryFull → ⊥ }
     ensures written { IfOk result (λ _. Keeps (W.contents writer.old) (W.contents writer.new)) }
+    ensures err { (fault : Fault) → result ≡ Err fault → IsOwn fault
+        → Keeps (W.contents writer.old) (W.contents writer.new)
+        × IfSome (prepend_known (pending lines.old) (R.remaining reader.old)) (λ bytes. (rs : Regions)
+        → header_run rs header.old (lines.old.number + 1) (lines_of bytes) ≡ faulted fault) }
 {
-    'header_lines: while lines.next(reader, writer)? {
-        let line = read_of(alloc, &lines.line)?;
-        let first = header.turn(alloc, line, lines.number)?;
+    'header_lines: while next_line(lines, reader, writer)? {
+        let line = read_of(alloc, lines.line())?;
+        let first = header.take_line(alloc, line, lines.number())?;
         if first.is_some() {
             return Ok(first);
         }
@@ -108,21 +104,20 @@ fn end_header<J: Naming, W: Write>(
     writer: &mut W,
 ) -> Result<(), Fault>
     requires { policy ≡ J.first }
-    ensures ok { OnOk result ((text : List ℕ) × Appends (W.contents writer.old) (W.contents writer.new) text
-        × (header_end J.first header number ≡ Ok text)) }
-    ensures syntax { (k : ℕ) → result ≡ Err (Fault.Syntax k) → header_end J.first header number ≡ Err (Fault.Syntax k) }
-    ensures players { result ≡ Err Fault.TooManyPlayers → header_end J.first header number ≡ Err Fault.TooManyPlayers }
-    ensures history { result ≡ Err Fault.HistoryFull → ⊥ }
+    ensures ok { Tells (W.contents writer.old) (W.contents writer.new) result
+        (header_end J.first header number) }
+    ensures err { Faults (W.contents writer.old) (W.contents writer.new) result
+        (header_end J.first header number) }
 {
     if !header.is_peopled() {
         return Ok(());
     }
     let play = header.begin::<J>(alloc, policy, number)?;
-    play.finish(writer)
+    finish(&play, writer)
 }
 
 // Makes the world at the first line of the body, takes that line, and then the rest of the body.
-fn play_on<J: Naming, R: Read, W: Write>(
+fn run_body<J: Naming, R: Read, W: Write>(
     alloc: Global,
     header: Header,
     policy: Policy,
@@ -132,57 +127,36 @@ fn play_on<J: Naming, R: Read, W: Write>(
     writer: &mut W,
 ) -> Result<(), Fault>
     requires { policy ≡ J.first }
-    ensures ok { OnOk result (IfSome (prepend_known lines.old.input (R.remaining reader.old)) (λ rest. (text : List ℕ)
-        × Appends (W.contents writer.old) (W.contents writer.new) text
-        × (run_from J.first header lines.old.number (said first) (lines_of rest) ≡ Ok text))) }
-    ensures syntax { (k : ℕ) → result ≡ Err (Fault.Syntax k) → IfSome (prepend_known lines.old.input (R.remaining reader.old))
-        (λ rest. run_from J.first header lines.old.number (said first) (lines_of rest) ≡ Err (Fault.Syntax k)) }
-    ensures players { result ≡ Err Fault.TooManyPlayers → IfSome (prepend_known lines.old.input (R.remaining reader.old))
-        (λ rest. run_from J.first header lines.old.number (said first) (lines_of rest) ≡ Err Fault.TooManyPlayers) }
-    ensures history { result ≡ Err Fault.HistoryFull → IfSome (prepend_known lines.old.input (R.remaining reader.old))
-        (λ rest. run_from J.first header lines.old.number (said first) (lines_of rest) ≡ Err Fault.HistoryFull) }
+    ensures ok { IfSome (prepend_known (pending lines.old) (R.remaining reader.old)) (λ rest.
+        Tells (W.contents writer.old) (W.contents writer.new) result
+        (run_from J.first header lines.old.number (said first) (lines_of rest))) }
+    ensures err { IfSome (prepend_known (pending lines.old) (R.remaining reader.old)) (λ rest.
+        Faults (W.contents writer.old) (W.contents writer.new) result
+        (run_from J.first header lines.old.number (said first) (lines_of rest))) }
 {
-    let mut play = header.begin::<J>(alloc, policy, lines.number)?;
-    play.turn(alloc, Some(first), lines.number, writer)?;
-    play_body(alloc, &mut play, lines, reader, writer)
+    let mut play = header.begin::<J>(alloc, policy, lines.number())?;
+    take_line(&mut play, alloc, Some(first), lines.number(), writer)?;
+    read_body(alloc, &mut play, lines, reader, writer)
 }
 
 // Reads the lines of the body and writes the replies to them, then the last line.
-fn play_body<J: Naming, R: Read, W: Write>(
+fn read_body<J: Naming, R: Read, W: Write>(
     alloc: Global,
     play: &mut Play<J>,
     lines: &mut Lines,
     reader: &mut R,
     writer: &mut W,
 ) -> Result<(), Fault>
-    ensures ok { OnOk result (IfSome (prepend_known lines.old.input (R.remaining reader.old)) (λ bytes. (text : List ℕ)
-        × Appends (W.contents writer.old) (W.contents writer.new) text
-        × (body_run play.old (lines.old.number + 1) (lines_of bytes) ≡ Ok text))) }
-    ensures syntax { (k : ℕ) → result ≡ Err (Fault.Syntax k) → IfSome (prepend_known lines.old.input (R.remaining reader.old))
-        (λ bytes. body_run play.old (lines.old.number + 1) (lines_of bytes) ≡ Err (Fault.Syntax k)) }
-    ensures history { result ≡ Err Fault.HistoryFull → IfSome (prepend_known lines.old.input (R.remaining reader.old))
-        (λ bytes. body_run play.old (lines.old.number + 1) (lines_of bytes) ≡ Err Fault.HistoryFull) }
-    ensures players { result ≡ Err Fault.TooManyPlayers → ⊥ }
+    ensures ok { IfSome (prepend_known (pending lines.old) (R.remaining reader.old)) (λ bytes.
+        Tells (W.contents writer.old) (W.contents writer.new) result
+        (body_run play.old (lines.old.number + 1) (lines_of bytes))) }
+    ensures err { IfSome (prepend_known (pending lines.old) (R.remaining reader.old)) (λ bytes.
+        Faults (W.contents writer.old) (W.contents writer.new) result
+        (body_run play.old (lines.old.number + 1) (lines_of bytes))) }
 {
-    'body_lines: while lines.next(reader, writer)? {
-        let line = read_of(alloc, &lines.line)?;
-        play.turn(alloc, line, lines.number, writer)?;
+    'body_lines: while next_line(lines, reader, writer)? {
+        let line = read_of(alloc, lines.line())?;
+        take_line(play, alloc, line, lines.number(), writer)?;
     }
-    play.finish(writer)
-}
-
-// What a line says; nothing where it is too long, or none of the lines of a script.
-#[tactic(auto, unfolding(crate::specs::Transcript::read_of))]
-fn read_of(alloc: Global, line: &[u8]) -> Result<Option<Line>, Fault>
-    ensures ok { IfOk result (λ read. option_map said read ≡ read_of line.now) }
-    ensures err { IfErr result (λ fault. fault ≡ Fault.NoMemory) }
-{
-    if LINE_BYTES < line.len() {
-        return Ok(None);
-    }
-    match read_line(alloc, line) {
-        Ok(line) => Ok(Some(line)),
-        Err(Unread::Faulty) => Ok(None),
-        Err(Unread::NoMemory) => Err(Fault::NoMemory),
-    }
+    finish(play, writer)
 }

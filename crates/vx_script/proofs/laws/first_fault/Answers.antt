@@ -1,4 +1,4 @@
-use Rattle.vx_script.proofs.Faults.{first_fault}
+use Rattle.vx_script.proofs.FirstFaults.{first_fault}
 use Rattle.vx_script.proofs.laws.first_fault.Goals as goal
 
 pub returns : goal.returns

@@ -1,0 +1,56 @@
+-- What a header says keeps each sector of its world in its place.
+use Rattle.std.proofs.Common.{◌≡◌, ℕ, Bool, true, false, List, [], ◌∷◌, ◌++◌, Option, Some, None, option_map, if◌then◌else◌, not, ◌&&◌, ◌≤◌, is_some, refl, subst}
+use Rattle.std.specs.Option.{option_and_then, MatchOption}
+use Rattle.std.proofs.lemmas.Bool.{and_parts, leb-true}
+use Rattle.vx_geom.specs.Sizes.{Sizes, AreSizes}
+use Rattle.vx_grammar.specs.ScriptLines.{Nothing, World, Player, Set, Act, Region, Tick}
+use Rattle.vx_play.specs.Grounds.{GroundData, bare, with_part, IsGround}
+use Rattle.vx_play.specs.Plays.{is_named}
+use Rattle.vx_play.proofs.Whole.{air_is_ground, part_keeps_ground}
+use Rattle.vx_region.specs.Words.{is_amid}
+use Rattle.vx_script.specs.Transcript.{Opening, with_size, with_cell_set, header_after}
+use Rattle.vx_script.specs.Openings.{IsOpening, SizesAreSound, HeadersKeepGround}
+
+-- the sizes that a line can say
+pub sizes_are_sound : SizesAreSound
+sizes_are_sound sx sz s v said = by (is_amid 1 sx 8) (is_amid 1 sz 8) (is_amid 1 s 2) refl refl refl said
+  where
+    by : (a b c : Bool) → is_amid 1 sx 8 ≡ a → is_amid 1 sz 8 ≡ b → is_amid 1 s 2 ≡ c
+        → (if (a && b) && c then Some (record { sx = sx; sz = sz; s = s }) else None) ≡ Some v → AreSizes v
+    by true true true one two three said =
+        let x = amid sx one in let z = amid sz two in let t = amid s three in
+        let same : record { sx = sx; sz = sz; s = s } ≡ v = cc in
+        subst AreSizes same (record { sx_least = x.0; sx_most = x.1; sz_least = z.0; sz_most = z.1; s_least = t.0; s_most = t.1 })
+      where
+        amid : {most : ℕ} (n : ℕ) → is_amid 1 n most ≡ true → (1 ≤ n) × (n ≤ most)
+        amid n inside = let parts = and_parts _ _ inside in (leb-true _ _ parts.0, leb-true _ _ parts.1)
+    by true true false one two three said = cc
+    by true false c one two three said = cc
+    by false b c one two three said = cc
+
+pub headers_keep_ground : HeadersKeepGround
+unfolding header_after with_cell_set
+headers_keep_ground Nothing o next sizes ground made = let same : o ≡ next = cc in subst IsOpening same ground
+headers_keep_ground (World sizes) o next valid ground made = by o.ground made
+  where
+    by : (z : Option GroundData) → with_size o sizes z ≡ Some next → IsOpening next
+    by (Some z) made = cc
+    by None made = let same : record o { ground = Some (bare sizes) } ≡ next = cc in subst IsOpening same (air_is_ground sizes valid)
+headers_keep_ground (Player name) o next sizes ground made = by (is_some o.ground && not (is_named o.names name)) made
+  where
+    by : (b : Bool) → (if b then Some (record o { names = o.names ++ name ∷ [] }) else None) ≡ Some next → IsOpening next
+    by false made = cc
+    by true made = let same : record o { names = o.names ++ name ∷ [] } ≡ next = cc in subst IsOpening same ground
+headers_keep_ground (Set p part) o next sizes ground made = by o.ground ground made
+  where
+    with_ground : (old : GroundData) → IsGround old → (g : Option GroundData) → with_part old p part ≡ g → option_map (λ g. record o { ground = Some g }) g ≡ Some next → IsOpening next
+    with_ground old whole None is made = cc
+    with_ground old whole (Some g) is made = let same : record o { ground = Some g } ≡ next = cc in subst IsOpening same (part_keeps_ground old g p part whole is)
+
+    by : (z : Option GroundData) → MatchOption z (Unit {0}) IsGround
+        → option_map (λ g. record o { ground = Some g }) (option_and_then (λ g. with_part g p part) z) ≡ Some next → IsOpening next
+    by None whole made = cc
+    by (Some old) whole made = with_ground old whole (with_part old p part) refl made
+headers_keep_ground (Act name cmd) o next sizes ground made = cc
+headers_keep_ground (Region e) o next sizes ground made = cc
+headers_keep_ground Tick o next sizes ground made = cc

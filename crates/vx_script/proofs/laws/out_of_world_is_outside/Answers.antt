@@ -1,5 +1,0 @@
-use Rattle.vx_script.proofs.Whole.{out_of_world_is_outside}
-use Rattle.vx_script.proofs.laws.out_of_world_is_outside.Goals as goal
-
-pub returns : goal.returns
-returns c = out_of_world_is_outside

@@ -7,8 +7,6 @@ mod desk_error;
 mod desk_state;
 mod edited;
 mod naming;
-#[cfg(test)]
-mod tests;
 
 pub use desk::Desk;
 pub use desk_error::DeskError;

@@ -30,21 +30,3 @@ impl Action {
         }
     }
 }
-
-#[cfg(test)]
-mod tests {
-    use super::*;
-
-    #[test]
-    fn each_action_has_its_flag(rt: HostRuntime) {
-        for (action, text) in [
-            (Action::Placing, "block-place"),
-            (Action::Breaking, "block-break"),
-            (Action::Turning, "use"),
-            (Action::Reaching, "chest-access"),
-            (Action::Pushing, "pistons"),
-        ] {
-            assert_eq!(rt; action.flag().text(), text, "{action:?}");
-        }
-    }
-}

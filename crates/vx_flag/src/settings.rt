@@ -136,32 +136,3 @@ fn same_group(a: Group, b: Group) -> bool
 {
     a == b
 }
-
-#[cfg(test)]
-mod tests {
-    use super::*;
-
-    #[test]
-    fn one_flag_is_set_and_cleared(rt: HostRuntime) {
-        let deny = Setting {
-            state: State::Deny,
-            group: Group::Members,
-        };
-        let mut settings = Settings::new();
-        for flag in [Flag::Build, Flag::Usage, Flag::Pistons] {
-            assert_eq!(rt; settings.get(flag), None);
-        }
-
-        settings.set(Flag::Usage, deny);
-        assert_eq!(rt; settings.get(Flag::Usage), Some(deny));
-        assert_eq!(rt; settings.get(Flag::Build), None);
-        assert!(rt; !settings.same(&Settings::new()));
-
-        settings.set(Flag::Build, deny);
-        settings.clear(Flag::Usage);
-        assert_eq!(rt; settings.get(Flag::Usage), None);
-        assert_eq!(rt; settings.get(Flag::Build), Some(deny));
-        settings.clear(Flag::Build);
-        assert!(rt; settings.same(&Settings::new()));
-    }
-}

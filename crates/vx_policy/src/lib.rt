@@ -19,6 +19,3 @@ pub use laws::{
 pub use listing::Listing;
 pub use policy::Policy;
 pub use version::Version;
-
-#[cfg(test)]
-mod tests;

@@ -44,23 +44,3 @@ impl fmt::Display for Id {
         f.pad(self.as_str())
     }
 }
-
-#[cfg(test)]
-mod tests {
-    use super::*;
-    use std::test::Fail;
-
-    #[test]
-    fn reads_ids(rt: HostRuntime) -> Result<(), Fail> {
-        assert_eq!(rt; Id::read("Spawn-2_x")?.as_str(), "spawn-2_x");
-        let long = Id::read("ABCDEFGHIJKLMNOPQRSTUVWXYZ-_1234")?;
-        let text = format!(in rt.alloc(); "{long}")?;
-        assert_eq!(rt; text.as_str(), "abcdefghijklmnopqrstuvwxyz-_1234");
-        for text in ["", "abcdefghijklmnopqrstuvwxyz-_12345", "a!b", "é"] {
-            assert_eq!(rt; Id::read(text), Err(BadId), "at {text:?}");
-        }
-        let text = format!(in rt.alloc(); "{} or {}", Id::read("A-1")?, BadId)?;
-        assert_eq!(rt; text.as_str(), "a-1 or bad id");
-        Ok(())
-    }
-}

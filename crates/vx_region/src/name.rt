@@ -44,24 +44,3 @@ impl fmt::Display for Name {
         f.pad(self.as_str())
     }
 }
-
-#[cfg(test)]
-mod tests {
-    use super::*;
-    use std::test::Fail;
-
-    #[test]
-    fn reads_names(rt: HostRuntime) -> Result<(), Fail> {
-        assert_eq!(rt; Name::read("Ann")?.as_str(), "ann");
-        assert_eq!(rt;
-            Name::read("ABCDEFGHIJ_12345")?.as_str(),
-            "abcdefghij_12345"
-        );
-        for text in ["", "abcdefghij_123456", "no-name", "a b", "é"] {
-            assert_eq!(rt; Name::read(text), Err(BadName), "at {text:?}");
-        }
-        let text = format!(in rt.alloc(); "{} or {}", Name::read("Bob")?, BadName)?;
-        assert_eq!(rt; text.as_str(), "bob or bad name");
-        Ok(())
-    }
-}

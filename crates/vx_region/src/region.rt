@@ -271,18 +271,3 @@ fn same_names(these: &[Name], those: &[Name]) -> bool
 {
     these == those
 }
-
-#[cfg(test)]
-mod tests {
-    use super::*;
-    use std::test::Fail;
-
-    #[test]
-    fn the_order_of_names_counts(rt: HostRuntime) -> Result<(), Fail> {
-        let (ann, bob) = (Name::read("ann")?, Name::read("bob")?);
-        assert!(rt; same_names(&[ann, bob], &[ann, bob]));
-        assert!(rt; !same_names(&[ann, bob], &[bob, ann]));
-        assert!(rt; !same_names(&[ann, bob], &[ann]));
-        Ok(())
-    }
-}

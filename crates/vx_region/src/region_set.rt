@@ -10,8 +10,6 @@ mod copies;
 mod edits;
 mod equality;
 mod family;
-#[cfg(test)]
-mod tests;
 
 use crate::id::Id;
 use crate::name::Name;

@@ -1,6 +1,6 @@
--- Each flag, state and group is found by its own text.
-use Rattle.std.proofs.Common.{◌≡◌, Some, refl}
-use Rattle.vx_flag.specs.Flag.{flag_text, flag_of}
+-- Each flag, state and group is found by its own text, and each flag by its own place.
+use Rattle.std.proofs.Common.{◌≡◌, slice_get, Some, refl, ap, sym, ◌∙◌}
+use Rattle.vx_flag.specs.Flag.{flag_text, flags, flag_index, flag_of}
 use Rattle.vx_flag.specs.Group.{group_text, group_of}
 use Rattle.vx_flag.specs.State.{state_text, state_of}
 use Rattle.vx_flag.specs.declared.flag.Flag.{Flag}
@@ -19,6 +19,20 @@ own_flag Usage = refl
 own_flag ChestAccess = refl
 own_flag Passthrough = refl
 own_flag Pistons = refl
+
+pub own_place : (f : Flag) → slice_get flags (flag_index f) ≡ Some f
+own_place Build = refl
+own_place BlockBreak = refl
+own_place BlockPlace = refl
+own_place Usage = refl
+own_place ChestAccess = refl
+own_place Passthrough = refl
+own_place Pistons = refl
+
+-- so no two flags have one place
+pub one_place : (f g : Flag) → flag_index f ≡ flag_index g → f ≡ g
+one_place f g same =
+    let found : Some f ≡ Some g = sym (own_place f) ∙ ap (slice_get flags) same ∙ own_place g in cc
 
 pub own_state : (s : State) → state_of (state_text s) ≡ Some s
 unfolding state_of

@@ -3,7 +3,8 @@ ghost use Rattle.vx_flag.specs.Action.{flag_of_action};
 
 use crate::flag::Flag;
 
-/// What is asked about a place (docs/RULES.md). Players ask about all but `Pushing`, by the text of the flag.
+/// What is asked about a place (docs/RULES.md). Players ask about all but `Pushing`, by the text of
+/// the flag.
 #[derive(Clone, Copy, Debug, PartialEq, Eq, Hash)]
 pub enum Action {
     Placing,

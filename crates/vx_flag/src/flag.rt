@@ -1,5 +1,5 @@
-ghost use Rattle.std.specs.Prelude.{◌≡◌, IfSome, Some};
-ghost use Rattle.vx_flag.specs.Flag.{flag_text, flag_of};
+ghost use Rattle.std.specs.Prelude.{◌≡◌, ◌<◌, length, IfSome, Some};
+ghost use Rattle.vx_flag.specs.Flag.{flag_text, flags, flag_index, flag_of};
 
 use std::fmt;
 
@@ -20,7 +20,29 @@ pub enum Flag {
     Pistons,
 }
 
+/// How many flags there are.
+pub(crate) const FLAGS: usize = 7;
+
 impl Flag {
+    /// Every flag, each at its own place.
+    pub const ALL: [Flag; FLAGS] = [
+        Flag::Build,
+        Flag::BlockBreak,
+        Flag::BlockPlace,
+        Flag::Usage,
+        Flag::ChestAccess,
+        Flag::Passthrough,
+        Flag::Pistons,
+    ];
+
+    /// The place of this flag among all.
+    pub(crate) fn index(self) -> usize
+        ensures value { result ≡ flag_index self }
+        ensures within { result < length flags }
+    {
+        self as usize
+    }
+
     /// The text of this flag (docs/FORMATS.md).
     pub fn text(self) -> &'static str
         ensures { result.now ≡ flag_text self }

@@ -6,13 +6,16 @@ use arrayvec::ArrayString;
 use std::fmt;
 use thiserror::Error;
 
+/// How many bytes an id may have.
+const MAX_ID_BYTES: usize = 32;
+
 /// The id of a region: 1 to 32 letters, digits, `_` or `-`, kept in lower case.
 #[derive(Clone, Copy, Debug, PartialEq, Eq, Hash)]
 pub struct Id {
-    text: ArrayString<32>,
+    text: ArrayString<MAX_ID_BYTES>,
 }
 
-/// The text spells no id.
+/// The text spells no id. The words are for callers that hand it on; nothing here prints them.
 #[derive(Clone, Copy, Debug, PartialEq, Eq, Error)]
 #[error("bad id")]
 pub struct BadId;
@@ -21,7 +24,9 @@ impl Id {
     /// The id that the text spells, letter case aside.
     #[tactic(auto, unfolding(crate::specs::Words::read_id))]
     pub fn read(text: &str) -> Result<Id, BadId>
-        ensures { MatchResult result (λ id. read_id text.now ≡ Some id.text.bytes) (λ _. read_id text.now ≡ None) }
+        ensures { MatchResult result
+            (λ id. read_id text.now ≡ Some id.text.bytes)
+            (λ _. read_id text.now ≡ None) }
     {
         match read_word(text, Alphabet::Id) {
             Some(text) => Ok(Id { text }),

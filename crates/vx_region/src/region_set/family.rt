@@ -16,7 +16,8 @@ impl RegionSet {
     }
 
     /// Gives a region that is there another parent, or none.
-    /// The caller has looked that the parent is there, and that it is neither the region itself nor under it.
+    /// The caller has looked that the parent is there, and that it is neither the region itself nor
+    /// under it.
     pub fn set_parent(&mut self, number: RegionNo, parent: Option<RegionNo>)
         requires known { IsSome (region_at self.old number.0) }
         requires parent_known { IfSome parent (λ q. IsSome (region_at self.old q.0)) }

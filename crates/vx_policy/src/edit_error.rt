@@ -1,7 +1,8 @@
 use crate::edit_refusal::EditRefusal;
 use thiserror::Error;
 
-/// Why an edit was not applied. Either leaves the policy as it was.
+/// Why an edit was not applied. Either leaves the policy as it was. The words are for callers that
+/// hand the error on; those here match on it.
 #[derive(Clone, Copy, Debug, PartialEq, Eq, Error)]
 pub enum EditError {
     /// The rules refuse it, for this cause.

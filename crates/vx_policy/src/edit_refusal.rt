@@ -3,7 +3,8 @@ ghost use Rattle.std.specs.Prelude.{Some};
 use std::error::Error;
 use std::fmt;
 
-/// Why an edit was refused. Each cause has a number; docs/FORMATS.md has the table, and docs/RULES.md what each means.
+/// Why an edit was refused. Each cause has a number; docs/FORMATS.md has the table, and
+/// docs/RULES.md what each means.
 #[derive(Clone, Copy, Debug, PartialEq, Eq)]
 pub enum EditRefusal {
     /// A text spells no id.

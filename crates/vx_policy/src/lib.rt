@@ -1,4 +1,5 @@
-//! The written policy as it is edited: what an edit asks for, why it may be refused, and what it leaves.
+//! The written policy as it is edited: what an edit asks for, why it may be refused, and what it
+//! leaves.
 #![tactic(auto)]
 
 mod edit;

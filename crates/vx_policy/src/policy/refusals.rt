@@ -32,14 +32,8 @@ impl Policy {
             Edit::Parent(id, Some(parent)) => of_parent(regions, id, parent),
             Edit::SetFlag(id, flag, setting) => of_flag(regions, id, *flag, *setting),
             Edit::ClearFlag(id, flag) => of_clearing(regions, id, *flag),
-            Edit::Owner(id, listing, name) => of_listing(regions, Role::Owner, id, *listing, name),
-            Edit::Member(id, listing, name) => of_listing(
-                regions,
-                Role::Member,
-                id,
-                *listing,
-                name,
-            ),
+            Edit::Owner(id, listing, name) => of_name(regions, Role::Owner, id, *listing, name),
+            Edit::Member(id, listing, name) => of_name(regions, Role::Member, id, *listing, name),
         }
     }
 }
@@ -185,7 +179,7 @@ fn of_clearing(regions: &RegionSet, id: &str, flag: Flag) -> Option<EditRefusal>
 }
 
 #[tactic(auto, unfolding(crate::specs::Refusals::refusal))]
-fn of_listing(
+fn of_name(
     regions: &RegionSet,
     role: Role,
     id: &str,

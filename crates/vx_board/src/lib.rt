@@ -1,4 +1,5 @@
-//! The desk: where edits of the written policy are accepted, in order, and versions of it are fixed.
+//! The desk: where edits of the written policy are accepted, in order, and versions of it are
+//! fixed.
 #![tactic(auto)]
 
 mod acceptance;

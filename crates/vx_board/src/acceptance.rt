@@ -64,7 +64,8 @@ pub fn make_ready(
 /// Puts an edit that is ready at the end of the list.
 pub fn settle(accepted: &mut Vec<Edit>, ready: Ready) -> Edited
     requires { vec_len accepted.old < vec_capacity accepted.old }
-    ensures list { map asked accepted.new.items ≡ map asked accepted.old.items ++ asked ready.edit ∷ [] }
+    ensures list { map asked accepted.new.items
+        ≡ map asked accepted.old.items ++ asked ready.edit ∷ [] }
     ensures count { result.count ≡ vec_len accepted.old + 1 }
     ensures region { result.region ≡ ready.region }
 {

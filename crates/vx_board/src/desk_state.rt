@@ -6,8 +6,8 @@ use std::alloc::{AllocError, Global};
 use std::marker::{Model, PhantomData};
 use vx_policy::{Edit, Policy, Version};
 
-/// What a desk holds: the edits that it accepted, and the policy after them. Contracts see the list;
-/// the first policy stands in the type.
+/// What a desk holds: the edits that it accepted, and the policy after them. Contracts see the
+/// list; the first policy stands in the type.
 #[derive(Drop)]
 pub struct DeskState<J: Naming> {
     accepted: Vec<Edit>,
@@ -46,9 +46,9 @@ impl<J: Naming> DeskState<J> {
         }
     }
 
-    /// Accepts an edit and applies it, or refuses it: where as many were accepted as may be, else by
-    /// the first cause that stands against it as things are now. A refusal, for want of memory too,
-    /// leaves all as it was.
+    /// Accepts an edit and applies it, or refuses it: where as many were accepted as may be, else
+    /// by the first cause that stands against it as things are now. A refusal, for want of memory
+    /// too, leaves all as it was.
     pub fn apply(&mut self, alloc: Global, edit: Edit) -> Result<Edited, DeskError>
         ensures answer { IsAnswer (after J.first self.old) (length self.old) (asked edit) result }
         ensures ok { OnOk result (self.new ≡ self.old ++ asked edit ∷ []) }

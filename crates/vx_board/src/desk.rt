@@ -6,7 +6,7 @@ use std::alloc::{AllocError, Global};
 use std::sync::{Mutex, Wait};
 use vx_policy::{Edit, Policy, Version};
 
-/// A desk that threads share: its state under a lock. Each call is one hold of that lock.
+/// A desk that threads share: its state under a lock. Each call takes the lock once.
 #[derive(Drop)]
 pub struct Desk<J: Naming> {
     state: Mutex<DeskState<J>>,

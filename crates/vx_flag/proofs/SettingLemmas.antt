@@ -1,11 +1,26 @@
 -- What a flag is set to after one flag was set.
-use Rattle.std.proofs.Common.{◌≡◌, ◌≢◌, ◌<◌, ℕ, zero, suc, length, [], ◌∷◌, slice_index_or, slice_set, Option, None, refl, ap, arith}
+use Rattle.std.proofs.Common.{◌≡◌, ◌≢◌, ◌<◌, ℕ, zero, suc, length, map, List, [], ◌∷◌, slice_index_or, slice_set, Option, None, refl, ap, arith}
 use Rattle.vx_flag.proofs.Own.{one_place}
-use Rattle.vx_flag.specs.Flag.{flag_index}
-use Rattle.vx_flag.specs.Settings.{setting_of, put_at, with_setting}
+use Rattle.vx_flag.specs.Flag.{flags, flag_index}
+use Rattle.vx_flag.specs.Settings.{no_settings, setting_of, put_at, with_setting}
 use Rattle.vx_flag.specs.declared.flag.Flag.{Flag}
 use Rattle.vx_flag.specs.declared.setting.Setting.{Setting}
 use Rattle.vx_flag.specs.declared.settings.Settings.{Settings}
+
+-- what is set where nothing is set for any of these flags
+unset : List Flag → Settings
+unset fs = map (λ f. None) fs
+
+unset_at : (fs : List Flag) (i : ℕ) → slice_index_or (unset fs) i None ≡ None
+unfolding unset
+unset_at [] i = refl
+unset_at (f ∷ fs) zero = refl
+unset_at (f ∷ fs) (suc i) = unset_at fs i
+
+-- nothing is set for any flag at first
+pub nothing_set : (f : Flag) → setting_of no_settings f ≡ None
+unfolding unset
+nothing_set f = unset_at flags (flag_index f)
 
 -- at a place that a list has, an item is put by writing it over
 pub put_over : (s : Settings) (i : ℕ) (o : Option Setting) → i < length s → slice_set s i o ≡ put_at s i o

@@ -4,7 +4,7 @@ ghost use Rattle.vx_flag.specs.Group.{group_text, group_of, fits};
 use crate::association::Association;
 use std::fmt;
 
-/// Whom a region's setting of a flag is for.
+/// For whom a region sets a flag.
 #[derive(Clone, Copy, Debug, PartialEq, Eq, Hash)]
 pub enum Group {
     All,

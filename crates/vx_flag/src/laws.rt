@@ -46,7 +46,7 @@ pub fn one_text_each()
     ensures groups { (a b : Group) → group_text a ≡ group_text b → a ≡ b }
 {}
 
-/// What a text is read as is the one thing that has this text.
+/// A text is read as the one flag, state or group that has it.
 pub fn texts_are_read()
     ensures flags { (t : List ℕ) (f : Flag) → (flag_of t ≡ Some f) ↔ (flag_text f ≡ t) }
     ensures states { (t : List ℕ) (s : State) → (state_of t ≡ Some s) ↔ (state_text s ≡ t) }

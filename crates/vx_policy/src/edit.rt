@@ -16,7 +16,7 @@ pub enum Edit {
     Define(String, ShapeSpec),
     /// Another shape for a region.
     Reshape(String, ShapeSpec),
-    /// The region is there no longer.
+    /// The region is taken away.
     Remove(String),
     /// Another priority.
     Priority(String, i32),
@@ -26,14 +26,14 @@ pub enum Edit {
     SetFlag(String, Flag, Setting),
     /// The region sets nothing for the flag.
     ClearFlag(String, Flag),
-    /// One owner more, or one less.
+    /// A name is added to the owners, or dropped from them.
     Owner(String, Listing, String),
-    /// One member more, or one less.
+    /// A name is added to the members, or dropped from them.
     Member(String, Listing, String),
 }
 
 impl Edit {
-    /// One name of that role more, or one less.
+    /// The edit that adds a name to that role, or drops it.
     pub fn listed(role: Role, id: String, listing: Listing, name: String) -> Edit
         ensures { asked result ≡ Listed role (string_bytes id) listing (string_bytes name) }
     {

@@ -17,7 +17,7 @@ pub enum EditRefusal {
     HasChildren,
     /// The region would be an ancestor of itself.
     Cycle,
-    /// What is written is no shape.
+    /// The points or the heights make no shape.
     BadShape,
     /// A text spells no name.
     BadName,

@@ -8,8 +8,8 @@ pub fn refused_by_the_first_cause()
     ensures none { AcceptedWithoutCause }
 {}
 
-/// Of some edits the last is made of what the others left, and all are accepted exactly where the
-/// others are and then the last.
+/// Of several edits the last changes what the others left, and all are accepted exactly where the
+/// others are and then the last is.
 pub fn edits_in_turn()
     ensures made { LastEditIsMade }
     ensures accepted { LastEditIsAccepted }

@@ -15,7 +15,7 @@ pub struct Id {
     text: ArrayString<MAX_ID_BYTES>,
 }
 
-/// The text spells no id. The words are for callers that hand it on; nothing here prints them.
+/// The text spells no id. Nothing here prints the words; they are for callers that pass it on.
 #[derive(Clone, Copy, Debug, PartialEq, Eq, Error)]
 #[error("bad id")]
 pub struct BadId;

@@ -48,7 +48,7 @@ pub fn name_is_dropped()
     ensures others { DroppingKeepsOthers }
 {}
 
-/// A change of one region changes that one region.
+/// A change of one region leaves every other as it was.
 pub fn one_region_changes()
     ensures there { ChangeIsThere }
     ensures others { ChangeKeepsOthers }

@@ -15,7 +15,7 @@ pub struct Name {
     text: ArrayString<MAX_NAME_BYTES>,
 }
 
-/// The text spells no name. The words are for callers that hand it on; nothing here prints them.
+/// The text spells no name. Nothing here prints the words; they are for callers that pass it on.
 #[derive(Clone, Copy, Debug, PartialEq, Eq, Error)]
 #[error("bad name")]
 pub struct BadName;

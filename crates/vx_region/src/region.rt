@@ -116,7 +116,7 @@ impl Region {
         self.parent = parent;
     }
 
-    /// Names a player in that role; one that is named already stays named once.
+    /// Adds a name to that role. One that is there already stays there once.
     pub(crate) fn add_name(&mut self, role: Role, name: Name) -> Result<(), AllocError>
         ensures ok { OnOk result (self.new ≡ gaining role name.text.bytes self.old) }
         ensures err { OnErr result (self.new ≡ self.old) }
@@ -131,7 +131,7 @@ impl Region {
         }
     }
 
-    /// Names a player in that role no longer; one that is not named stays so.
+    /// Drops a name from that role. Nothing changes where it is not there.
     pub(crate) fn drop_name(&mut self, role: Role, name: &Name)
         ensures value { self.new ≡ losing role name.now.text.bytes self.old }
         ensures parent { self.new.parent ≡ self.old.parent }
@@ -143,7 +143,7 @@ impl Region {
         }
     }
 
-    /// Lays the region elsewhere.
+    /// Gives it another shape.
     pub(crate) fn set_shape(&mut self, shape: Shape)
         ensures value { self.new ≡ record self.old { shape = shape } }
         ensures parent { self.new.parent ≡ self.old.parent }

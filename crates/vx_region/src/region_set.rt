@@ -224,8 +224,8 @@ impl RegionSet {
         }
     }
 
-    /// Defines a region that nobody owns yet and answers its number.
-    /// The caller has looked that the id is free and that a number is left.
+    /// Defines a region that nobody owns yet and answers its number. The id has to be free, and a
+    /// number left.
     pub fn define(&mut self, alloc: Global, id: Id, shape: Shape) -> Result<RegionNo, AllocError>
         requires free { number_of self.old id.text.bytes ≡ None }
         requires room { self.old.last < 2 ^ 32 - 1 }
@@ -243,7 +243,7 @@ impl RegionSet {
         Ok(RegionNo(number))
     }
 
-    /// Names a player in that role in a region that is there; one that it names already stays named
+    /// Adds a name to that role in a region that is there. One that it has already stays there
     /// once.
     pub fn add_name(&mut self, number: RegionNo, role: Role, name: Name) -> Result<(), AllocError>
         requires { IsSome (region_at self.old number.0) }

@@ -1,4 +1,4 @@
-/// As what a region names a player.
+/// The role in which a region names a player.
 #[derive(Clone, Copy, Debug, PartialEq, Eq)]
 pub enum Role {
     Owner,

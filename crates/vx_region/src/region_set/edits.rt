@@ -11,7 +11,7 @@ use vx_flag::{Flag, Setting};
 use vx_geom::Shape;
 
 impl RegionSet {
-    /// Lays a region that is there elsewhere.
+    /// Gives a region that is there another shape.
     pub fn reshape(&mut self, number: RegionNo, shape: Shape)
         requires { IsSome (region_at self.old number.0) }
         ensures { self.new ≡ with_shape self.old number.0 shape }
@@ -58,7 +58,8 @@ impl RegionSet {
         self.regions.get_mut(&number.0).unwrap().clear_flag(flag);
     }
 
-    /// Takes a player out of that role in a region that is there; one that is not named stays so.
+    /// Drops a name from that role in a region that is there. Nothing changes where the region does
+    /// not have it.
     pub fn drop_name(&mut self, number: RegionNo, role: Role, name: &Name)
         requires { IsSome (region_at self.old number.0) }
         ensures { self.new ≡ without_name self.old number.0 role name.now.text.bytes }

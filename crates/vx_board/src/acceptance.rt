@@ -1,5 +1,5 @@
-//! The two halves of an acceptance: one that tests and makes every growth, and one that cannot fail. What is to be told of an
-//! edit before it counts can be told between them.
+//! The two halves of an acceptance: one that tests and makes every growth, and one that cannot
+//! fail. What is to be told of an edit before it counts can be told between them.
 ghost use Rattle.std.specs.Prelude.{◌≡◌, ◌+◌, ◌<◌, ◌++◌, ◌∷◌, ◌⊎◌, [], None, Some, Err, length, map, option_map, vec_len, vec_capacity, IfOk, OnErr};
 ghost use Rattle.vx_board.specs.Accepted.{IsRefused, most_edits};
 ghost use Rattle.vx_policy.specs.Asked.{asked};
@@ -14,31 +14,36 @@ use vx_policy::{Edit, Policy};
 use vx_region::RegionNo;
 
 /// How many edits a desk accepts.
-pub const EDITS: u64 = 1_099_511_627_776;
+pub const MAX_EDITS: u64 = 1_099_511_627_776;
 
-/// An edit that is applied to the policy, and for which there is room in the list of accepted edits.
+/// An edit that is applied to the policy, and for which there is room in the list of accepted
+/// edits.
 #[derive(Drop)]
 pub struct Ready {
     pub edit: Edit,
     pub region: Option<RegionNo>,
 }
 
-/// Tests an edit, makes room for it in the list, and applies it to the policy. Where it answers an error, policy and list are
-/// as before, but for room.
+/// Tests an edit, makes room for it in the list, and applies it to the policy. Where it answers an
+/// error, policy and list are as before, but for room.
 pub fn make_ready(
     alloc: Global,
     policy: &mut Policy,
     accepted: &mut Vec<Edit>,
     edit: Edit,
 ) -> Result<Ready, DeskError>
-    ensures ok { IfOk result (λ ready. (refusal policy.old (asked edit) ≡ None) × (policy.new ≡ edited policy.old (asked edit))
-        × (asked ready.edit ≡ asked edit) × (option_map (λ n. n.0) ready.region ≡ number_given policy.old (asked edit))) }
-    ensures room { IfOk result (λ _. (vec_len accepted.new < vec_capacity accepted.new) × (vec_len accepted.old < most_edits)) }
-    ensures refused { (e : DeskError) → result ≡ Err e → IsRefused policy.old (vec_len accepted.old) (asked edit) e }
+    ensures ok { IfOk result (λ ready. (refusal policy.old (asked edit) ≡ None)
+        × (policy.new ≡ edited policy.old (asked edit))
+        × (asked ready.edit ≡ asked edit)
+        × (option_map (λ n. n.0) ready.region ≡ number_given policy.old (asked edit))) }
+    ensures room { IfOk result (λ _. (vec_len accepted.new < vec_capacity accepted.new)
+        × (vec_len accepted.old < most_edits)) }
+    ensures refused { (e : DeskError) → result ≡ Err e
+        → IsRefused policy.old (vec_len accepted.old) (asked edit) e }
     ensures list { accepted.new.items ≡ accepted.old.items }
     ensures err { OnErr result (policy.new ≡ policy.old) }
 {
-    if EDITS <= accepted.len() as u64 {
+    if MAX_EDITS <= accepted.len() as u64 {
         return Err(DeskError::HistoryFull);
     }
     if let Some(refusal) = policy.refusal(&edit) {
@@ -59,7 +64,8 @@ pub fn make_ready(
 /// Puts an edit that is ready at the end of the list.
 pub fn settle(accepted: &mut Vec<Edit>, ready: Ready) -> Edited
     requires { vec_len accepted.old < vec_capacity accepted.old }
-    ensures list { map asked accepted.new.items ≡ map asked accepted.old.items ++ asked ready.edit ∷ [] }
+    ensures list { map asked accepted.new.items
+        ≡ map asked accepted.old.items ++ asked ready.edit ∷ [] }
     ensures count { result.count ≡ vec_len accepted.old + 1 }
     ensures region { result.region ≡ ready.region }
 {

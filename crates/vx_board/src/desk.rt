@@ -6,7 +6,7 @@ use std::alloc::{AllocError, Global};
 use std::sync::{Mutex, Wait};
 use vx_policy::{Edit, Policy, Version};
 
-/// A desk that threads share: its state under a lock. Each call is one hold of that lock.
+/// A desk that threads share: its state under a lock. Each call takes the lock once.
 #[derive(Drop)]
 pub struct Desk<J: Naming> {
     state: Mutex<DeskState<J>>,
@@ -27,7 +27,8 @@ impl<J: Naming> Desk<J> {
         }
     }
 
-    /// Accepts an edit or refuses it, as [`DeskState::apply`] does, by what stands when the lock is taken.
+    /// Accepts an edit or refuses it, as [`DeskState::apply`] does, by what stands when the lock is
+    /// taken.
     pub fn edit(&self, rt: &impl Wait, alloc: Global, edit: Edit) -> Result<Edited, DeskError>
         ensures { (before : List Asked) × AreAccepted J.first before
             × IsAnswer (after J.first before) (length before) (asked edit) result }
@@ -35,10 +36,15 @@ impl<J: Naming> Desk<J> {
         self.state.lock(rt).apply(alloc, edit)
     }
 
-    /// The version of that number: the policy after the edits that stand accepted when the lock is taken.
+    /// The version of that number: the policy after the edits that stand accepted when the lock is
+    /// taken.
     pub fn fix(&self, rt: &impl Wait, tick: u64) -> Result<Version, AllocError>
         ensures { IfOk result (λ version. (accepted : List Asked) × AreAccepted J.first accepted
-            × (version ≡ record { tick = tick; edits = length accepted; policy = after J.first accepted })) }
+            × (version ≡ record {
+              tick = tick;
+              edits = length accepted;
+              policy = after J.first accepted;
+            })) }
     {
         self.state.lock(rt).fix(tick)
     }

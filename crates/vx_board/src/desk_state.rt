@@ -6,8 +6,8 @@ use std::alloc::{AllocError, Global};
 use std::marker::{Model, PhantomData};
 use vx_policy::{Edit, Policy, Version};
 
-/// What a desk holds: the edits that it accepted, and the policy after them. Contracts see the list; the first policy stands in
-/// the type.
+/// What a desk holds: the edits that it accepted, and the policy after them. Contracts see the
+/// list; the first policy stands in the type.
 #[derive(Drop)]
 pub struct DeskState<J: Naming> {
     accepted: Vec<Edit>,
@@ -24,7 +24,8 @@ impl<J: Naming> Model for DeskState<J> {
 
     ghost view = { λ a. map asked a.accepted.items };
 
-    ghost invariant = { λ a. AreAccepted J.first (map asked a.accepted.items) × (a.policy ≡ after J.first (map asked a.accepted.items)) };
+    ghost invariant = { λ a. AreAccepted J.first (map asked a.accepted.items)
+        × (a.policy ≡ after J.first (map asked a.accepted.items)) };
 }
 
 impl<J: Naming> DeskState<J> {
@@ -45,8 +46,9 @@ impl<J: Naming> DeskState<J> {
         }
     }
 
-    /// Accepts an edit and applies it, or refuses it: where as many were accepted as may be, else by the first cause that stands
-    /// against it as things are now. A refusal, for want of memory too, leaves all as it was.
+    /// Accepts an edit and applies it, or refuses it: where as many were accepted as may be, else
+    /// by the first cause that stands against it as things are now. A refusal, for want of memory
+    /// too, leaves all as it was.
     pub fn apply(&mut self, alloc: Global, edit: Edit) -> Result<Edited, DeskError>
         ensures answer { IsAnswer (after J.first self.old) (length self.old) (asked edit) result }
         ensures ok { OnOk result (self.new ≡ self.old ++ asked edit ∷ []) }
@@ -57,9 +59,14 @@ impl<J: Naming> DeskState<J> {
         Ok(settle(&mut self.accepted, ready))
     }
 
-    /// The version of that number: the policy after the edits that were accepted so far. It shares the regions.
+    /// The version of that number: the policy after the edits that were accepted so far. It shares
+    /// the regions.
     pub fn fix(&self, tick: u64) -> Result<Version, AllocError>
-        ensures version { IfOk result (λ version. version ≡ record { tick = tick; edits = length self.now; policy = after J.first self.now }) }
+        ensures version { IfOk result (λ version. version ≡ record {
+          tick = tick;
+          edits = length self.now;
+          policy = after J.first self.now;
+        }) }
         ensures accepted { AreAccepted J.first self.now }
     {
         Ok(Version {

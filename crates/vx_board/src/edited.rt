@@ -3,7 +3,7 @@ ghost use Rattle.std.specs.Prelude.{Some};
 use std::fmt;
 use vx_region::RegionNo;
 
-/// What an accepted edit is told.
+/// The answer to an accepted edit.
 #[derive(Clone, Copy, Debug, PartialEq, Eq)]
 pub struct Edited {
     /// How many edits were accepted since the opening, this one counted.

@@ -1,4 +1,5 @@
-//! The desk: where edits of the written policy are accepted, in order, and versions of it are fixed.
+//! The desk: where edits of the written policy are accepted, in order, and versions of it are
+//! fixed.
 #![tactic(auto)]
 
 mod acceptance;
@@ -7,8 +8,6 @@ mod desk_error;
 mod desk_state;
 mod edited;
 mod naming;
-#[cfg(test)]
-mod tests;
 
 pub use desk::Desk;
 pub use desk_error::DeskError;

@@ -16,6 +16,16 @@ flag_text Pistons = codes "pistons"
 abbrev pub flags : List Flag
 flags = Build ∷ BlockBreak ∷ BlockPlace ∷ Usage ∷ ChestAccess ∷ Passthrough ∷ Pistons ∷ []
 
+-- the place of a flag among all
+abbrev pub flag_index : Flag → ℕ
+flag_index Build = 0
+flag_index BlockBreak = 1
+flag_index BlockPlace = 2
+flag_index Usage = 3
+flag_index ChestAccess = 4
+flag_index Passthrough = 5
+flag_index Pistons = 6
+
 -- the flag that has this text
 unfoldable pub flag_of : List ℕ → Option Flag
 flag_of text = find (λ f. bytes_eq (flag_text f) text) flags

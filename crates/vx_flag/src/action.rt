@@ -3,7 +3,8 @@ ghost use Rattle.vx_flag.specs.Action.{flag_of_action};
 
 use crate::flag::Flag;
 
-/// What is asked about a place (docs/RULES.md). Players ask about all but `Pushing`, by the text of the flag.
+/// What is asked about a place (docs/RULES.md). Players ask about all but `Pushing`, by the text of
+/// the flag.
 #[derive(Clone, Copy, Debug, PartialEq, Eq, Hash)]
 pub enum Action {
     Placing,
@@ -27,24 +28,6 @@ impl Action {
             Action::Turning => Flag::Usage,
             Action::Reaching => Flag::ChestAccess,
             Action::Pushing => Flag::Pistons,
-        }
-    }
-}
-
-#[cfg(test)]
-mod tests {
-    use super::*;
-
-    #[test]
-    fn each_action_has_its_flag(rt: HostRuntime) {
-        for (action, text) in [
-            (Action::Placing, "block-place"),
-            (Action::Breaking, "block-break"),
-            (Action::Turning, "use"),
-            (Action::Reaching, "chest-access"),
-            (Action::Pushing, "pistons"),
-        ] {
-            assert_eq!(rt; action.flag().text(), text, "{action:?}");
         }
     }
 }

@@ -1,5 +1,5 @@
-ghost use Rattle.std.specs.Prelude.{◌≡◌, IfSome, Some};
-ghost use Rattle.vx_flag.specs.Flag.{flag_text, flag_of};
+ghost use Rattle.std.specs.Prelude.{◌≡◌, ◌<◌, length, IfSome, Some};
+ghost use Rattle.vx_flag.specs.Flag.{flag_text, flags, flag_index, flag_of};
 
 use std::fmt;
 
@@ -20,7 +20,29 @@ pub enum Flag {
     Pistons,
 }
 
+/// How many flags there are.
+pub(crate) const FLAGS: usize = 7;
+
 impl Flag {
+    /// Every flag, each at its own place.
+    pub const ALL: [Flag; FLAGS] = [
+        Flag::Build,
+        Flag::BlockBreak,
+        Flag::BlockPlace,
+        Flag::Usage,
+        Flag::ChestAccess,
+        Flag::Passthrough,
+        Flag::Pistons,
+    ];
+
+    /// The place of this flag among all.
+    pub(crate) fn index(self) -> usize
+        ensures value { result ≡ flag_index self }
+        ensures within { result < length flags }
+    {
+        self as usize
+    }
+
     /// The text of this flag (docs/FORMATS.md).
     pub fn text(self) -> &'static str
         ensures { result.now ≡ flag_text self }
@@ -61,47 +83,5 @@ impl fmt::Display for Flag {
 
     fn fmt<W: fmt::Write>(&self, f: &mut fmt::Formatter<W>) -> fmt::Result {
         f.pad(self.text())
-    }
-}
-
-#[cfg(test)]
-mod tests {
-    use super::*;
-    use std::test::Fail;
-
-    #[test]
-    fn each_flag_has_its_text(rt: HostRuntime) -> Result<(), Fail> {
-        for (flag, text) in [
-            (Flag::Build, "build"),
-            (Flag::BlockBreak, "block-break"),
-            (Flag::BlockPlace, "block-place"),
-            (Flag::Usage, "use"),
-            (Flag::ChestAccess, "chest-access"),
-            (Flag::Passthrough, "passthrough"),
-            (Flag::Pistons, "pistons"),
-        ] {
-            assert_eq!(rt; flag.text(), text);
-            assert_eq!(rt; Flag::read(text), Some(flag), "{text}");
-            let line = format!(in rt.alloc(); "set {flag}")?;
-            assert_eq!(rt; line.strip_prefix("set "), Some(text));
-        }
-        Ok(())
-    }
-
-    #[test]
-    fn no_other_text_is_read(rt: HostRuntime) {
-        for text in [
-            "",
-            "Build",
-            "build ",
-            " use",
-            "usage",
-            "block",
-            "block_break",
-            "piston",
-            "allow",
-        ] {
-            assert_eq!(rt; Flag::read(text), None, "{text}");
-        }
     }
 }

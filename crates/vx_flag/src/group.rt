@@ -4,7 +4,7 @@ ghost use Rattle.vx_flag.specs.Group.{group_text, group_of, fits};
 use crate::association::Association;
 use std::fmt;
 
-/// Whom a region's setting of a flag is for.
+/// For whom a region sets a flag.
 #[derive(Clone, Copy, Debug, PartialEq, Eq, Hash)]
 pub enum Group {
     All,
@@ -64,47 +64,5 @@ pub fn fits(group: Group, association: Association) -> bool
         Group::Owners => matches!(association, Association::Owner),
         Group::Nonmembers => matches!(association, Association::Stranger),
         Group::Nonowners => matches!(association, Association::Member | Association::Stranger),
-    }
-}
-
-#[cfg(test)]
-mod tests {
-    use super::*;
-    use std::test::Fail;
-
-    #[test]
-    fn each_group_has_its_text(rt: HostRuntime) -> Result<(), Fail> {
-        for (group, text) in [
-            (Group::All, "all"),
-            (Group::Members, "members"),
-            (Group::Owners, "owners"),
-            (Group::Nonmembers, "nonmembers"),
-            (Group::Nonowners, "nonowners"),
-        ] {
-            assert_eq!(rt; group.text(), text);
-            assert_eq!(rt; Group::read(text), Some(group), "{text}");
-        }
-        for text in ["", "All", "member", "non-members", "nonowners ", "allow"] {
-            assert_eq!(rt; Group::read(text), None, "{text}");
-        }
-        let line = format!(in rt.alloc(); "for {}", Group::Nonmembers)?;
-        assert_eq!(rt; line.as_str(), "for nonmembers");
-        Ok(())
-    }
-
-    #[test]
-    fn each_group_fits_its_own(rt: HostRuntime) {
-        for (group, want) in [
-            (Group::All, [true, true, true]),
-            (Group::Members, [true, true, false]),
-            (Group::Owners, [true, false, false]),
-            (Group::Nonmembers, [false, false, true]),
-            (Group::Nonowners, [false, true, true]),
-        ] {
-            let owner = fits(group, Association::Owner);
-            let member = fits(group, Association::Member);
-            let stranger = fits(group, Association::Stranger);
-            assert_eq!(rt; [owner, member, stranger], want, "{group}");
-        }
     }
 }

@@ -15,7 +15,8 @@ pub use association::Association;
 pub use flag::Flag;
 pub use group::{Group, fits};
 pub use laws::{
-    groups_complement, one_flag_changes, one_text_each, states_combine, texts_are_read,
+    flags_have_places, groups_complement, one_flag_changes, one_text_each, states_combine,
+    texts_are_read,
 };
 pub use setting::Setting;
 pub use settings::Settings;

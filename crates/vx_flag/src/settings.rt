@@ -1,23 +1,29 @@
-ghost use Rattle.std.specs.Prelude.{◌≡◌, Some, None};
 ghost use Rattle.std.specs.Bool.{Decides};
-ghost use Rattle.vx_flag.specs.SameSettings.{same_state, same_group, same_setting, same_settings};
+ghost use Rattle.std.specs.Prelude.{◌≡◌, Some, None};
 ghost use Rattle.vx_flag.specs.Settings.{no_settings, setting_of, with_setting};
 
-use crate::flag::Flag;
-use crate::group::Group;
+use crate::flag::{FLAGS, Flag};
 use crate::setting::Setting;
-use crate::state::State;
+use std::marker::Model;
 
 /// What is set for each flag, if anything.
-#[derive(Clone, Copy, Debug, PartialEq, Eq)]
+#[derive(Clone, Copy, Debug)]
 pub struct Settings {
-    build: Option<Setting>,
-    block_break: Option<Setting>,
-    block_place: Option<Setting>,
-    usage: Option<Setting>,
-    chest_access: Option<Setting>,
-    passthrough: Option<Setting>,
-    pistons: Option<Setting>,
+    by_flag: [Option<Setting>; FLAGS],
+}
+
+impl Model for Settings {
+    ghost use Rattle.std.specs.Prelude.{◌≡◌, List, Option, length};
+    ghost use Rattle.vx_flag.specs.Flag.{flags};
+    ghost use Rattle.vx_flag.specs.declared.setting.Setting.{Setting};
+
+    ghost Value = { List (Option Setting) };
+
+    ghost view = { λ a. a.by_flag };
+
+    ghost invariant = { λ a. length a.by_flag ≡ length flags };
+
+    ghost inverse = { λ s. record { by_flag = s } };
 }
 
 impl Settings {
@@ -26,13 +32,7 @@ impl Settings {
         ensures { result ≡ no_settings }
     {
         Settings {
-            build: None,
-            block_break: None,
-            block_place: None,
-            usage: None,
-            chest_access: None,
-            passthrough: None,
-            pistons: None,
+            by_flag: [None; FLAGS],
         }
     }
 
@@ -40,128 +40,50 @@ impl Settings {
     pub fn get(&self, flag: Flag) -> Option<Setting>
         ensures { result ≡ setting_of self.now flag }
     {
-        match flag {
-            Flag::Build => self.build,
-            Flag::BlockBreak => self.block_break,
-            Flag::BlockPlace => self.block_place,
-            Flag::Usage => self.usage,
-            Flag::ChestAccess => self.chest_access,
-            Flag::Passthrough => self.passthrough,
-            Flag::Pistons => self.pistons,
-        }
+        self.by_flag[flag.index()]
     }
 
     /// Sets the flag, in place of what was set for it before.
     pub fn set(&mut self, flag: Flag, setting: Setting)
         ensures { self.new ≡ with_setting self.old flag (Some setting) }
     {
-        match flag {
-            Flag::Build => self.build = Some(setting),
-            Flag::BlockBreak => self.block_break = Some(setting),
-            Flag::BlockPlace => self.block_place = Some(setting),
-            Flag::Usage => self.usage = Some(setting),
-            Flag::ChestAccess => self.chest_access = Some(setting),
-            Flag::Passthrough => self.passthrough = Some(setting),
-            Flag::Pistons => self.pistons = Some(setting),
-        }
+        self.put(flag, Some(setting));
     }
 
     /// Leaves the flag unset.
     pub fn clear(&mut self, flag: Flag)
         ensures { self.new ≡ with_setting self.old flag None }
     {
-        match flag {
-            Flag::Build => self.build = None,
-            Flag::BlockBreak => self.block_break = None,
-            Flag::BlockPlace => self.block_place = None,
-            Flag::Usage => self.usage = None,
-            Flag::ChestAccess => self.chest_access = None,
-            Flag::Passthrough => self.passthrough = None,
-            Flag::Pistons => self.pistons = None,
-        }
+        self.put(flag, None);
     }
 
-    /// Whether the same is set for each flag.
+    fn put(&mut self, flag: Flag, setting: Option<Setting>)
+        ensures { self.new ≡ with_setting self.old flag setting }
+    {
+        self.by_flag[flag.index()] = setting;
+    }
+}
+
+impl PartialEq for Settings {
+    ghost use Rattle.std.specs.Cmp.{partial_equiv_from_equiv};
+    ghost use Rattle.vx_flag.specs.SameSettings.{same_settings};
+    ghost use Rattle.vx_flag.specs.SettingsLaws.{settings_equiv};
+
+    ghost eq = { same_settings };
+
+    ghost laws = { partial_equiv_from_equiv settings_equiv };
+
     #[tactic(auto, unfolding(crate::specs::SameSettings::same_settings))]
-    pub fn same(&self, other: &Settings) -> bool
+    fn eq(&self, other: &Settings) -> bool
         ensures value { result ≡ same_settings self.now other.now }
         ensures decides { Decides result (self.now ≡ other.now) }
     {
-        if !same_setting(self.build, other.build) {
-            return false;
-        }
-        if !same_setting(self.block_break, other.block_break) {
-            return false;
-        }
-        if !same_setting(self.block_place, other.block_place) {
-            return false;
-        }
-        if !same_setting(self.usage, other.usage) {
-            return false;
-        }
-        if !same_setting(self.chest_access, other.chest_access) {
-            return false;
-        }
-        if !same_setting(self.passthrough, other.passthrough) {
-            return false;
-        }
-        same_setting(self.pistons, other.pistons)
+        self.by_flag == other.by_flag
     }
 }
 
-#[tactic(auto, unfolding(crate::specs::SameSettings::same_setting))]
-fn same_setting(a: Option<Setting>, b: Option<Setting>) -> bool
-    ensures value { result ≡ same_setting a b }
-    ensures decides { Decides result (a ≡ b) }
-{
-    match (a, b) {
-        (None, None) => true,
-        (Some(a), Some(b)) => same_state(a.state, b.state) && same_group(a.group, b.group),
-        _ => false,
-    }
-}
+impl Eq for Settings {
+    ghost use Rattle.vx_flag.specs.SettingsLaws.{settings_equiv};
 
-#[tactic(auto, unfolding(crate::specs::SameSettings::same_state))]
-fn same_state(a: State, b: State) -> bool
-    ensures value { result ≡ same_state a b }
-    ensures decides { Decides result (a ≡ b) }
-{
-    a == b
-}
-
-#[tactic(auto, unfolding(crate::specs::SameSettings::same_group))]
-fn same_group(a: Group, b: Group) -> bool
-    ensures value { result ≡ same_group a b }
-    ensures decides { Decides result (a ≡ b) }
-{
-    a == b
-}
-
-#[cfg(test)]
-mod tests {
-    use super::*;
-
-    #[test]
-    fn one_flag_is_set_and_cleared(rt: HostRuntime) {
-        let deny = Setting {
-            state: State::Deny,
-            group: Group::Members,
-        };
-        let mut settings = Settings::new();
-        for flag in [Flag::Build, Flag::Usage, Flag::Pistons] {
-            assert_eq!(rt; settings.get(flag), None);
-        }
-
-        settings.set(Flag::Usage, deny);
-        assert_eq!(rt; settings.get(Flag::Usage), Some(deny));
-        assert_eq!(rt; settings.get(Flag::Build), None);
-        assert!(rt; !settings.same(&Settings::new()));
-
-        settings.set(Flag::Build, deny);
-        settings.clear(Flag::Usage);
-        assert_eq!(rt; settings.get(Flag::Usage), None);
-        assert_eq!(rt; settings.get(Flag::Build), Some(deny));
-        settings.clear(Flag::Build);
-        assert!(rt; settings.same(&Settings::new()));
-    }
+    ghost laws = { settings_equiv };
 }

@@ -53,35 +53,3 @@ pub fn strictest(a: State, b: State) -> State
         _ => State::Deny,
     }
 }
-
-#[cfg(test)]
-mod tests {
-    use super::*;
-    use std::test::Fail;
-
-    #[test]
-    fn each_state_has_its_text(rt: HostRuntime) -> Result<(), Fail> {
-        for (state, text) in [(State::Allow, "allow"), (State::Deny, "deny")] {
-            assert_eq!(rt; state.text(), text);
-            assert_eq!(rt; State::read(text), Some(state), "{text}");
-        }
-        for text in ["", "Allow", "deny ", "denied", "all"] {
-            assert_eq!(rt; State::read(text), None, "{text}");
-        }
-        let line = format!(in rt.alloc(); "{} or {}", State::Allow, State::Deny)?;
-        assert_eq!(rt; line.as_str(), "allow or deny");
-        Ok(())
-    }
-
-    #[test]
-    fn one_denial_denies(rt: HostRuntime) {
-        for (a, b, want) in [
-            (State::Allow, State::Allow, State::Allow),
-            (State::Allow, State::Deny, State::Deny),
-            (State::Deny, State::Allow, State::Deny),
-            (State::Deny, State::Deny, State::Deny),
-        ] {
-            assert_eq!(rt; strictest(a, b), want, "{a} and {b}");
-        }
-    }
-}

@@ -8,14 +8,15 @@ use Rattle.vx_flag.specs.declared.settings.Settings.{Settings}
 use Rattle.vx_flag.specs.Settings.{setting_of}
 use Rattle.vx_geom.specs.Outline.{Outline}
 use Rattle.vx_geom.specs.Written.{Written, outline_asked}
-use Rattle.vx_region.specs.Regions.{RegionData, Regions, region_at, setting_at, with_shape, with_priority, with_parent, with_flag, with_owner, without_owner, with_member, without_member}
+use Rattle.vx_region.specs.Regions.{RegionData, Regions, region_at, setting_at, with_shape, with_priority, with_parent, with_flag, with_name, without_name}
 use Rattle.vx_region.specs.Words.{read_id, read_name}
 use Rattle.vx_region.proofs.Changes.{region_changed, region_elsewhere, region_kept}
 use Rattle.vx_region.proofs.Globals.{flag_at_large, flag_of_region}
 use Rattle.vx_region.proofs.Removals.{region_beside}
-use Rattle.vx_policy.specs.Asked.{Asked, Define, Reshape, Remove, Priority, Parent, SetFlag, ClearFlag, Owner, Member, target}
-use Rattle.vx_policy.specs.Edits.{given, listed_owner, listed_member, edited}
+use Rattle.vx_policy.specs.Asked.{Asked, Define, Reshape, Remove, Priority, Parent, SetFlag, ClearFlag, Listed, target}
+use Rattle.vx_policy.specs.Edits.{given, listed, edited}
 use Rattle.vx_policy.specs.Refusals.{numbered, is_definition}
+use Rattle.vx_region.specs.declared.role.Role.{Role}
 use Rattle.vx_policy.specs.declared.listing.Listing.{Listing}
 use Rattle.vx_policy.specs.declared.listing.Listing.TheVariants.{Add, Drop}
 use Rattle.vx_policy.proofs.Parts.{kept_given}
@@ -48,15 +49,10 @@ module _ (rs : Regions) (n m : ℕ) (other : m ≢ n) where
         | inr region ↦ ap (λ s. region_at s m) (flag_of_region rs n f o region) ∙ region_elsewhere _ n m rs other
       ]
 
-  owner_listed : (listing : Listing) (name : List ℕ) → SameAt m rs (listed_owner rs n listing name)
-  unfolding with_owner without_owner
-  owner_listed Add name = region_elsewhere _ n m rs other
-  owner_listed Drop name = region_elsewhere _ n m rs other
-
-  member_listed : (listing : Listing) (name : List ℕ) → SameAt m rs (listed_member rs n listing name)
-  unfolding with_member without_member
-  member_listed Add name = region_elsewhere _ n m rs other
-  member_listed Drop name = region_elsewhere _ n m rs other
+  name_listed : (role : Role) (listing : Listing) (name : List ℕ) → SameAt m rs (listed rs n role listing name)
+  unfolding with_name without_name
+  name_listed role Add name = region_elsewhere _ n m rs other
+  name_listed role Drop name = region_elsewhere _ n m rs other
 
   -- an edit leaves each region but the one that it names as it was
   others_kept : (e : Asked) → is_definition e ≡ false → numbered rs (target e) ≡ Some n → region_at (edited rs e) m ≡ region_at rs m
@@ -69,8 +65,7 @@ module _ (rs : Regions) (n m : ℕ) (other : m ≢ n) where
   others_kept (Parent id parent) old is = named id _ is (region_elsewhere _ n m rs other)
   others_kept (SetFlag id flag setting) old is = named id _ is (flagged flag (Some setting))
   others_kept (ClearFlag id flag) old is = named id _ is (flagged flag None)
-  others_kept (Owner id listing name) old is = named id _ is (kept_given (SameAt m rs) rs (read_name name) _ refl (owner_listed listing))
-  others_kept (Member id listing name) old is = named id _ is (kept_given (SameAt m rs) rs (read_name name) _ refl (member_listed listing))
+  others_kept (Listed role id listing name) old is = named id _ is (kept_given (SameAt m rs) rs (read_name name) _ refl (name_listed role listing))
 
 pub others_are_kept : (rs : Regions) (e : Asked) (n m : ℕ) → is_definition e ≡ false → numbered rs (target e) ≡ Some n → m ≢ n → region_at (edited rs e) m ≡ region_at rs m
 others_are_kept rs e n m old is other = others_kept rs n m other e old is

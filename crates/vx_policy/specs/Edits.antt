@@ -1,10 +1,11 @@
 use Rattle.std.specs.Prelude.{ℕ, ◌≡◌, ◌+◌, List, [], ◌∷◌, Option, Some, None}
 use Rattle.std.specs.Option.{option_and_then}
 use Rattle.vx_geom.specs.Written.{outline_asked}
-use Rattle.vx_region.specs.Regions.{Regions, with_region, without_region, with_shape, with_priority, with_parent, with_flag, with_owner, without_owner, with_member, without_member}
+use Rattle.vx_region.specs.Regions.{Regions, with_region, without_region, with_shape, with_priority, with_parent, with_flag, with_name, without_name}
 use Rattle.vx_region.specs.Words.{read_id, read_name}
-use Rattle.vx_policy.specs.Asked.{Asked, Define, Reshape, Remove, Priority, Parent, SetFlag, ClearFlag, Owner, Member}
+use Rattle.vx_policy.specs.Asked.{Asked, Define, Reshape, Remove, Priority, Parent, SetFlag, ClearFlag, Listed}
 use Rattle.vx_policy.specs.Refusals.{numbered, refusal}
+use Rattle.vx_region.specs.declared.role.Role.{Role}
 use Rattle.vx_policy.specs.declared.listing.Listing.{Listing}
 use Rattle.vx_policy.specs.declared.listing.Listing.TheVariants.{Add, Drop}
 
@@ -13,27 +14,26 @@ abbrev pub given : {A : Type 0} → Regions → Option A → (A → Regions) →
 given rs None change = rs
 given rs (Some x) change = change x
 
--- an owner more or less
-abbrev pub listed_owner : Regions → ℕ → Listing → List ℕ → Regions
-listed_owner rs n Add name = with_owner rs n name
-listed_owner rs n Drop name = without_owner rs n name
-
--- a member more or less
-abbrev pub listed_member : Regions → ℕ → Listing → List ℕ → Regions
-listed_member rs n Add name = with_member rs n name
-listed_member rs n Drop name = without_member rs n name
+-- a name of a role more or less
+abbrev pub listed : Regions → ℕ → Role → Listing → List ℕ → Regions
+listed rs n role Add name = with_name rs n role name
+listed rs n role Drop name = without_name rs n role name
 
 -- the regions after an edit that was accepted
 unfoldable pub edited : Regions → Asked → Regions
-edited rs (Define id shape) = given rs (read_id id) (λ word. given rs (outline_asked shape) (with_region rs word))
-edited rs (Reshape id shape) = given rs (numbered rs id) (λ n. given rs (outline_asked shape) (with_shape rs n))
+edited rs (Define id shape) =
+    given rs (read_id id) (λ word. given rs (outline_asked shape) (with_region rs word))
+edited rs (Reshape id shape) =
+    given rs (numbered rs id) (λ n. given rs (outline_asked shape) (with_shape rs n))
 edited rs (Remove id) = given rs (numbered rs id) (without_region rs)
 edited rs (Priority id priority) = given rs (numbered rs id) (λ n. with_priority rs n priority)
-edited rs (Parent id parent) = given rs (numbered rs id) (λ n. with_parent rs n (option_and_then (numbered rs) parent))
-edited rs (SetFlag id flag setting) = given rs (numbered rs id) (λ n. with_flag rs n flag (Some setting))
+edited rs (Parent id parent) =
+    given rs (numbered rs id) (λ n. with_parent rs n (option_and_then (numbered rs) parent))
+edited rs (SetFlag id flag setting) =
+    given rs (numbered rs id) (λ n. with_flag rs n flag (Some setting))
 edited rs (ClearFlag id flag) = given rs (numbered rs id) (λ n. with_flag rs n flag None)
-edited rs (Owner id listing name) = given rs (numbered rs id) (λ n. given rs (read_name name) (listed_owner rs n listing))
-edited rs (Member id listing name) = given rs (numbered rs id) (λ n. given rs (read_name name) (listed_member rs n listing))
+edited rs (Listed role id listing name) =
+    given rs (numbered rs id) (λ n. given rs (read_name name) (listed rs n role listing))
 
 -- the number that an edit gives: a definition the one above all that were ever given
 abbrev pub number_given : Regions → Asked → Option ℕ

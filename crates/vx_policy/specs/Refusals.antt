@@ -4,7 +4,7 @@ use Rattle.vx_geom.specs.Written.{outline_asked}
 use Rattle.vx_region.specs.Ancestry.{has_child, is_under}
 use Rattle.vx_region.specs.Regions.{Regions, number_of}
 use Rattle.vx_region.specs.Words.{read_id, read_name}
-use Rattle.vx_policy.specs.Asked.{Asked, Define, Reshape, Remove, Parent, SetFlag, ClearFlag, Owner, Member, target}
+use Rattle.vx_policy.specs.Asked.{Asked, Define, Reshape, Remove, Parent, SetFlag, ClearFlag, Listed, target}
 use Rattle.vx_policy.specs.declared.edit_refusal.EditRefusal.{EditRefusal}
 use Rattle.vx_policy.specs.declared.edit_refusal.EditRefusal.TheVariants.{BadId, Known, Unknown, HasChildren, Cycle, BadShape, BadName, GlobalHasNone, TooManyRegions}
 
@@ -59,8 +59,7 @@ some_id test e = test (target e)
 
 -- the owner or member that the edit names has no name's spelling
 abbrev pub misspells_name : Asked → Bool
-misspells_name (Owner id listing name) = not (is_name name)
-misspells_name (Member id listing name) = not (is_name name)
+misspells_name (Listed role id listing name) = not (is_name name)
 misspells_name e = false
 
 -- the shape that the edit names is none
@@ -81,7 +80,8 @@ leads_back rs n q = false
 
 -- a region is to have a parent that is itself, or that has it as an ancestor
 abbrev pub closes_cycle : Regions → Asked → Bool
-closes_cycle rs (Parent id parent) = leads_back rs (numbered rs id) (option_and_then (numbered rs) parent)
+closes_cycle rs (Parent id parent) =
+    leads_back rs (numbered rs id) (option_and_then (numbered rs) parent)
 closes_cycle rs e = false
 
 -- there are as many regions as there may be, or the last number was given
@@ -102,7 +102,9 @@ holds rs e TooManyRegions = is_definition e && is_full rs
 
 -- the causes in the order in which they count
 abbrev pub causes : List EditRefusal
-causes = BadId ∷ BadName ∷ BadShape ∷ Known ∷ Unknown ∷ GlobalHasNone ∷ HasChildren ∷ Cycle ∷ TooManyRegions ∷ []
+causes =
+    BadId ∷ BadName ∷ BadShape ∷ Known ∷ Unknown ∷ GlobalHasNone ∷ HasChildren ∷ Cycle
+    ∷ TooManyRegions ∷ []
 
 -- why an edit is refused: the first cause that stands against it, or none
 unfoldable pub refusal : Regions → Asked → Option EditRefusal

@@ -1,20 +1,22 @@
-ghost use Rattle.std.specs.Prelude.{◌≡◌, IfOk};
-ghost use Rattle.vx_policy.specs.Asked.{asked};
+ghost use Rattle.std.specs.Prelude.{◌≡◌, IfOk, string_bytes};
+ghost use Rattle.vx_policy.specs.Asked.{Listed, asked};
 
 use crate::listing::Listing;
 use std::alloc::{AllocError, Global};
 use vx_flag::{Flag, Setting};
 use vx_geom::ShapeSpec;
+use vx_region::Role;
 
-/// A change of the written policy, as it is asked for. Ids and names are texts, and shapes as they are written: what is wrong
-/// with them is told where the edit is applied. docs/RULES.md says what each edit does, and why it may be refused.
+/// A change of the written policy, as it is asked for. Ids and names are texts, and shapes as they
+/// are written: what is wrong with them is told where the edit is applied. docs/RULES.md says what
+/// each edit does, and why it may be refused.
 #[derive(Debug, Drop)]
 pub enum Edit {
     /// A new region, of this id.
     Define(String, ShapeSpec),
     /// Another shape for a region.
     Reshape(String, ShapeSpec),
-    /// The region is there no longer.
+    /// The region is taken away.
     Remove(String),
     /// Another priority.
     Priority(String, i32),
@@ -24,13 +26,23 @@ pub enum Edit {
     SetFlag(String, Flag, Setting),
     /// The region sets nothing for the flag.
     ClearFlag(String, Flag),
-    /// One owner more, or one less.
+    /// A name is added to the owners, or dropped from them.
     Owner(String, Listing, String),
-    /// One member more, or one less.
+    /// A name is added to the members, or dropped from them.
     Member(String, Listing, String),
 }
 
 impl Edit {
+    /// The edit that adds a name to that role, or drops it.
+    pub fn listed(role: Role, id: String, listing: Listing, name: String) -> Edit
+        ensures { asked result ≡ Listed role (string_bytes id) listing (string_bytes name) }
+    {
+        match role {
+            Role::Owner => Edit::Owner(id, listing, name),
+            Role::Member => Edit::Member(id, listing, name),
+        }
+    }
+
     /// A copy of the edit.
     pub fn try_clone(&self, alloc: Global) -> Result<Edit, AllocError>
         ensures { IfOk result (λ copy. asked copy ≡ asked self.now) }
@@ -62,14 +74,21 @@ impl Edit {
                 *setting,
             )),
             Edit::ClearFlag(id, flag) => Ok(Edit::ClearFlag(String::from_str(alloc, id)?, *flag)),
-            Edit::Owner(id, listing, name) => {
-                let id = String::from_str(alloc, id)?;
-                Ok(Edit::Owner(id, *listing, String::from_str(alloc, name)?))
-            }
-            Edit::Member(id, listing, name) => {
-                let id = String::from_str(alloc, id)?;
-                Ok(Edit::Member(id, *listing, String::from_str(alloc, name)?))
-            }
+            Edit::Owner(id, listing, name) => copied(alloc, Role::Owner, id, *listing, name),
+            Edit::Member(id, listing, name) => copied(alloc, Role::Member, id, *listing, name),
         }
     }
+}
+
+fn copied(
+    alloc: Global,
+    role: Role,
+    id: &str,
+    listing: Listing,
+    name: &str,
+) -> Result<Edit, AllocError>
+    ensures { IfOk result (λ copy. asked copy ≡ Listed role id.now listing name.now) }
+{
+    let id = String::from_str(alloc, id)?;
+    Ok(Edit::listed(role, id, listing, String::from_str(alloc, name)?))
 }

@@ -3,7 +3,8 @@ ghost use Rattle.std.specs.Prelude.{Some};
 use std::error::Error;
 use std::fmt;
 
-/// Why an edit was refused. Each cause has a number; docs/FORMATS.md has the table, and docs/RULES.md what each means.
+/// Why an edit was refused. Each cause has a number; docs/FORMATS.md has the table, and
+/// docs/RULES.md what each means.
 #[derive(Clone, Copy, Debug, PartialEq, Eq)]
 pub enum EditRefusal {
     /// A text spells no id.
@@ -16,7 +17,7 @@ pub enum EditRefusal {
     HasChildren,
     /// The region would be an ancestor of itself.
     Cycle,
-    /// What is written is no shape.
+    /// The points or the heights make no shape.
     BadShape,
     /// A text spells no name.
     BadName,

@@ -1,13 +1,15 @@
 //! What follows from the definitions of an edit, whatever the regions.
 ghost use Rattle.vx_policy.specs.Laws.{RefusedByTheFirst, AcceptedWithoutCause, LastEditIsMade, LastEditIsAccepted, OthersAreKept, DefinitionKeepsOthers, NumberIsNew, NumberIsTheLast, LastIsKept, LaterNumbersAreHigher, FlagsSurviveAReshape};
 
-/// An edit is refused for the first cause that stands against it, and accepted exactly where none does.
+/// An edit is refused for the first cause that stands against it, and accepted exactly where none
+/// does.
 pub fn refused_by_the_first_cause()
     ensures first { RefusedByTheFirst }
     ensures none { AcceptedWithoutCause }
 {}
 
-/// Of some edits the last is made of what the others left, and all are accepted exactly where the others are and then the last.
+/// Of several edits the last changes what the others left, and all are accepted exactly where the
+/// others are and then the last is.
 pub fn edits_in_turn()
     ensures made { LastEditIsMade }
     ensures accepted { LastEditIsAccepted }
@@ -19,7 +21,8 @@ pub fn one_region_is_edited()
     ensures defined { DefinitionKeepsOthers }
 {}
 
-/// A definition gives a number above all that were given before, also to regions that were removed since.
+/// A definition gives a number above all that were given before, also to regions that were removed
+/// since.
 pub fn numbers_are_never_given_twice()
     ensures new { NumberIsNew }
     ensures given { NumberIsTheLast }

@@ -1,4 +1,5 @@
-//! The written policy as it is edited: what an edit asks for, why it may be refused, and what it leaves.
+//! The written policy as it is edited: what an edit asks for, why it may be refused, and what it
+//! leaves.
 #![tactic(auto)]
 
 mod edit;
@@ -19,6 +20,3 @@ pub use laws::{
 pub use listing::Listing;
 pub use policy::Policy;
 pub use version::Version;
-
-#[cfg(test)]
-mod tests;

@@ -1,8 +1,8 @@
-/// Whether a name is put among the owners or members of a region, or taken from them.
+/// Whether a name is added to the owners or members of a region, or dropped from them.
 #[derive(Clone, Copy, Debug, PartialEq, Eq)]
 pub enum Listing {
-    /// Named from now on. A name that is there stays there once.
+    /// The name is added. One that is there already stays there once.
     Add,
-    /// Named no longer. A name that is not there stays away.
+    /// The name is dropped. Nothing changes where it is not there.
     Drop,
 }

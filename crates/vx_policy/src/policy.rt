@@ -10,7 +10,8 @@ use std::marker::Model;
 use std::sync::Arc;
 use vx_region::RegionSet;
 
-/// The written policy: a set of regions that is changed by edits. Copies share it until one of them is changed.
+/// The written policy: a set of regions that is changed by edits. Copies share it until one of them
+/// is changed.
 #[derive(Debug, Drop)]
 pub struct Policy {
     regions: Arc<RegionSet>,

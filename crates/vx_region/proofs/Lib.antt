@@ -8,5 +8,6 @@ pub mod Lookups
 pub mod NameLemmas
 pub mod Numbers
 pub mod Removals
+pub mod Roles
 pub mod SameLists
 pub mod Walks

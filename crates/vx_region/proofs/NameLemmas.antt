@@ -9,7 +9,7 @@ use Rattle.std.specs.List.{list_any, AllByRecursion, IsDistinct}
 use Rattle.std.specs.Set.{remove_key}
 use Rattle.indexmap.specs.IndexSet.{insert_key}
 use Rattle.vx_region.specs.declared.name.Name.{Name}
-use Rattle.vx_region.specs.Regions.{names, with_name, without_name}
+use Rattle.vx_region.specs.Regions.{names, names_with, names_without}
 use Rattle.vx_region.specs.Laws.{NamesOneMore, NamesOneLess}
 use Rattle.vx_region.specs.Texts.{texts}
 
@@ -27,7 +27,7 @@ texts_push [] n = refl
 texts_push (k ∷ ns) n = ap (λ ts. k.text.bytes ∷ ts) (texts_push ns n)
 
 -- the texts after a name is put among others
-pub texts_insert_key : (ns : List Name) (n : Name) → texts (insert_key same_name ns n) ≡ with_name (texts ns) n.text.bytes
+pub texts_insert_key : (ns : List Name) (n : Name) → texts (insert_key same_name ns n) ≡ names_with (texts ns) n.text.bytes
 texts_insert_key ns n =
     by (list_any (same_name n) ns) ∙ ap (λ b. if b then texts ns else texts ns ++ n.text.bytes ∷ []) (sym (names_texts ns n))
   where
@@ -36,7 +36,7 @@ texts_insert_key ns n =
     by false = texts_push ns n
 
 -- a name put among others adds that one and no other
-pub names_one_more : (ts : List (List ℕ)) (name : List ℕ) → NamesOneMore ts name (with_name ts name)
+pub names_one_more : (ts : List (List ℕ)) (name : List ℕ) → NamesOneMore ts name (names_with ts name)
 names_one_more ts name = by (names ts name) refl
   where
     by : (b : Bool) → names ts name ≡ b → NamesOneMore ts name (if b then ts else ts ++ name ∷ [])
@@ -54,44 +54,44 @@ names_one_more ts name = by (names ts name) refl
         )
 
 -- names that are all other than this stay
-others_stay : (text : List ℕ) (ns : List Name) → AllByRecursion (λ k. bytes_eq text k.text.bytes ≡ false) ns → without_name (texts ns) text ≡ texts ns
+others_stay : (text : List ℕ) (ns : List Name) → AllByRecursion (λ k. bytes_eq text k.text.bytes ≡ false) ns → names_without (texts ns) text ≡ texts ns
 others_stay text [] other = refl
 others_stay text (k ∷ ns) other =
-    ap (λ b. cond (not b) (k.text.bytes ∷ without_name (texts ns) text) (without_name (texts ns) text)) other.0
+    ap (λ b. cond (not b) (k.text.bytes ∷ names_without (texts ns) text) (names_without (texts ns) text)) other.0
     ∙ ap (λ ts. k.text.bytes ∷ ts) (others_stay text ns other.1)
 
 -- the texts after a name is taken out of others, of which no two are the same
-pub texts_remove_key : (ns : List Name) (n : Name) → IsDistinct same_name ns → texts (remove_key (same_name n) ns) ≡ without_name (texts ns) n.text.bytes
+pub texts_remove_key : (ns : List Name) (n : Name) → IsDistinct same_name ns → texts (remove_key (same_name n) ns) ≡ names_without (texts ns) n.text.bytes
 unfolding IsDistinct
 texts_remove_key [] n apart = refl
 texts_remove_key (k ∷ ns) n apart = by (same_name n k) refl (texts_remove_key ns n apart.1)
   where
-    by : (b : Bool) → same_name n k ≡ b → texts (remove_key (same_name n) ns) ≡ without_name (texts ns) n.text.bytes
-        → texts (cond b ns (k ∷ remove_key (same_name n) ns)) ≡ cond (not b) (k.text.bytes ∷ without_name (texts ns) n.text.bytes) (without_name (texts ns) n.text.bytes)
+    by : (b : Bool) → same_name n k ≡ b → texts (remove_key (same_name n) ns) ≡ names_without (texts ns) n.text.bytes
+        → texts (cond b ns (k ∷ remove_key (same_name n) ns)) ≡ cond (not b) (k.text.bytes ∷ names_without (texts ns) n.text.bytes) (names_without (texts ns) n.text.bytes)
     by true is rest =
         sym (others_stay n.text.bytes ns (subst (λ t. AllByRecursion (λ (d : Name). bytes_eq t d.text.bytes ≡ false) ns) (sym ((bytes_eq-Decides n.text.bytes k.text.bytes).0 is)) apart.0))
     by false is rest = ap (λ ts. k.text.bytes ∷ ts) rest
 
 -- what is named after a name is taken out of others
-names_without : (ts : List (List ℕ)) (name other : List ℕ) → names (without_name ts name) other ≡ (not (bytes_eq name other) && names ts other)
-names_without ts name other =
+named_without : (ts : List (List ℕ)) (name other : List ℕ) → names (names_without ts name) other ≡ (not (bytes_eq name other) && names ts other)
+named_without ts name other =
     any-filter_same (bytes_eq other) (λ t. not (bytes_eq name t)) (not (bytes_eq name other))
     (λ t same. ap (λ u. not (bytes_eq name u)) (sym ((bytes_eq-Decides other t).0 same))) ts
 
 -- a name taken out of others takes that one and no other
-pub names_one_less : (ts : List (List ℕ)) (name : List ℕ) → NamesOneLess ts name (without_name ts name)
+pub names_one_less : (ts : List (List ℕ)) (name : List ℕ) → NamesOneLess ts name (names_without ts name)
 names_one_less ts name other = by (bytes_eq name other) refl
   where
     by : (b : Bool) → bytes_eq name other ≡ b
-        → (names (without_name ts name) other ≡ true → (names ts other ≡ true) × (other ≡ name → ⊥))
-        × ((names ts other ≡ true) × (other ≡ name → ⊥) → names (without_name ts name) other ≡ true)
+        → (names (names_without ts name) other ≡ true → (names ts other ≡ true) × (other ≡ name → ⊥))
+        × ((names ts other ≡ true) × (other ≡ name → ⊥) → names (names_without ts name) other ≡ true)
     by true is =
-        let gone : names (without_name ts name) other ≡ false = names_without ts name other ∙ ap (λ b. not b && names ts other) is in (
+        let gone : names (names_without ts name) other ≡ false = named_without ts name other ∙ ap (λ b. not b && names ts other) is in (
           λ h. absurd (true≢false (sym h ∙ gone)),
           λ h. absurd (h.1 (sym ((bytes_eq-Decides name other).0 is))),
         )
     by false is =
-        let kept : names (without_name ts name) other ≡ names ts other = names_without ts name other ∙ ap (λ b. not b && names ts other) is in (
+        let kept : names (names_without ts name) other ≡ names ts other = named_without ts name other ∙ ap (λ b. not b && names ts other) is in (
           λ h. (sym kept ∙ h, λ same. true≢false (sym ((bytes_eq-Decides name other).1 (sym same)) ∙ is)),
           λ h. kept ∙ h.0,
         )

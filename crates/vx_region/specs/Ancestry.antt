@@ -12,8 +12,8 @@ abbrev pub chain : ℕ → Regions → ℕ → List ℕ
 chain zero rs r = []
 chain (suc n) rs r = r ∷ from_parent (chain n rs) (parent_of rs r)
 
--- the ancestry of a region: itself, its parent, the parent's parent, to the end; no chain of parents is longer than the
--- numbers that were given
+-- the ancestry of a region: itself, its parent, the parent's parent, to the end; no chain of
+-- parents is longer than the numbers that were given
 unfoldable pub ancestors : Regions → ℕ → List ℕ
 ancestors rs r = chain (suc rs.last) rs r
 

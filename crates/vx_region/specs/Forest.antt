@@ -17,7 +17,8 @@ pub record IsNumbered (rs : Regions) : Type 0 where
   pub ascending : IsAscending 0 rs.entries
   pub given : IsBelow rs.last rs.entries
 
--- a list is the chain of a region: the region, its parent, the parent's parent, and so on to one without a parent
+-- a list is the chain of a region: the region, its parent, the parent's parent, and so on to one
+-- without a parent
 abbrev pub IsChain : Regions → ℕ → List ℕ → Type 0
 IsChain rs r [] = ⊥
 IsChain rs r (a ∷ l) = (a ≡ r) × MatchOption (parent_of rs r) (l ≡ []) (λ q. IsChain rs q l)

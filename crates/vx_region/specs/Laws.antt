@@ -2,79 +2,76 @@ use Rattle.std.specs.Prelude.{ℕ, ◌≡◌, ◌≢◌, ◌+◌, ◌⊎◌, ◌
 use Rattle.vx_geom.specs.Outline.{Outline}
 use Rattle.vx_region.specs.Ancestry.{ancestors, from_parent, is_above}
 use Rattle.vx_region.specs.Forest.{IsNumbered, IsForest}
-use Rattle.vx_region.specs.Regions.{RegionData, Regions, region_at, parent_of, number_of, names, fresh_region, with_region, without_region, with_owner, with_member, setting_at, HasSettings, changed, with_flag, without_owner, without_member}
+use Rattle.vx_region.specs.Regions.{RegionData, Regions, region_at, parent_of, number_of, names, names_of, fresh_region, with_region, without_region, with_name, without_name, setting_at, HasSettings, changed, with_flag}
+use Rattle.vx_region.specs.declared.role.Role.{Role}
 use Rattle.vx_flag.specs.declared.flag.Flag.{Flag}
 use Rattle.vx_flag.specs.declared.setting.Setting.{Setting}
 
 -- a number that stands at a place is the number of the region there
 abbrev pub EachHasItsNumber : Type 0
-EachHasItsNumber = (rs : Regions) (i n : ℕ) (r : RegionData) → IsNumbered rs → slice_get rs.entries i ≡ Some (n, r) → region_at rs n ≡ Some r
+EachHasItsNumber = (rs : Regions) (i n : ℕ) (r : RegionData)
+    → IsNumbered rs → slice_get rs.entries i ≡ Some (n, r) → region_at rs n ≡ Some r
 
 -- the region that was defined has the number after the last
 abbrev pub DefinedIsFresh : Type 0
-DefinedIsFresh = (rs : Regions) (id : List ℕ) (shape : Outline) → IsNumbered rs → region_at (with_region rs id shape) (rs.last + 1) ≡ Some (fresh_region id shape)
+DefinedIsFresh = (rs : Regions) (id : List ℕ) (shape : Outline)
+    → IsNumbered rs
+    → region_at (with_region rs id shape) (rs.last + 1) ≡ Some (fresh_region id shape)
 
 -- a definition leaves every other number as it was
 abbrev pub DefinitionKeepsOthers : Type 0
-DefinitionKeepsOthers = (rs : Regions) (id : List ℕ) (shape : Outline) (n : ℕ) → n ≢ rs.last + 1 → region_at (with_region rs id shape) n ≡ region_at rs n
+DefinitionKeepsOthers = (rs : Regions) (id : List ℕ) (shape : Outline) (n : ℕ)
+    → n ≢ rs.last + 1 → region_at (with_region rs id shape) n ≡ region_at rs n
 
 -- the region that was defined is found by its id, where the id was free
 abbrev pub DefinedIsFound : Type 0
-DefinedIsFound = (rs : Regions) (id : List ℕ) (shape : Outline) → number_of rs id ≡ None → number_of (with_region rs id shape) id ≡ Some (rs.last + 1)
+DefinedIsFound = (rs : Regions) (id : List ℕ) (shape : Outline)
+    → number_of rs id ≡ None → number_of (with_region rs id shape) id ≡ Some (rs.last + 1)
 
 -- each other id is found as before
 abbrev pub DefinitionKeepsIds : Type 0
-DefinitionKeepsIds = (rs : Regions) (id other : List ℕ) (shape : Outline) → other ≢ id → number_of (with_region rs id shape) other ≡ number_of rs other
+DefinitionKeepsIds = (rs : Regions) (id other : List ℕ) (shape : Outline)
+    → other ≢ id → number_of (with_region rs id shape) other ≡ number_of rs other
 
 -- exactly those are named that were before, and this one
 abbrev pub NamesOneMore : List (List ℕ) → List ℕ → List (List ℕ) → Type 0
-NamesOneMore old name new = (other : List ℕ) → IsTrue (names new other) ↔ (IsTrue (names old other) ⊎ (other ≡ name))
+NamesOneMore old name new = (other : List ℕ)
+    → IsTrue (names new other) ↔ (IsTrue (names old other) ⊎ (other ≡ name))
 
--- a region has one more owner and is as before otherwise
-pub record GainsOwner (name : List ℕ) (old new : RegionData) : Type 0 where
+-- a region names one more in a role and is as before otherwise
+pub record GainsName (role : Role) (name : List ℕ) (old new : RegionData) : Type 0 where
   pub id : new.id ≡ old.id
   pub shape : new.shape ≡ old.shape
   pub priority : new.priority ≡ old.priority
   pub parent : new.parent ≡ old.parent
-  pub owners : NamesOneMore old.owners name new.owners
-  pub members : new.members ≡ old.members
+  pub named : NamesOneMore (names_of role old) name (names_of role new)
+  pub others : (other : Role) → other ≢ role → names_of other new ≡ names_of other old
   pub settings : new.settings ≡ old.settings
 
--- a region has one more member and is as before otherwise
-pub record GainsMember (name : List ℕ) (old new : RegionData) : Type 0 where
-  pub id : new.id ≡ old.id
-  pub shape : new.shape ≡ old.shape
-  pub priority : new.priority ≡ old.priority
-  pub parent : new.parent ≡ old.parent
-  pub owners : new.owners ≡ old.owners
-  pub members : NamesOneMore old.members name new.members
-  pub settings : new.settings ≡ old.settings
+abbrev pub NameIsAdded : Type 0
+NameIsAdded = (rs : Regions) (n : ℕ) (role : Role) (name : List ℕ) (old : RegionData)
+    → region_at rs n ≡ Some old
+    → IsSomeAnd (region_at (with_name rs n role name) n) (GainsName role name old)
 
-abbrev pub OwnerIsAdded : Type 0
-OwnerIsAdded = (rs : Regions) (n : ℕ) (name : List ℕ) (old : RegionData) → region_at rs n ≡ Some old → IsSomeAnd (region_at (with_owner rs n name) n) (GainsOwner name old)
-
--- another region keeps its owners and all else
-abbrev pub OwnerKeepsOthers : Type 0
-OwnerKeepsOthers = (rs : Regions) (n m : ℕ) (name : List ℕ) → m ≢ n → region_at (with_owner rs n name) m ≡ region_at rs m
-
-abbrev pub MemberIsAdded : Type 0
-MemberIsAdded = (rs : Regions) (n : ℕ) (name : List ℕ) (old : RegionData) → region_at rs n ≡ Some old → IsSomeAnd (region_at (with_member rs n name) n) (GainsMember name old)
-
--- another region keeps its members and all else
-abbrev pub MemberKeepsOthers : Type 0
-MemberKeepsOthers = (rs : Regions) (n m : ℕ) (name : List ℕ) → m ≢ n → region_at (with_member rs n name) m ≡ region_at rs m
+-- another region keeps its names and all else
+abbrev pub AddingKeepsOthers : Type 0
+AddingKeepsOthers = (rs : Regions) (n m : ℕ) (role : Role) (name : List ℕ)
+    → m ≢ n → region_at (with_name rs n role name) m ≡ region_at rs m
 
 -- the ancestry of a region is the region, and then the whole ancestry of its parent
 abbrev pub AncestryIsWhole : Type 0
-AncestryIsWhole = (rs : Regions) (n : ℕ) → IsForest rs → ancestors rs n ≡ n ∷ from_parent (ancestors rs) (parent_of rs n)
+AncestryIsWhole = (rs : Regions) (n : ℕ)
+    → IsForest rs → ancestors rs n ≡ n ∷ from_parent (ancestors rs) (parent_of rs n)
 
 -- no region is among its own ancestors
 abbrev pub NoCycles : Type 0
-NoCycles = (rs : Regions) (n : ℕ) (r : RegionData) → IsForest rs → region_at rs n ≡ Some r → is_above rs n r ≡ false
+NoCycles = (rs : Regions) (n : ℕ) (r : RegionData)
+    → IsForest rs → region_at rs n ≡ Some r → is_above rs n r ≡ false
 
 -- the parent of a region is a region of the set
 abbrev pub ParentsAreThere : Type 0
-ParentsAreThere = (rs : Regions) (n q : ℕ) (r : RegionData) → IsForest rs → region_at rs n ≡ Some r → r.parent ≡ Some q → IsSome (region_at rs q)
+ParentsAreThere = (rs : Regions) (n q : ℕ) (r : RegionData)
+    → IsForest rs → region_at rs n ≡ Some r → r.parent ≡ Some q → IsSome (region_at rs q)
 
 -- a region that was taken away is there no more
 abbrev pub RemovedIsGone : Type 0
@@ -82,7 +79,8 @@ RemovedIsGone = (rs : Regions) (n : ℕ) → region_at (without_region rs n) n �
 
 -- each other region is as before
 abbrev pub RemovalKeepsOthers : Type 0
-RemovalKeepsOthers = (rs : Regions) (n m : ℕ) → m ≢ n → region_at (without_region rs n) m ≡ region_at rs m
+RemovalKeepsOthers = (rs : Regions) (n m : ℕ)
+    → m ≢ n → region_at (without_region rs n) m ≡ region_at rs m
 
 -- and its number is not given again
 abbrev pub RemovalKeepsLast : Type 0
@@ -90,54 +88,45 @@ RemovalKeepsLast = (rs : Regions) (n : ℕ) → (without_region rs n).last ≡ r
 
 -- exactly those are named that were before, without this one
 abbrev pub NamesOneLess : List (List ℕ) → List ℕ → List (List ℕ) → Type 0
-NamesOneLess old name new = (other : List ℕ) → IsTrue (names new other) ↔ (IsTrue (names old other) × (other ≢ name))
+NamesOneLess old name new = (other : List ℕ)
+    → IsTrue (names new other) ↔ (IsTrue (names old other) × (other ≢ name))
 
--- a region has one owner less and is as before otherwise
-pub record LosesOwner (name : List ℕ) (old new : RegionData) : Type 0 where
+-- a region names one less in a role and is as before otherwise
+pub record LosesName (role : Role) (name : List ℕ) (old new : RegionData) : Type 0 where
   pub id : new.id ≡ old.id
   pub shape : new.shape ≡ old.shape
   pub priority : new.priority ≡ old.priority
   pub parent : new.parent ≡ old.parent
-  pub owners : NamesOneLess old.owners name new.owners
-  pub members : new.members ≡ old.members
+  pub named : NamesOneLess (names_of role old) name (names_of role new)
+  pub others : (other : Role) → other ≢ role → names_of other new ≡ names_of other old
   pub settings : new.settings ≡ old.settings
 
-abbrev pub OwnerIsDropped : Type 0
-OwnerIsDropped = (rs : Regions) (n : ℕ) (name : List ℕ) (old : RegionData) → region_at rs n ≡ Some old → IsSomeAnd (region_at (without_owner rs n name) n) (LosesOwner name old)
+abbrev pub NameIsDropped : Type 0
+NameIsDropped = (rs : Regions) (n : ℕ) (role : Role) (name : List ℕ) (old : RegionData)
+    → region_at rs n ≡ Some old
+    → IsSomeAnd (region_at (without_name rs n role name) n) (LosesName role name old)
 
--- another region keeps its owners and all else
-abbrev pub OwnerDropKeepsOthers : Type 0
-OwnerDropKeepsOthers = (rs : Regions) (n m : ℕ) (name : List ℕ) → m ≢ n → region_at (without_owner rs n name) m ≡ region_at rs m
-
--- a region has one member less and is as before otherwise
-pub record LosesMember (name : List ℕ) (old new : RegionData) : Type 0 where
-  pub id : new.id ≡ old.id
-  pub shape : new.shape ≡ old.shape
-  pub priority : new.priority ≡ old.priority
-  pub parent : new.parent ≡ old.parent
-  pub owners : new.owners ≡ old.owners
-  pub members : NamesOneLess old.members name new.members
-  pub settings : new.settings ≡ old.settings
-
-abbrev pub MemberIsDropped : Type 0
-MemberIsDropped = (rs : Regions) (n : ℕ) (name : List ℕ) (old : RegionData) → region_at rs n ≡ Some old → IsSomeAnd (region_at (without_member rs n name) n) (LosesMember name old)
-
--- another region keeps its members and all else
-abbrev pub MemberDropKeepsOthers : Type 0
-MemberDropKeepsOthers = (rs : Regions) (n m : ℕ) (name : List ℕ) → m ≢ n → region_at (without_member rs n name) m ≡ region_at rs m
+-- another region keeps its names and all else
+abbrev pub DroppingKeepsOthers : Type 0
+DroppingKeepsOthers = (rs : Regions) (n m : ℕ) (role : Role) (name : List ℕ)
+    → m ≢ n → region_at (without_name rs n role name) m ≡ region_at rs m
 
 -- after a change of a region, the number has the changed region
 abbrev pub ChangeIsThere : Type 0
-ChangeIsThere = (change : RegionData → RegionData) (rs : Regions) (n : ℕ) → region_at (changed change n rs) n ≡ option_map change (region_at rs n)
+ChangeIsThere = (change : RegionData → RegionData) (rs : Regions) (n : ℕ)
+    → region_at (changed change n rs) n ≡ option_map change (region_at rs n)
 
 -- and each other number has the region that it had
 abbrev pub ChangeKeepsOthers : Type 0
-ChangeKeepsOthers = (change : RegionData → RegionData) (rs : Regions) (n m : ℕ) → m ≢ n → region_at (changed change n rs) m ≡ region_at rs m
+ChangeKeepsOthers = (change : RegionData → RegionData) (rs : Regions) (n m : ℕ)
+    → m ≢ n → region_at (changed change n rs) m ≡ region_at rs m
 
 -- a flag is what it was set to, where it can be set
 abbrev pub FlagIsSet : Type 0
-FlagIsSet = (rs : Regions) (n : ℕ) (f : Flag) (o : Option Setting) → HasSettings rs n → setting_at (with_flag rs n f o) n f ≡ o
+FlagIsSet = (rs : Regions) (n : ℕ) (f : Flag) (o : Option Setting)
+    → HasSettings rs n → setting_at (with_flag rs n f o) n f ≡ o
 
 -- each other flag, and the same flag elsewhere, is as it was
 abbrev pub FlagKeepsOthers : Type 0
-FlagKeepsOthers = (rs : Regions) (n m : ℕ) (f g : Flag) (o : Option Setting) → (m ≢ n) ⊎ (g ≢ f) → setting_at (with_flag rs n f o) m g ≡ setting_at rs m g
+FlagKeepsOthers = (rs : Regions) (n m : ℕ) (f g : Flag) (o : Option Setting)
+    → (m ≢ n) ⊎ (g ≢ f) → setting_at (with_flag rs n f o) m g ≡ setting_at rs m g

@@ -6,6 +6,8 @@ use Rattle.vx_flag.specs.declared.flag.Flag.{Flag}
 use Rattle.vx_flag.specs.declared.setting.Setting.{Setting}
 use Rattle.vx_flag.specs.declared.settings.Settings.{Settings}
 use Rattle.vx_flag.specs.Settings.{no_settings, setting_of, with_setting}
+use Rattle.vx_region.specs.declared.role.Role.{Role}
+use Rattle.vx_region.specs.declared.role.Role.TheVariants.{Owner, Member}
 
 -- what a region is
 pub record RegionData : Type 0 where
@@ -21,15 +23,30 @@ pub record RegionData : Type 0 where
 abbrev pub Entry : Type 0
 Entry = ℕ × RegionData
 
--- the regions of a world in order of definition, the last number that was ever given, and the flags of the world at large
+-- the names of a role in a region
+abbrev pub names_of : Role → RegionData → List (List ℕ)
+names_of Owner r = r.owners
+names_of Member r = r.members
+
+-- the region with other names of a role
+abbrev pub with_names : Role → List (List ℕ) → RegionData → RegionData
+with_names Owner names r = record r { owners = names }
+with_names Member names r = record r { members = names }
+
+-- the regions of a world in order of definition, the last number that was ever given, and the flags
+-- of the world at large
 pub record Regions : Type 0 where
   pub last : ℕ
   pub entries : List Entry
   pub global : Settings
 
+-- regions of these parts
+abbrev pub regions_of : ℕ → List Entry → Settings → Regions
+regions_of last entries global = record { last = last; entries = entries; global = global }
+
 -- there is no region yet
 abbrev pub no_regions : Regions
-no_regions = record { last = 0; entries = []; global = no_settings }
+no_regions = regions_of 0 [] no_settings
 
 -- the region of a number
 unfoldable pub region_at : Regions → ℕ → Option RegionData
@@ -45,7 +62,9 @@ is_global_id id = bytes_eq id global_id
 
 -- the number of the region with this id, 0 for the world at large
 unfoldable pub number_of : Regions → List ℕ → Option ℕ
-number_of rs id = if is_global_id id then Some 0 else option_map (λ e. e.0) (find (λ e. bytes_eq id e.1.id) rs.entries)
+number_of rs id =
+    if is_global_id id then Some 0
+    else option_map (λ e. e.0) (find (λ e. bytes_eq id e.1.id) rs.entries)
 
 -- the parent of the region of a number
 unfoldable pub parent_of : Regions → ℕ → Option ℕ
@@ -53,7 +72,9 @@ parent_of rs n = option_and_then (λ r. r.parent) (region_at rs n)
 
 -- what is set for a flag in the region of a number, or in the world at large for 0
 unfoldable pub setting_at : Regions → ℕ → Flag → Option Setting
-setting_at rs n f = if nat_eq n 0 then setting_of rs.global f else option_and_then (λ r. setting_of r.settings f) (region_at rs n)
+setting_at rs n f =
+    if nat_eq n 0 then setting_of rs.global f
+    else option_and_then (λ r. setting_of r.settings f) (region_at rs n)
 
 -- flags can be set for this number: it is 0, for the world at large, or its region is there
 abbrev pub HasSettings : Regions → ℕ → Type 0
@@ -63,21 +84,32 @@ HasSettings rs n = (n ≡ 0) ⊎ IsSome (region_at rs n)
 abbrev pub names : List (List ℕ) → List ℕ → Bool
 names texts text = list_any (bytes_eq text) texts
 
--- the name put among these, once
-abbrev pub with_name : List (List ℕ) → List ℕ → List (List ℕ)
-with_name texts text = if names texts text then texts else texts ++ text ∷ []
+-- these and the name, once
+abbrev pub names_with : List (List ℕ) → List ℕ → List (List ℕ)
+names_with texts text = if names texts text then texts else texts ++ text ∷ []
 
 -- these without the name
-abbrev pub without_name : List (List ℕ) → List ℕ → List (List ℕ)
-without_name texts text = filter (λ t. not (bytes_eq text t)) texts
+abbrev pub names_without : List (List ℕ) → List ℕ → List (List ℕ)
+names_without texts text = filter (λ t. not (bytes_eq text t)) texts
 
 -- a region as it is when it is defined
 abbrev pub fresh_region : List ℕ → Outline → RegionData
-fresh_region id shape = record { id = id; shape = shape; priority = pos 0; parent = None; owners = []; members = []; settings = no_settings }
+fresh_region id shape = record {
+  id = id;
+  shape = shape;
+  priority = pos 0;
+  parent = None;
+  owners = [];
+  members = [];
+  settings = no_settings;
+}
 
 -- one more region, under the number one above all that were ever given
 unfoldable pub with_region : Regions → List ℕ → Outline → Regions
-with_region rs id shape = record rs { last = rs.last + 1; entries = rs.entries ++ (rs.last + 1, fresh_region id shape) ∷ [] }
+with_region rs id shape = record rs {
+  last = rs.last + 1;
+  entries = rs.entries ++ (rs.last + 1, fresh_region id shape) ∷ [];
+}
 
 -- all but the region of that number
 unfoldable pub without_region : Regions → ℕ → Regions
@@ -102,21 +134,21 @@ with_priority rs n priority = changed (λ r. record r { priority = priority }) n
 unfoldable pub with_parent : Regions → ℕ → Option ℕ → Regions
 with_parent rs n parent = changed (λ r. record r { parent = parent }) n rs
 
--- one more owner, or one less
-unfoldable pub with_owner : Regions → ℕ → List ℕ → Regions
-with_owner rs n name = changed (λ r. record r { owners = with_name r.owners name }) n rs
+-- one more name of a role in a region, or one less
+abbrev pub gaining : Role → List ℕ → RegionData → RegionData
+gaining role name r = with_names role (names_with (names_of role r) name) r
 
-unfoldable pub without_owner : Regions → ℕ → List ℕ → Regions
-without_owner rs n name = changed (λ r. record r { owners = without_name r.owners name }) n rs
+abbrev pub losing : Role → List ℕ → RegionData → RegionData
+losing role name r = with_names role (names_without (names_of role r) name) r
 
--- one more member, or one less
-unfoldable pub with_member : Regions → ℕ → List ℕ → Regions
-with_member rs n name = changed (λ r. record r { members = with_name r.members name }) n rs
+unfoldable pub with_name : Regions → ℕ → Role → List ℕ → Regions
+with_name rs n role name = changed (gaining role name) n rs
 
-unfoldable pub without_member : Regions → ℕ → List ℕ → Regions
-without_member rs n name = changed (λ r. record r { members = without_name r.members name }) n rs
+unfoldable pub without_name : Regions → ℕ → Role → List ℕ → Regions
+without_name rs n role name = changed (losing role name) n rs
 
 -- a flag set or left unset, in the region of a number, or in the world at large for 0
 unfoldable pub with_flag : Regions → ℕ → Flag → Option Setting → Regions
 with_flag rs n f o =
-    if nat_eq n 0 then record rs { global = with_setting rs.global f o } else changed (λ r. record r { settings = with_setting r.settings f o }) n rs
+    if nat_eq n 0 then record rs { global = with_setting rs.global f o }
+    else changed (λ r. record r { settings = with_setting r.settings f o }) n rs

@@ -1,4 +1,5 @@
--- The test of two sets of regions answers yes exactly where they are one, and so meets the laws of `==`.
+-- The test of two sets of regions answers yes exactly where they are one, and so meets the laws of
+-- `==`.
 use Rattle.std.specs.Prelude.{◌≡◌, ℕ, List, Option, Some, None, refl}
 use Rattle.std.specs.Bool.{Decides}
 use Rattle.std.specs.Cmp.{IsEquivalence, decided}
@@ -23,22 +24,28 @@ unfolding same_names
 names_decided these those = pointwise_decides bytes_eq-Decides these those
 
 SamePlace : RegionData → RegionData → Type 0
-SamePlace a b = (((a.id ≡ b.id) × (a.shape ≡ b.shape)) × (a.priority ≡ b.priority)) × (a.parent ≡ b.parent)
+SamePlace a b =
+    (((a.id ≡ b.id) × (a.shape ≡ b.shape)) × (a.priority ≡ b.priority)) × (a.parent ≡ b.parent)
 
 place_decided : (a b : RegionData) → Decides (same_place a b) (SamePlace a b)
 unfolding same_place SamePlace
 place_decided a b =
-    Decides-and _ _ (Decides-and _ _ (Decides-and _ _ (bytes_eq-Decides a.id b.id) (outline_decided a.shape b.shape))
-    (Decides-int_eq a.priority b.priority)) (number_decided a.parent b.parent)
+    Decides-and _ _
+    (Decides-and _ _
+    (Decides-and _ _ (bytes_eq-Decides a.id b.id) (outline_decided a.shape b.shape))
+    (Decides-int_eq a.priority b.priority))
+    (number_decided a.parent b.parent)
 
 SamePeople : RegionData → RegionData → Type 0
 SamePeople a b = (a.owners ≡ b.owners) × (a.members ≡ b.members)
 
 people_decided : (a b : RegionData) → Decides (same_people a b) (SamePeople a b)
 unfolding same_people SamePeople
-people_decided a b = Decides-and _ _ (names_decided a.owners b.owners) (names_decided a.members b.members)
+people_decided a b =
+    Decides-and _ _ (names_decided a.owners b.owners) (names_decided a.members b.members)
 
-region_joined : (a b : RegionData) → (SamePlace a b × SamePeople a b) × (a.settings ≡ b.settings) → a ≡ b
+region_joined : (a b : RegionData)
+    → (SamePlace a b × SamePeople a b) × (a.settings ≡ b.settings) → a ≡ b
 unfolding SamePlace SamePeople
 region_joined a b h i = record {
   id = h.0.0.0.0.0 i;
@@ -50,7 +57,8 @@ region_joined a b h i = record {
   settings = h.1 i;
 }
 
-region_parts : (a b : RegionData) → a ≡ b → (SamePlace a b × SamePeople a b) × (a.settings ≡ b.settings)
+region_parts : (a b : RegionData)
+    → a ≡ b → (SamePlace a b × SamePeople a b) × (a.settings ≡ b.settings)
 unfolding SamePlace SamePeople
 region_parts a b e = (
   (
@@ -64,19 +72,27 @@ pub region_decided : (a b : RegionData) → Decides (same_region a b) (a ≡ b)
 unfolding same_region
 region_decided a b =
     Decides-like _ (region_joined a b) (region_parts a b)
-    (Decides-and _ _ (Decides-and _ _ (place_decided a b) (people_decided a b)) (settings_decided a.settings b.settings))
+    (Decides-and _ _
+    (Decides-and _ _ (place_decided a b) (people_decided a b))
+    (settings_decided a.settings b.settings))
 
 entry_decided : (d e : Entry) → Decides (same_entry d e) (d ≡ e)
 unfolding same_entry
 entry_decided d e =
-    Decides-like _ (λ h. ap (λ n. (n, d.1)) h.0 ∙ ap (λ r. (e.0, r)) h.1) (λ s. (ap (λ p. p.0) s, ap (λ p. p.1) s))
+    Decides-like _
+    (λ h. ap (λ n. (n, d.1)) h.0 ∙ ap (λ r. (e.0, r)) h.1)
+    (λ s. (ap (λ p. p.0) s, ap (λ p. p.1) s))
     (Decides-and _ _ (Decides-eqb d.0 e.0) (region_decided d.1 e.1))
 
 pub regions_decided : (a b : Regions) → Decides (same_regions a b) (a ≡ b)
 unfolding same_regions
 regions_decided a b =
-    Decides-like _ (λ h i. record { last = h.0.0 i; global = h.0.1 i; entries = h.1 i }) (λ e. ((ap (λ r. r.last) e, ap (λ r. r.global) e), ap (λ r. r.entries) e))
-    (Decides-and _ _ (Decides-and _ _ (Decides-eqb a.last b.last) (settings_decided a.global b.global)) (pointwise_decides entry_decided a.entries b.entries))
+    Decides-like _
+    (λ h i. record { last = h.0.0 i; global = h.0.1 i; entries = h.1 i })
+    (λ e. ((ap (λ r. r.last) e, ap (λ r. r.global) e), ap (λ r. r.entries) e))
+    (Decides-and _ _
+    (Decides-and _ _ (Decides-eqb a.last b.last) (settings_decided a.global b.global))
+    (pointwise_decides entry_decided a.entries b.entries))
 
 pub regions_equiv : IsEquivalence same_regions
 regions_equiv = decided same_regions regions_decided

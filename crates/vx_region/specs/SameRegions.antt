@@ -17,7 +17,9 @@ same_names these those = pointwise bytes_eq these those
 
 -- the same id, shape, priority and parent
 unfoldable pub same_place : RegionData → RegionData → Bool
-same_place a b = bytes_eq a.id b.id && same_outline a.shape b.shape && int_eq a.priority b.priority && same_number a.parent b.parent
+same_place a b =
+    bytes_eq a.id b.id && same_outline a.shape b.shape && int_eq a.priority b.priority
+    && same_number a.parent b.parent
 
 -- the same owners and members
 unfoldable pub same_people : RegionData → RegionData → Bool
@@ -37,4 +39,5 @@ same_entries ds es = pointwise same_entry ds es
 
 -- the same regions, the same number given last and the same flags of the world at large
 unfoldable pub same_regions : Regions → Regions → Bool
-same_regions a b = nat_eq a.last b.last && same_settings a.global b.global && same_entries a.entries b.entries
+same_regions a b =
+    nat_eq a.last b.last && same_settings a.global b.global && same_entries a.entries b.entries

@@ -19,12 +19,20 @@ lower b = if is_amid 65 b 90 then b + 32 else b
 
 -- a text of 1 to `most` bytes that pass the test, in lower case; none for any other text
 unfoldable pub read_word : (ℕ → Bool) → ℕ → List ℕ → Option (List ℕ)
-read_word passes most text = if is_amid 1 (length text) most && list_all passes text then Some (map lower text) else None
+read_word passes most text =
+    if is_amid 1 (length text) most && list_all passes text then Some (map lower text) else None
+
+-- how many bytes a name and an id may have
+abbrev pub most_name_bytes : ℕ
+most_name_bytes = 16
+
+abbrev pub most_id_bytes : ℕ
+most_id_bytes = 32
 
 -- the name that a text spells: 1 to 16 letters, digits or `_`
 unfoldable pub read_name : List ℕ → Option (List ℕ)
-read_name text = read_word is_name_byte 16 text
+read_name text = read_word is_name_byte most_name_bytes text
 
 -- the id that a text spells: 1 to 32 letters, digits, `_` or `-`
 unfoldable pub read_id : List ℕ → Option (List ℕ)
-read_id text = read_word is_id_byte 32 text
+read_id text = read_word is_id_byte most_id_bytes text

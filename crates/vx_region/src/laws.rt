@@ -1,4 +1,4 @@
-ghost use Rattle.vx_region.specs.Laws.{AncestryIsWhole, NoCycles, ParentsAreThere, RemovedIsGone, RemovalKeepsOthers, RemovalKeepsLast, EachHasItsNumber, DefinedIsFresh, DefinitionKeepsOthers, DefinedIsFound, DefinitionKeepsIds, OwnerIsAdded, OwnerKeepsOthers, MemberIsAdded, MemberKeepsOthers, OwnerIsDropped, OwnerDropKeepsOthers, MemberIsDropped, MemberDropKeepsOthers, ChangeIsThere, ChangeKeepsOthers, FlagIsSet, FlagKeepsOthers};
+ghost use Rattle.vx_region.specs.Laws.{AncestryIsWhole, NoCycles, ParentsAreThere, RemovedIsGone, RemovalKeepsOthers, RemovalKeepsLast, EachHasItsNumber, DefinedIsFresh, DefinitionKeepsOthers, DefinedIsFound, DefinitionKeepsIds, NameIsAdded, AddingKeepsOthers, NameIsDropped, DroppingKeepsOthers, ChangeIsThere, ChangeKeepsOthers, FlagIsSet, FlagKeepsOthers};
 
 /// The region at a place in order of number is the region of the number there.
 pub fn each_has_its_number()
@@ -13,19 +13,14 @@ pub fn definition_adds_one()
     ensures ids { DefinitionKeepsIds }
 {}
 
-/// Naming an owner adds that one owner to that one region.
-pub fn owner_is_added()
-    ensures added { OwnerIsAdded }
-    ensures others { OwnerKeepsOthers }
+/// Naming an owner or a member adds that one name in that role to that one region.
+pub fn name_is_added()
+    ensures added { NameIsAdded }
+    ensures others { AddingKeepsOthers }
 {}
 
-/// Naming a member adds that one member to that one region.
-pub fn member_is_added()
-    ensures added { MemberIsAdded }
-    ensures others { MemberKeepsOthers }
-{}
-
-/// The ancestry of a region is the region itself and then the whole ancestry of its parent: no walk up ends too early.
+/// The ancestry of a region is the region itself and then the whole ancestry of its parent: no walk
+/// up ends too early.
 pub fn ancestry_is_whole()
     ensures { AncestryIsWhole }
 {}
@@ -47,25 +42,20 @@ pub fn removal_takes_one()
     ensures last { RemovalKeepsLast }
 {}
 
-/// Dropping an owner takes that one owner out of that one region.
-pub fn owner_is_dropped()
-    ensures dropped { OwnerIsDropped }
-    ensures others { OwnerDropKeepsOthers }
+/// Dropping an owner or a member takes that one name in that role out of that one region.
+pub fn name_is_dropped()
+    ensures dropped { NameIsDropped }
+    ensures others { DroppingKeepsOthers }
 {}
 
-/// Dropping a member takes that one member out of that one region.
-pub fn member_is_dropped()
-    ensures dropped { MemberIsDropped }
-    ensures others { MemberDropKeepsOthers }
-{}
-
-/// A change of one region changes that one region.
+/// A change of one region leaves every other as it was.
 pub fn one_region_changes()
     ensures there { ChangeIsThere }
     ensures others { ChangeKeepsOthers }
 {}
 
-/// Setting a flag, or leaving it unset, changes that flag of that region or of the world at large, and no other.
+/// Setting a flag, or leaving it unset, changes that flag of that region or of the world at large,
+/// and no other.
 pub fn one_setting_changes()
     ensures set { FlagIsSet }
     ensures others { FlagKeepsOthers }

@@ -1,4 +1,5 @@
-//! Regions of land: their ids, their owners and members by name, and the set of all regions of a world.
+//! Regions of land: their ids, their owners and members by name, and the set of all regions of a
+//! world.
 #![tactic(auto)]
 
 mod id;
@@ -7,17 +8,18 @@ mod name;
 mod region;
 mod region_no;
 mod region_set;
+mod role;
 mod subject;
 mod word;
 
 pub use id::{BadId, Id};
 pub use laws::{
-    ancestry_is_whole, definition_adds_one, each_has_its_number, member_is_added,
-    member_is_dropped, no_cycles, one_region_changes, one_setting_changes, owner_is_added,
-    owner_is_dropped, parents_are_there, removal_takes_one,
+    ancestry_is_whole, definition_adds_one, each_has_its_number, name_is_added, name_is_dropped,
+    no_cycles, one_region_changes, one_setting_changes, parents_are_there, removal_takes_one,
 };
 pub use name::{BadName, Name};
 pub use region::Region;
 pub use region_no::RegionNo;
 pub use region_set::RegionSet;
+pub use role::Role;
 pub use subject::Subject;

@@ -6,13 +6,16 @@ use arrayvec::ArrayString;
 use std::fmt;
 use thiserror::Error;
 
+/// How many bytes a name may have.
+const MAX_NAME_BYTES: usize = 16;
+
 /// The name of a player: 1 to 16 letters, digits or `_`, kept in lower case.
 #[derive(Clone, Copy, Debug, PartialEq, Eq, Hash)]
 pub struct Name {
-    text: ArrayString<16>,
+    text: ArrayString<MAX_NAME_BYTES>,
 }
 
-/// The text spells no name.
+/// The text spells no name. Nothing here prints the words; they are for callers that pass it on.
 #[derive(Clone, Copy, Debug, PartialEq, Eq, Error)]
 #[error("bad name")]
 pub struct BadName;
@@ -21,7 +24,9 @@ impl Name {
     /// The name that the text spells, letter case aside.
     #[tactic(auto, unfolding(crate::specs::Words::read_name))]
     pub fn read(text: &str) -> Result<Name, BadName>
-        ensures { MatchResult result (λ name. read_name text.now ≡ Some name.text.bytes) (λ _. read_name text.now ≡ None) }
+        ensures { MatchResult result
+            (λ name. read_name text.now ≡ Some name.text.bytes)
+            (λ _. read_name text.now ≡ None) }
     {
         match read_word(text, Alphabet::Name) {
             Some(text) => Ok(Name { text }),
@@ -42,26 +47,5 @@ impl fmt::Display for Name {
 
     fn fmt<W: fmt::Write>(&self, f: &mut fmt::Formatter<W>) -> fmt::Result {
         f.pad(self.as_str())
-    }
-}
-
-#[cfg(test)]
-mod tests {
-    use super::*;
-    use std::test::Fail;
-
-    #[test]
-    fn reads_names(rt: HostRuntime) -> Result<(), Fail> {
-        assert_eq!(rt; Name::read("Ann")?.as_str(), "ann");
-        assert_eq!(rt;
-            Name::read("ABCDEFGHIJ_12345")?.as_str(),
-            "abcdefghij_12345"
-        );
-        for text in ["", "abcdefghij_123456", "no-name", "a b", "é"] {
-            assert_eq!(rt; Name::read(text), Err(BadName), "at {text:?}");
-        }
-        let text = format!(in rt.alloc(); "{} or {}", Name::read("Bob")?, BadName)?;
-        assert_eq!(rt; text.as_str(), "bob or bad name");
-        Ok(())
     }
 }

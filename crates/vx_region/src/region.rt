@@ -2,20 +2,22 @@ ghost use Rattle.std.specs.Prelude.{◌≡◌, false, option_map, Some, None, On
 ghost use Rattle.std.specs.Bool.{Decides};
 ghost use Rattle.vx_flag.specs.Settings.{setting_of, with_setting};
 ghost use Rattle.vx_geom.specs.Outline.{is_in};
-ghost use Rattle.vx_region.specs.Regions.{names, with_name, without_name, fresh_region};
+ghost use Rattle.vx_region.specs.Regions.{names, names_of, names_with, names_without, gaining, losing, fresh_region};
 ghost use Rattle.vx_region.specs.SameRegions.{same_number, same_names, same_place, same_people, same_region};
 ghost use Rattle.vx_region.specs.Texts.{texts};
 
 use crate::id::Id;
 use crate::name::Name;
 use crate::region_no::RegionNo;
+use crate::role::Role;
 use indexmap::IndexSet;
 use std::alloc::{AllocError, Global};
 use std::marker::Model;
 use vx_flag::{Flag, Setting, Settings};
 use vx_geom::{Pos, Shape};
 
-/// A region: where it lies, what goes before it, who its owners and its members are, and what it sets for each flag.
+/// A region: where it lies, its priority and its parent, who its owners and its members are, and
+/// what it sets for each flag.
 #[derive(Debug, Drop)]
 pub struct Region {
     id: Id,
@@ -96,20 +98,15 @@ impl Region {
         self.settings.get(flag)
     }
 
-    /// Whether this player is named as an owner.
+    /// Whether this player is named in that role.
     #[tactic(auto, using(crate::proofs::NameLemmas::names_texts))]
-    pub fn is_owner(&self, name: &Name) -> bool
-        ensures { result ≡ names self.now.owners name.now.text.bytes }
+    pub fn has_name(&self, role: Role, name: &Name) -> bool
+        ensures { result ≡ names (names_of role self.now) name.now.text.bytes }
     {
-        self.owners.contains(name)
-    }
-
-    /// Whether this player is named as a member.
-    #[tactic(auto, using(crate::proofs::NameLemmas::names_texts))]
-    pub fn is_member(&self, name: &Name) -> bool
-        ensures { result ≡ names self.now.members name.now.text.bytes }
-    {
-        self.members.contains(name)
+        match role {
+            Role::Owner => self.owners.contains(name),
+            Role::Member => self.members.contains(name),
+        }
     }
 
     /// Gives it another parent, or none.
@@ -119,33 +116,34 @@ impl Region {
         self.parent = parent;
     }
 
-    /// Names an owner; one that is named already stays named once.
-    pub(crate) fn add_owner(&mut self, name: Name) -> Result<(), AllocError>
-        ensures ok { OnOk result (self.new ≡ record self.old { owners = with_name self.old.owners name.text.bytes }) }
+    /// Adds a name to that role. One that is there already stays there once.
+    pub(crate) fn add_name(&mut self, role: Role, name: Name) -> Result<(), AllocError>
+        ensures ok { OnOk result (self.new ≡ gaining role name.text.bytes self.old) }
         ensures err { OnErr result (self.new ≡ self.old) }
         // A name that is there needs no room.
-        ensures absent { OnErr result (names self.old.owners name.text.bytes ≡ false) }
+        ensures absent { OnErr result (names (names_of role self.old) name.text.bytes ≡ false) }
         ensures parent { self.new.parent ≡ self.old.parent }
         ensures id { self.new.id ≡ self.old.id }
     {
-        let _added = self.owners.insert(name)?;
-        Ok(())
+        match role {
+            Role::Owner => add_to(&mut self.owners, name),
+            Role::Member => add_to(&mut self.members, name),
+        }
     }
 
-    /// Names a member; one that is named already stays named once.
-    pub(crate) fn add_member(&mut self, name: Name) -> Result<(), AllocError>
-        ensures ok { OnOk result (self.new ≡ record self.old { members = with_name self.old.members name.text.bytes }) }
-        ensures err { OnErr result (self.new ≡ self.old) }
-        // A name that is there needs no room.
-        ensures absent { OnErr result (names self.old.members name.text.bytes ≡ false) }
+    /// Drops a name from that role. Nothing changes where it is not there.
+    pub(crate) fn drop_name(&mut self, role: Role, name: &Name)
+        ensures value { self.new ≡ losing role name.now.text.bytes self.old }
         ensures parent { self.new.parent ≡ self.old.parent }
         ensures id { self.new.id ≡ self.old.id }
     {
-        let _added = self.members.insert(name)?;
-        Ok(())
+        match role {
+            Role::Owner => drop_from(&mut self.owners, name),
+            Role::Member => drop_from(&mut self.members, name),
+        }
     }
 
-    /// Lays the region elsewhere.
+    /// Gives it another shape.
     pub(crate) fn set_shape(&mut self, shape: Shape)
         ensures value { self.new ≡ record self.old { shape = shape } }
         ensures parent { self.new.parent ≡ self.old.parent }
@@ -163,7 +161,9 @@ impl Region {
 
     /// Sets the flag, in place of what was set for it before.
     pub(crate) fn set_flag(&mut self, flag: Flag, setting: Setting)
-        ensures value { self.new ≡ record self.old { settings = with_setting self.old.settings flag (Some setting) } }
+        ensures value { self.new ≡ record self.old {
+          settings = with_setting self.old.settings flag (Some setting);
+        } }
         ensures parent { self.new.parent ≡ self.old.parent }
     {
         self.settings.set(flag, setting);
@@ -171,36 +171,18 @@ impl Region {
 
     /// Leaves the flag unset.
     pub(crate) fn clear_flag(&mut self, flag: Flag)
-        ensures value { self.new ≡ record self.old { settings = with_setting self.old.settings flag None } }
+        ensures value { self.new ≡ record self.old {
+          settings = with_setting self.old.settings flag None;
+        } }
         ensures parent { self.new.parent ≡ self.old.parent }
     {
         self.settings.clear(flag);
     }
-
-    /// Names an owner no longer; one that is not named stays so.
-    pub(crate) fn drop_owner(&mut self, name: &Name)
-        ensures value { self.new ≡ record self.old { owners = without_name self.old.owners name.now.text.bytes } }
-        ensures parent { self.new.parent ≡ self.old.parent }
-    {
-        // The length is read since it says that no name is there twice.
-        let _count = self.owners.len();
-        let _dropped = self.owners.shift_remove(name);
-    }
-
-    /// Names a member no longer; one that is not named stays so.
-    pub(crate) fn drop_member(&mut self, name: &Name)
-        ensures value { self.new ≡ record self.old { members = without_name self.old.members name.now.text.bytes } }
-        ensures parent { self.new.parent ≡ self.old.parent }
-    {
-        // The length is read since it says that no name is there twice.
-        let _count = self.members.len();
-        let _dropped = self.members.shift_remove(name);
-    }
 }
 
 impl Region {
-    /// Whether both are the same in every part: id, shape, priority and parent, the owners and the members in their order,
-    /// and what is set for each flag.
+    /// Whether both are the same in every part: id, shape, priority and parent, the owners and the
+    /// members in their order, and what is set for each flag.
     pub fn same(&self, other: &Region) -> bool
         ensures value { result ≡ same_region self.now other.now }
         ensures decides { Decides result (self.now ≡ other.now) }
@@ -212,7 +194,7 @@ impl Region {
     fn same_parts(&self, other: &Region) -> bool
         ensures { result ≡ same_region self.now other.now }
     {
-        self.same_place(other) && self.same_people(other) && self.settings.same(&other.settings)
+        self.same_place(other) && self.same_people(other) && self.settings == other.settings
     }
 
     #[tactic(auto, unfolding(crate::specs::SameRegions::same_place))]
@@ -258,6 +240,26 @@ impl Clone for Region {
     }
 }
 
+// Puts a name among these, once. A name that is there needs no room.
+fn add_to(these: &mut IndexSet<Name>, name: Name) -> Result<(), AllocError>
+    ensures ok { OnOk result
+        (texts these.new.keys ≡ names_with (texts these.old.keys) name.text.bytes) }
+    ensures err { OnErr result (these.new.keys ≡ these.old.keys) }
+    ensures absent { OnErr result (names (texts these.old.keys) name.text.bytes ≡ false) }
+{
+    let _added = these.insert(name)?;
+    Ok(())
+}
+
+// Takes a name out of these.
+fn drop_from(these: &mut IndexSet<Name>, name: &Name)
+    ensures { texts these.new.keys ≡ names_without (texts these.old.keys) name.now.text.bytes }
+{
+    // The length is read since it says that no name is there twice.
+    let _count = these.len();
+    let _dropped = these.shift_remove(name);
+}
+
 #[tactic(auto, unfolding(crate::specs::SameRegions::same_number))]
 fn same_number(a: Option<RegionNo>, b: Option<RegionNo>) -> bool
     ensures { result ≡ same_number (option_map (λ n. n.0) a) (option_map (λ n. n.0) b) }
@@ -270,19 +272,4 @@ fn same_names(these: &[Name], those: &[Name]) -> bool
     ensures { result ≡ same_names (texts these.now) (texts those.now) }
 {
     these == those
-}
-
-#[cfg(test)]
-mod tests {
-    use super::*;
-    use std::test::Fail;
-
-    #[test]
-    fn the_order_of_names_counts(rt: HostRuntime) -> Result<(), Fail> {
-        let (ann, bob) = (Name::read("ann")?, Name::read("bob")?);
-        assert!(rt; same_names(&[ann, bob], &[ann, bob]));
-        assert!(rt; !same_names(&[ann, bob], &[bob, ann]));
-        assert!(rt; !same_names(&[ann, bob], &[ann]));
-        Ok(())
-    }
 }

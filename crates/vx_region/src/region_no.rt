@@ -1,3 +1,4 @@
-/// The number of a region. The first region that is defined has number 1, each further one the next number.
+/// The number of a region. The first region that is defined has number 1, each further one the next
+/// number.
 #[derive(Clone, Copy, Debug, PartialEq, Eq, PartialOrd, Ord, Hash)]
 pub struct RegionNo(pub u32);

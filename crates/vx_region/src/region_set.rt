@@ -1,22 +1,21 @@
 ghost use Rattle.std.specs.List.{list_any};
 ghost use Rattle.std.specs.Prelude.{◌≡◌, ◌+◌, ◌-◌, ◌^◌, ◌<◌, false, length, slice_get, option_map, option_copied, None, Some, IsSome, IfOk, OnOk, OnErr};
 ghost use Rattle.vx_region.specs.Ancestry.{ancestors, is_under, is_above};
-ghost use Rattle.vx_region.specs.Association.{owns, belongs, player_association, machine_association, association};
+ghost use Rattle.vx_region.specs.Association.{has_name, has_name_along, player_association, machine_association, holds_place, association};
 ghost use Rattle.vx_region.specs.Forest.{IsForest};
-ghost use Rattle.vx_region.specs.Regions.{no_regions, region_at, number_of, parent_of, setting_at, is_global_id, with_region, with_owner, with_member};
+ghost use Rattle.vx_region.specs.Regions.{no_regions, region_at, number_of, parent_of, setting_at, is_global_id, with_region, with_name};
 ghost use Rattle.vx_region.specs.Subjects.{actor_of};
 
 mod copies;
 mod edits;
 mod equality;
 mod family;
-#[cfg(test)]
-mod tests;
 
 use crate::id::Id;
 use crate::name::Name;
 use crate::region::Region;
 use crate::region_no::RegionNo;
+use crate::role::Role;
 use crate::subject::Subject;
 use indexmap::IndexMap;
 use std::alloc::{AllocError, Global};
@@ -24,8 +23,8 @@ use std::marker::Model;
 use vx_flag::{Association, Flag, Setting, Settings};
 use vx_geom::{Pos, Shape};
 
-/// The regions of a world, in order of their numbers, and the flags of the world at large, which is `__global__` and has
-/// number 0. A number is never given twice.
+/// The regions of a world, in order of their numbers, and the flags of the world at large, which is
+/// `__global__` and has number 0. A number is never given twice.
 #[derive(Debug, Drop)]
 pub struct RegionSet {
     last: u32,
@@ -36,14 +35,15 @@ pub struct RegionSet {
 }
 
 impl Model for RegionSet {
-    ghost use Rattle.vx_region.specs.Regions.{Regions};
+    ghost use Rattle.vx_region.specs.Regions.{Regions, regions_of};
     ghost use Rattle.vx_region.specs.IdIndex.{IsSound};
 
     ghost Value = { Regions };
 
-    ghost view = { λ a. record { last = a.last; entries = a.regions.entries; global = a.global } };
+    ghost view = { λ a. regions_of a.last a.regions.entries a.global };
 
-    ghost invariant = { λ a. IsSound (record { last = a.last; entries = a.regions.entries; global = a.global }) a.numbers.entries };
+    ghost invariant = { λ a. IsSound
+        (regions_of a.last a.regions.entries a.global) a.numbers.entries };
 }
 
 impl RegionSet {
@@ -150,8 +150,8 @@ impl RegionSet {
         }
     }
 
-    /// What the subject is to the region of that number: for a player by the names of the whole ancestry, for a machine by
-    /// where it stands. Everyone is a stranger to `__global__`.
+    /// What the subject is to the region of that number: for a player by the names of the whole
+    /// ancestry, for a machine by where it stands. Everyone is a stranger to `__global__`.
     #[tactic(auto, unfolding(crate::specs::Association::association))]
     pub fn association(&self, subject: &Subject, number: RegionNo) -> Association
         ensures { result ≡ association self.now (actor_of subject.now) number.0 }
@@ -166,22 +166,23 @@ impl RegionSet {
     fn player_association(&self, name: &Name, number: RegionNo) -> Association
         ensures { result ≡ player_association self.now name.now.text.bytes number.0 }
     {
-        if self.is_owner_along(name, number) {
+        if self.has_name_along(Role::Owner, name, number) {
             return Association::Owner;
         }
-        if self.is_member_along(name, number) {
+        if self.has_name_along(Role::Member, name, number) {
             return Association::Member;
         }
         Association::Stranger
     }
 
-    // Whether some region of the ancestry names the player as owner.
-    fn is_owner_along(&self, name: &Name, number: RegionNo) -> bool
-        ensures { result ≡ list_any (owns self.now name.now.text.bytes) (ancestors self.now number.0) }
+    // Whether some region of the ancestry names the player in that role.
+    #[tactic(auto, unfolding(crate::specs::Association::has_name_along))]
+    fn has_name_along(&self, role: Role, name: &Name, number: RegionNo) -> bool
+        ensures { result ≡ has_name_along self.now role name.now.text.bytes number.0 }
     {
         let mut at = number;
         for _ in 0..u64::from(self.last()) + 1 {
-            if self.owns(name, at) {
+            if self.has_name(role, name, at) {
                 return true;
             }
             match self.parent(at) {
@@ -192,59 +193,44 @@ impl RegionSet {
         false
     }
 
-    // Whether some region of the ancestry names the player as member.
-    fn is_member_along(&self, name: &Name, number: RegionNo) -> bool
-        ensures { result ≡ list_any (belongs self.now name.now.text.bytes) (ancestors self.now number.0) }
-    {
-        let mut at = number;
-        for _ in 0..u64::from(self.last()) + 1 {
-            if self.belongs(name, at) {
-                return true;
-            }
-            match self.parent(at) {
-                Some(parent) => at = parent,
-                None => return false,
-            }
-        }
-        false
-    }
-
-    #[tactic(auto, unfolding(crate::specs::Association::owns))]
-    fn owns(&self, name: &Name, number: RegionNo) -> bool
-        ensures { result ≡ owns self.now name.now.text.bytes number.0 }
+    #[tactic(auto, unfolding(crate::specs::Association::has_name))]
+    fn has_name(&self, role: Role, name: &Name, number: RegionNo) -> bool
+        ensures { result ≡ has_name self.now role name.now.text.bytes number.0 }
     {
         match self.get(number) {
-            Some(region) => region.is_owner(name),
+            Some(region) => region.has_name(role, name),
             None => false,
         }
     }
 
-    #[tactic(auto, unfolding(crate::specs::Association::belongs))]
-    fn belongs(&self, name: &Name, number: RegionNo) -> bool
-        ensures { result ≡ belongs self.now name.now.text.bytes number.0 }
-    {
-        match self.get(number) {
-            Some(region) => region.is_member(name),
-            None => false,
-        }
-    }
-
-    #[tactic(auto, unfolding(crate::specs::Association::machine_association, crate::specs::Association::holds_place))]
+    #[tactic(auto, unfolding(crate::specs::Association::machine_association))]
     fn machine_association(&self, place: &Pos, number: RegionNo) -> Association
         ensures { result ≡ machine_association self.now place.now number.0 }
     {
-        match self.get(number) {
-            Some(region) if region.contains(*place) => Association::Owner,
-            _ => Association::Stranger,
+        if self.holds_place(place, number) {
+            Association::Owner
+        } else {
+            Association::Stranger
         }
     }
 
-    /// Defines a region that nobody owns yet and answers its number.
-    /// The caller has looked that the id is free and that a number is left.
+    #[tactic(auto, unfolding(crate::specs::Association::holds_place))]
+    fn holds_place(&self, place: &Pos, number: RegionNo) -> bool
+        ensures { result ≡ holds_place self.now place.now number.0 }
+    {
+        match self.get(number) {
+            Some(region) => region.contains(*place),
+            None => false,
+        }
+    }
+
+    /// Defines a region that nobody owns yet and answers its number. The id has to be free, and a
+    /// number left.
     pub fn define(&mut self, alloc: Global, id: Id, shape: Shape) -> Result<RegionNo, AllocError>
         requires free { number_of self.old id.text.bytes ≡ None }
         requires room { self.old.last < 2 ^ 32 - 1 }
-        ensures ok { IfOk result (λ n. (n.0 ≡ self.old.last + 1) × (self.new ≡ with_region self.old id.text.bytes shape)) }
+        ensures ok { IfOk result (λ n. (n.0 ≡ self.old.last + 1)
+            × (self.new ≡ with_region self.old id.text.bytes shape)) }
         ensures err { OnErr result (self.new ≡ self.old) }
     {
         let number = self.last + 1;
@@ -257,26 +243,19 @@ impl RegionSet {
         Ok(RegionNo(number))
     }
 
-    /// Names an owner of a region that is there; one that it has already stays named once.
-    pub fn add_owner(&mut self, number: RegionNo, name: Name) -> Result<(), AllocError>
+    /// Adds a name to that role in a region that is there. One that it has already stays there
+    /// once.
+    pub fn add_name(&mut self, number: RegionNo, role: Role, name: Name) -> Result<(), AllocError>
         requires { IsSome (region_at self.old number.0) }
-        ensures ok { OnOk result (self.new ≡ with_owner self.old number.0 name.text.bytes) }
+        ensures ok { OnOk result (self.new ≡ with_name self.old number.0 role name.text.bytes) }
         ensures err { OnErr result (self.new ≡ self.old) }
         // A name that is there needs no room.
-        ensures absent { OnErr result (owns self.old name.text.bytes number.0 ≡ false) }
+        ensures absent { OnErr result (has_name self.old role name.text.bytes number.0 ≡ false) }
     {
-        self.regions.get_mut(&number.0).unwrap().add_owner(name)
-    }
-
-    /// Names a member of a region that is there; one that it has already stays named once.
-    pub fn add_member(&mut self, number: RegionNo, name: Name) -> Result<(), AllocError>
-        requires { IsSome (region_at self.old number.0) }
-        ensures ok { OnOk result (self.new ≡ with_member self.old number.0 name.text.bytes) }
-        ensures err { OnErr result (self.new ≡ self.old) }
-        // A name that is there needs no room.
-        ensures absent { OnErr result (belongs self.old name.text.bytes number.0 ≡ false) }
-    {
-        self.regions.get_mut(&number.0).unwrap().add_member(name)
+        self.regions
+            .get_mut(&number.0)
+            .unwrap()
+            .add_name(role, name)
     }
 }
 

@@ -1,7 +1,7 @@
 //! What an edit that was accepted changes.
 ghost use Rattle.std.specs.Prelude.{◌≡◌, ◌+◌, true, false, None, Some, Err, option_map, IsSome, IfOk, OnOk, OnErr};
 ghost use Rattle.vx_geom.specs.Written.{written};
-ghost use Rattle.vx_policy.specs.Asked.{Define, Reshape, Remove, Priority, Parent, SetFlag, ClearFlag, Owner, Member, asked};
+ghost use Rattle.vx_policy.specs.Asked.{Define, Reshape, Remove, Priority, Parent, SetFlag, ClearFlag, Listed, asked};
 ghost use Rattle.vx_policy.specs.Edits.{edited, number_given};
 ghost use Rattle.vx_policy.specs.Refusals.{refusal, is_known, is_at_large, numbered};
 ghost use Rattle.vx_policy.specs.declared.edit_error.EditError.{EditError};
@@ -16,26 +16,30 @@ use std::alloc::{AllocError, Global};
 use std::sync::Arc;
 use vx_flag::{Flag, Setting};
 use vx_geom::ShapeSpec;
-use vx_region::{Id, Name, RegionNo, RegionSet};
+use vx_region::{Id, Name, RegionNo, RegionSet, Role};
 
 impl Policy {
-    /// Makes an edit that nothing stands against, and answers the number that a definition gave. Where copies share the
-    /// regions, they are copied first.
+    /// Makes an edit that nothing stands against, and answers the number that a definition gave.
+    /// Where copies share the regions, they are copied first.
     pub fn change(&mut self, alloc: Global, edit: Edit) -> Result<Option<RegionNo>, AllocError>
         requires { refusal self.old (asked edit) ≡ None }
-        ensures ok { IfOk result (λ n. (self.new ≡ edited self.old (asked edit)) × (option_map (λ n. n.0) n ≡ number_given self.old (asked edit))) }
+        ensures ok { IfOk result (λ n. (self.new ≡ edited self.old (asked edit))
+            × (option_map (λ n. n.0) n ≡ number_given self.old (asked edit))) }
         ensures err { OnErr result (self.new ≡ self.old) }
     {
         let regions = Arc::make_mut(&mut self.regions)?;
         change(regions, alloc, edit)
     }
 
-    /// Applies an edit and answers the number that a definition gave, or refuses it by the first cause that stands against it.
-    /// A refusal leaves the policy as it was, and so does want of memory.
+    /// Applies an edit and answers the number that a definition gave, or refuses it by the first
+    /// cause that stands against it. A refusal leaves the policy as it was, and so does want of
+    /// memory.
     pub fn apply(&mut self, alloc: Global, edit: Edit) -> Result<Option<RegionNo>, EditError>
-        ensures ok { IfOk result (λ n. (refusal self.old (asked edit) ≡ None) × (self.new ≡ edited self.old (asked edit))
+        ensures ok { IfOk result (λ n. (refusal self.old (asked edit) ≡ None)
+            × (self.new ≡ edited self.old (asked edit))
             × (option_map (λ n. n.0) n ≡ number_given self.old (asked edit))) }
-        ensures refused { (cause : EditRefusal) → result ≡ Err (EditError.Refused cause) → refusal self.old (asked edit) ≡ Some cause }
+        ensures refused { (cause : EditRefusal) → result ≡ Err (EditError.Refused cause)
+            → refusal self.old (asked edit) ≡ Some cause }
         ensures memory { result ≡ Err EditError.NoMemory → refusal self.old (asked edit) ≡ None }
         ensures err { OnErr result (self.new ≡ self.old) }
     {
@@ -53,17 +57,18 @@ fn change(
     edit: Edit,
 ) -> Result<Option<RegionNo>, AllocError>
     requires { refusal regions.old (asked edit) ≡ None }
-    ensures ok { IfOk result (λ n. (regions.new ≡ edited regions.old (asked edit)) × (option_map (λ n. n.0) n ≡ number_given regions.old (asked edit))) }
+    ensures ok { IfOk result (λ n. (regions.new ≡ edited regions.old (asked edit))
+        × (option_map (λ n. n.0) n ≡ number_given regions.old (asked edit))) }
     ensures err { OnErr result (regions.new ≡ regions.old) }
 {
     match edit {
         Edit::Define(id, shape) => Ok(Some(define(regions, alloc, &id, shape)?)),
         Edit::Owner(id, listing, name) => {
-            list_owner(regions, &id, listing, &name)?;
+            list(regions, Role::Owner, &id, listing, &name)?;
             Ok(None)
         }
         Edit::Member(id, listing, name) => {
-            list_member(regions, &id, listing, &name)?;
+            list(regions, Role::Member, &id, listing, &name)?;
             Ok(None)
         }
         Edit::Reshape(id, shape) => {
@@ -104,7 +109,9 @@ fn define(
     shape: ShapeSpec,
 ) -> Result<RegionNo, AllocError>
     requires { refusal regions.old (Define id.now (written shape)) ≡ None }
-    ensures ok { IfOk result (λ n. (regions.new ≡ edited regions.old (Define id.now (written shape))) × (n.0 ≡ regions.old.last + 1)) }
+    ensures ok { IfOk result (λ n.
+        (regions.new ≡ edited regions.old (Define id.now (written shape)))
+        × (n.0 ≡ regions.old.last + 1)) }
     ensures err { OnErr result (regions.new ≡ regions.old) }
 {
     let Ok(id) = Id::read(id) else {
@@ -184,14 +191,16 @@ fn clear_flag(regions: &mut RegionSet, id: &str, flag: Flag)
 }
 
 #[tactic(auto, unfolding(crate::specs::Edits::edited))]
-fn list_owner(
+fn list(
     regions: &mut RegionSet,
+    role: Role,
     id: &str,
     listing: Listing,
     name: &str,
 ) -> Result<(), AllocError>
-    requires { refusal regions.old (Owner id.now listing name.now) ≡ None }
-    ensures ok { OnOk result (regions.new ≡ edited regions.old (Owner id.now listing name.now)) }
+    requires { refusal regions.old (Listed role id.now listing name.now) ≡ None }
+    ensures ok { OnOk result
+        (regions.new ≡ edited regions.old (Listed role id.now listing name.now)) }
     ensures err { OnErr result (regions.new ≡ regions.old) }
 {
     let number = region(regions, id);
@@ -199,33 +208,9 @@ fn list_owner(
         unreachable!();
     };
     match listing {
-        Listing::Add => regions.add_owner(number, name),
+        Listing::Add => regions.add_name(number, role, name),
         Listing::Drop => {
-            regions.drop_owner(number, &name);
-            Ok(())
-        }
-    }
-}
-
-#[tactic(auto, unfolding(crate::specs::Edits::edited))]
-fn list_member(
-    regions: &mut RegionSet,
-    id: &str,
-    listing: Listing,
-    name: &str,
-) -> Result<(), AllocError>
-    requires { refusal regions.old (Member id.now listing name.now) ≡ None }
-    ensures ok { OnOk result (regions.new ≡ edited regions.old (Member id.now listing name.now)) }
-    ensures err { OnErr result (regions.new ≡ regions.old) }
-{
-    let number = region(regions, id);
-    let Ok(name) = Name::read(name) else {
-        unreachable!();
-    };
-    match listing {
-        Listing::Add => regions.add_member(number, name),
-        Listing::Drop => {
-            regions.drop_member(number, &name);
+            regions.drop_name(number, role, &name);
             Ok(())
         }
     }

@@ -1,7 +1,7 @@
 //! Why an edit is refused. Nothing here takes memory or changes anything.
 ghost use Rattle.std.specs.Prelude.{◌≡◌, ◌≢◌, Some, None, option_map, MatchResult, OnOk};
 ghost use Rattle.vx_geom.specs.Written.{written};
-ghost use Rattle.vx_policy.specs.Asked.{Define, Reshape, Remove, Priority, Parent, SetFlag, ClearFlag, Owner, Member, asked};
+ghost use Rattle.vx_policy.specs.Asked.{Define, Reshape, Remove, Priority, Parent, SetFlag, ClearFlag, Listed, asked};
 ghost use Rattle.vx_policy.specs.Refusals.{refusal, is_full, is_name, numbered};
 ghost use Rattle.vx_region.specs.Regions.{number_of};
 
@@ -11,13 +11,14 @@ use crate::listing::Listing;
 use crate::policy::Policy;
 use vx_flag::{Flag, Setting};
 use vx_geom::ShapeSpec;
-use vx_region::{Id, Name, RegionNo, RegionSet};
+use vx_region::{Id, Name, RegionNo, RegionSet, Role};
 
 /// How many regions there may be.
-const REGIONS: u32 = 4_096;
+const MAX_REGIONS: u32 = 4_096;
 
 impl Policy {
-    /// Why the edit is refused as things stand: the first cause that stands against it, in the order of docs/RULES.md.
+    /// Why the edit is refused as things stand: the first cause that stands against it, in the
+    /// order of docs/RULES.md.
     pub fn refusal(&self, edit: &Edit) -> Option<EditRefusal>
         ensures { result ≡ refusal self.now (asked edit.now) }
     {
@@ -31,8 +32,8 @@ impl Policy {
             Edit::Parent(id, Some(parent)) => of_parent(regions, id, parent),
             Edit::SetFlag(id, flag, setting) => of_flag(regions, id, *flag, *setting),
             Edit::ClearFlag(id, flag) => of_clearing(regions, id, *flag),
-            Edit::Owner(id, listing, name) => of_owner(regions, id, *listing, name),
-            Edit::Member(id, listing, name) => of_member(regions, id, *listing, name),
+            Edit::Owner(id, listing, name) => of_name(regions, Role::Owner, id, *listing, name),
+            Edit::Member(id, listing, name) => of_name(regions, Role::Member, id, *listing, name),
         }
     }
 }
@@ -178,27 +179,14 @@ fn of_clearing(regions: &RegionSet, id: &str, flag: Flag) -> Option<EditRefusal>
 }
 
 #[tactic(auto, unfolding(crate::specs::Refusals::refusal))]
-fn of_owner(regions: &RegionSet, id: &str, listing: Listing, name: &str) -> Option<EditRefusal>
-    ensures { result ≡ refusal regions.now (Owner id.now listing name.now) }
-{
-    let Ok(id) = Id::read(id) else {
-        return Some(EditRefusal::BadId);
-    };
-    if Name::read(name).is_err() {
-        return Some(EditRefusal::BadName);
-    }
-    let Some(number) = regions.find(&id) else {
-        return Some(EditRefusal::Unknown);
-    };
-    if number.0 == 0 {
-        return Some(EditRefusal::GlobalHasNone);
-    }
-    None
-}
-
-#[tactic(auto, unfolding(crate::specs::Refusals::refusal))]
-fn of_member(regions: &RegionSet, id: &str, listing: Listing, name: &str) -> Option<EditRefusal>
-    ensures { result ≡ refusal regions.now (Member id.now listing name.now) }
+fn of_name(
+    regions: &RegionSet,
+    role: Role,
+    id: &str,
+    listing: Listing,
+    name: &str,
+) -> Option<EditRefusal>
+    ensures { result ≡ refusal regions.now (Listed role id.now listing name.now) }
 {
     let Ok(id) = Id::read(id) else {
         return Some(EditRefusal::BadId);
@@ -219,5 +207,5 @@ fn of_member(regions: &RegionSet, id: &str, listing: Listing, name: &str) -> Opt
 fn is_full(regions: &RegionSet) -> bool
     ensures { result ≡ is_full regions.now }
 {
-    REGIONS <= regions.count() || regions.last() == u32::MAX
+    MAX_REGIONS <= regions.count() || regions.last() == u32::MAX
 }

@@ -5,7 +5,8 @@ use super::RegionSet;
 use std::alloc::AllocError;
 
 impl RegionSet {
-    /// A copy with the same regions under the same numbers. A change of one is no change of the other.
+    /// A copy with the same regions under the same numbers. A change of one is no change of the
+    /// other.
     pub fn try_clone(&self) -> Result<RegionSet, AllocError>
         ensures { IfOk result (λ copy. copy ≡ self.now) }
     {

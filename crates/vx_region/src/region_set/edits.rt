@@ -1,15 +1,17 @@
-//! What changes a region that is there, or the flags of the world at large. Nothing here takes memory.
+//! What changes a region that is there, or the flags of the world at large. Nothing here takes
+//! memory.
 ghost use Rattle.std.specs.Prelude.{◌≡◌, Some, None, IsSome};
-ghost use Rattle.vx_region.specs.Regions.{region_at, HasSettings, with_shape, with_priority, with_flag, without_owner, without_member};
+ghost use Rattle.vx_region.specs.Regions.{region_at, HasSettings, with_shape, with_priority, with_flag, without_name};
 
 use super::RegionSet;
 use crate::name::Name;
 use crate::region_no::RegionNo;
+use crate::role::Role;
 use vx_flag::{Flag, Setting};
 use vx_geom::Shape;
 
 impl RegionSet {
-    /// Lays a region that is there elsewhere.
+    /// Gives a region that is there another shape.
     pub fn reshape(&mut self, number: RegionNo, shape: Shape)
         requires { IsSome (region_at self.old number.0) }
         ensures { self.new ≡ with_shape self.old number.0 shape }
@@ -28,7 +30,8 @@ impl RegionSet {
             .set_priority(priority);
     }
 
-    /// Sets a flag of a region that is there, or of the world at large for number 0, in place of what was set before.
+    /// Sets a flag of a region that is there, or of the world at large for number 0, in place of
+    /// what was set before.
     pub fn set_flag(&mut self, number: RegionNo, flag: Flag, setting: Setting)
         requires { HasSettings self.old number.0 }
         ensures { self.new ≡ with_flag self.old number.0 flag (Some setting) }
@@ -55,19 +58,15 @@ impl RegionSet {
         self.regions.get_mut(&number.0).unwrap().clear_flag(flag);
     }
 
-    /// Names an owner of a region that is there no longer; one that is not named stays so.
-    pub fn drop_owner(&mut self, number: RegionNo, name: &Name)
+    /// Drops a name from that role in a region that is there. Nothing changes where the region does
+    /// not have it.
+    pub fn drop_name(&mut self, number: RegionNo, role: Role, name: &Name)
         requires { IsSome (region_at self.old number.0) }
-        ensures { self.new ≡ without_owner self.old number.0 name.now.text.bytes }
+        ensures { self.new ≡ without_name self.old number.0 role name.now.text.bytes }
     {
-        self.regions.get_mut(&number.0).unwrap().drop_owner(name);
-    }
-
-    /// Names a member of a region that is there no longer; one that is not named stays so.
-    pub fn drop_member(&mut self, number: RegionNo, name: &Name)
-        requires { IsSome (region_at self.old number.0) }
-        ensures { self.new ≡ without_member self.old number.0 name.now.text.bytes }
-    {
-        self.regions.get_mut(&number.0).unwrap().drop_member(name);
+        self.regions
+            .get_mut(&number.0)
+            .unwrap()
+            .drop_name(role, name);
     }
 }

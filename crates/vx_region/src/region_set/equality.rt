@@ -8,8 +8,8 @@ use crate::region::Region;
 use crate::region_no::RegionNo;
 
 impl RegionSet {
-    /// Whether both have the same regions under the same numbers, in every part, the same number given last and the same
-    /// flags of the world at large.
+    /// Whether both have the same regions under the same numbers, in every part, the same number
+    /// given last and the same flags of the world at large.
     pub fn same(&self, other: &RegionSet) -> bool
         ensures value { result ≡ same_regions self.now other.now }
         ensures decides { Decides result (self.now ≡ other.now) }
@@ -21,7 +21,7 @@ impl RegionSet {
     fn same_parts(&self, other: &RegionSet) -> bool
         ensures { result ≡ same_regions self.now other.now }
     {
-        self.last == other.last && self.global.same(&other.global) && self.same_entries(other)
+        self.last == other.last && self.global == other.global && self.same_entries(other)
     }
 
     fn same_entries(&self, other: &RegionSet) -> bool

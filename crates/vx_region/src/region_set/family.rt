@@ -15,8 +15,8 @@ impl RegionSet {
             .any(|(_, region)| region.parent() == Some(number))
     }
 
-    /// Gives a region that is there another parent, or none.
-    /// The caller has looked that the parent is there, and that it is neither the region itself nor under it.
+    /// Gives a region that is there another parent, or none. The parent has to be there, and to be
+    /// neither the region itself nor under it.
     pub fn set_parent(&mut self, number: RegionNo, parent: Option<RegionNo>)
         requires known { IsSome (region_at self.old number.0) }
         requires parent_known { IfSome parent (λ q. IsSome (region_at self.old q.0)) }

@@ -74,34 +74,3 @@ impl Kind {
         }
     }
 }
-
-#[cfg(test)]
-mod tests {
-    use super::*;
-
-    #[test]
-    fn each_kind_has_its_word(rt: HostRuntime) {
-        for (kind, word) in [
-            (Kind::Air, "air"),
-            (Kind::Stone, "stone"),
-            (Kind::Dirt, "dirt"),
-            (Kind::Planks, "planks"),
-            (Kind::Glass, "glass"),
-            (Kind::Obsidian, "obsidian"),
-            (Kind::Bedrock, "bedrock"),
-            (Kind::Chest, "chest"),
-            (Kind::Dust, "dust"),
-            (Kind::Torch, "torch"),
-            (Kind::Lever, "lever"),
-            (Kind::Repeater, "repeater"),
-            (Kind::Lamp, "lamp"),
-            (Kind::Piston, "piston"),
-            (Kind::StickyPiston, "sticky"),
-            (Kind::Head, "head"),
-        ] {
-            assert_eq!(rt; kind.word(), word);
-            assert_eq!(rt; Kind::read(word), Some(kind), "{word}");
-        }
-        assert_eq!(rt; Kind::read("Stone"), None);
-    }
-}

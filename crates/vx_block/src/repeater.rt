@@ -105,18 +105,3 @@ impl Repeater {
         three_words(dir_word(self.facing.dir()), self.delay.word(), &state)
     }
 }
-
-#[cfg(test)]
-mod tests {
-    use super::*;
-
-    #[test]
-    fn a_repeater_tells_its_state(rt: HostRuntime) {
-        let repeater = Repeater::new(Side::South, Delay::Three, true, 2);
-        assert_eq!(rt; repeater.facing(), Side::South);
-        assert_eq!(rt; repeater.delay(), Delay::Three);
-        assert_eq!(rt; repeater.delay().ticks(), 3);
-        assert!(rt; repeater.is_on());
-        assert_eq!(rt; repeater.wait(), 2);
-    }
-}

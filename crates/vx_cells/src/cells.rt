@@ -3,9 +3,6 @@ ghost use Rattle.std.specs.Bool.{Decides};
 ghost use Rattle.std.specs.List.{All};
 ghost use Rattle.vx_geom.specs.Sizes.{sector_count};
 
-#[cfg(test)]
-mod tests;
-
 use crate::chests::Chests;
 use crate::code::{AIR, decode, encode, is_chest};
 use crate::stack::{SLOTS, Slot};

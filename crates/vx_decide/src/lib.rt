@@ -23,6 +23,3 @@ pub use laws::{
 pub use plain::Plain;
 pub use rule::Rule;
 pub use verdict::Verdict;
-
-#[cfg(test)]
-mod tests;

@@ -49,37 +49,3 @@ impl fmt::Display for Rule {
         }
     }
 }
-
-#[cfg(test)]
-mod tests {
-    use super::*;
-    use std::test::Fail;
-
-    #[test]
-    fn each_rule_has_its_words(rt: HostRuntime) -> Result<(), Fail> {
-        let (first, last) = (RegionNo(1), RegionNo(4_294_967_295));
-        for (rule, words) in [
-            (
-                Rule::Flag {
-                    at: RegionNo(2),
-                    from: first,
-                    flag: Flag::Usage,
-                },
-                "flag use at 2 from 1",
-            ),
-            (
-                Rule::Build {
-                    at: last,
-                    from: RegionNo(0),
-                },
-                "build at 4294967295 from 0",
-            ),
-            (Rule::Member { at: first }, "member at 1"),
-            (Rule::Member { at: last }, "member at 4294967295"),
-            (Rule::Default, "default"),
-        ] {
-            assert_eq!(rt; format!(in rt.alloc(); "{rule}")?.as_str(), words);
-        }
-        Ok(())
-    }
-}

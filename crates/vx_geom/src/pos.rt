@@ -1,9 +1,11 @@
 ghost use Rattle.std.specs.Prelude.{◌≡◌, SomeIff};
 ghost use Rattle.vx_geom.specs.Neighbor.{neighbor, FitsPos};
+ghost use Rattle.vx_geom.specs.Order.{comes_before};
 
 use crate::dir::Dir;
 
-/// A position in the world: x grows east, y up and z south. Positions are ordered by y, then z, then x.
+/// A position in the world: x grows east, y up and z south. Positions are ordered by y, then z,
+/// then x.
 #[derive(Clone, Copy, Debug, PartialEq, Eq, PartialOrd, Ord, Hash)]
 pub struct Pos {
     pub y: i32,
@@ -17,6 +19,15 @@ impl Pos {
         ensures { result ≡ record { y = y; z = z; x = x } }
     {
         Pos { y, z, x }
+    }
+
+    /// Whether this position comes before the other: the lower one does, of one height the one
+    /// further north, and in one row the one further west.
+    #[tactic(auto, unfolding(crate::specs::Order::comes_before))]
+    pub fn comes_before(&self, other: &Pos) -> bool
+        ensures { result ≡ comes_before self.now other.now }
+    {
+        self < other
     }
 
     /// The next position on that side, or `None` past the ends of `i32`.

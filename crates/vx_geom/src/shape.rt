@@ -9,13 +9,20 @@ use crate::pos::Pos;
 use std::alloc::{AllocError, Global};
 use std::marker::Model;
 
-/// The shape of a region: a cuboid with its corners and all between, or a polygon over columns between two heights.
+// A polygon has that many points.
+const MIN_POINTS: usize = 3;
+
+const MAX_POINTS: usize = 64;
+
+/// The shape of a region: a cuboid with its corners and all between, or a polygon over columns
+/// between two heights.
 #[derive(Debug, Drop)]
 pub struct Shape {
     kind: ShapeKind,
 }
 
-// A cuboid by its least and its greatest corner, a polygon by its points and its lowest and its highest y.
+// A cuboid by its least and its greatest corner, a polygon by its points and its lowest and its
+// highest y.
 #[derive(Clone, Debug, Drop)]
 enum ShapeKind {
     Cuboid(Pos, Pos),
@@ -42,8 +49,9 @@ impl Shape {
         }
     }
 
-    /// The polygon over the columns with these points, each an x and a z, from the height `y0` up to `y1`. It keeps the list
-    /// handed in. Edges may cross one another: the even-odd rule in docs/RULES.md says what is inside.
+    /// The polygon over the columns with these points, each an x and a z, from the height `y0` up
+    /// to `y1`. It keeps the list handed in. Edges may cross one another: the even-odd rule in
+    /// docs/RULES.md says what is inside.
     pub fn poly(points: Vec<(i32, i32)>, y0: i32, y1: i32) -> Result<Shape, BadShape>
         ensures ok { IfOk result (λ shape. shape ≡ Polygon points.items y0 y1) }
         ensures good { OnOk result (is_polygon points.items y0 y1 ≡ true) }
@@ -86,7 +94,8 @@ impl Shape {
         }
     }
 
-    /// Whether both are cuboids with the same corners, or polygons with the same points in the same order and the same heights.
+    /// Whether both are cuboids with the same corners, or polygons with the same points in the same
+    /// order and the same heights.
     pub fn same(&self, other: &Shape) -> bool
         ensures value { result ≡ same_outline self.now other.now }
         ensures decides { Decides result (self.now ≡ other.now) }
@@ -129,7 +138,7 @@ impl Eq for Shape {
 pub(crate) fn is_polygon(points: &[(i32, i32)], y0: i32, y1: i32) -> bool
     ensures { result ≡ is_polygon points.now y0 y1 }
 {
-    if !(3..=64).contains(&points.len()) {
+    if !(MIN_POINTS..=MAX_POINTS).contains(&points.len()) {
         return false;
     }
     y0 <= y1

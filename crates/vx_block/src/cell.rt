@@ -1,5 +1,5 @@
 ghost use Rattle.std.specs.Prelude.{◌≡◌, Bool, if◌then◌else◌, [], ◌∷◌, ◌++◌, codes, IfSome, Some};
-ghost use Rattle.vx_block.specs.Cell.{kind_of, cell_state, cell_text, IsCell};
+ghost use Rattle.vx_block.specs.Cell.{kind_of, cell_state, cell_text, IsCell, IsSpelled};
 ghost use Rattle.vx_block.specs.Cut.{colon, tail_of};
 ghost use Rattle.vx_block.specs.Kind.{kind_word};
 ghost use Rattle.vx_block.specs.States.{mount_dir, dir_word, on_word, out_word, grip_word};
@@ -18,7 +18,8 @@ use arrayvec::ArrayString;
 use std::fmt;
 use vx_geom::Dir;
 
-/// What stands at one position of the world, with its state. There are 165 cells. The slots of a chest stand beside it.
+/// What stands at one position of the world, with its state. There are 165 cells. The slots of a
+/// chest stand beside it.
 #[derive(Clone, Copy, Debug, PartialEq, Eq, Hash)]
 pub enum Cell {
     Air,
@@ -146,8 +147,9 @@ fn read_plain(kind: Kind) -> Option<Cell>
 
 // The cell of this kind whose state has this text.
 fn read_state(kind: Kind, state: &str) -> Option<Cell>
-    ensures found { IfSome result (λ c. IsCell c × (cell_text c ≡ kind_word kind ++ colon ∷ state.now)) }
-    ensures only { (c : Cell) → IsCell c → kind_of c ≡ kind → tail_of (cell_text c) ≡ Some state.now → result ≡ Some c }
+    ensures found { IfSome result (IsSpelled (kind_word kind) state.now) }
+    ensures only { (c : Cell) → IsCell c → kind_of c ≡ kind
+        → tail_of (cell_text c) ≡ Some state.now → result ≡ Some c }
 {
     match kind {
         Kind::Dust => Some(Cell::Dust(Level::read(state)?)),
@@ -164,8 +166,9 @@ fn read_state(kind: Kind, state: &str) -> Option<Cell>
 
 // The torch whose state has this text.
 fn read_torch(state: &str) -> Option<Cell>
-    ensures found { IfSome result (λ c. IsCell c × (cell_text c ≡ codes "torch" ++ colon ∷ state.now)) }
-    ensures only { (facing : Mount) → (lit : Bool) → dir_word (mount_dir facing) ++ colon ∷ on_word lit ≡ state.now
+    ensures found { IfSome result (IsSpelled (codes "torch") state.now) }
+    ensures only { (facing : Mount) → (lit : Bool)
+        → dir_word (mount_dir facing) ++ colon ∷ on_word lit ≡ state.now
         → result ≡ Some (Cell.Torch facing lit) }
 {
     let (facing, lit) = cut(state);
@@ -177,8 +180,10 @@ fn read_torch(state: &str) -> Option<Cell>
 
 // The lever whose state has this text.
 fn read_lever(state: &str) -> Option<Cell>
-    ensures found { IfSome result (λ c. IsCell c × (cell_text c ≡ codes "lever" ++ colon ∷ state.now)) }
-    ensures only { (facing : Dir) → (on : Bool) → dir_word facing ++ colon ∷ on_word on ≡ state.now → result ≡ Some (Cell.Lever facing on) }
+    ensures found { IfSome result (IsSpelled (codes "lever") state.now) }
+    ensures only { (facing : Dir) → (on : Bool)
+        → dir_word facing ++ colon ∷ on_word on ≡ state.now
+        → result ≡ Some (Cell.Lever facing on) }
 {
     let (facing, on) = cut(state);
     Some(Cell::Lever {
@@ -189,8 +194,10 @@ fn read_lever(state: &str) -> Option<Cell>
 
 // The piston, sticky or plain, whose state has this text.
 fn read_piston(state: &str, sticky: bool) -> Option<Cell>
-    ensures found { IfSome result (λ c. IsCell c × (cell_text c ≡ (if sticky then codes "sticky" else codes "piston") ++ colon ∷ state.now)) }
-    ensures only { (facing : Dir) → (extended : Bool) → dir_word facing ++ colon ∷ out_word extended ≡ state.now
+    ensures found { IfSome result
+        (IsSpelled (if sticky then codes "sticky" else codes "piston") state.now) }
+    ensures only { (facing : Dir) → (extended : Bool)
+        → dir_word facing ++ colon ∷ out_word extended ≡ state.now
         → result ≡ Some (Cell.Piston facing sticky extended) }
 {
     let (facing, extended) = cut(state);
@@ -203,8 +210,10 @@ fn read_piston(state: &str, sticky: bool) -> Option<Cell>
 
 // The head whose state has this text.
 fn read_head(state: &str) -> Option<Cell>
-    ensures found { IfSome result (λ c. IsCell c × (cell_text c ≡ codes "head" ++ colon ∷ state.now)) }
-    ensures only { (facing : Dir) → (sticky : Bool) → dir_word facing ++ colon ∷ grip_word sticky ≡ state.now → result ≡ Some (Cell.Head facing sticky) }
+    ensures found { IfSome result (IsSpelled (codes "head") state.now) }
+    ensures only { (facing : Dir) → (sticky : Bool)
+        → dir_word facing ++ colon ∷ grip_word sticky ≡ state.now
+        → result ≡ Some (Cell.Head facing sticky) }
 {
     let (facing, sticky) = cut(state);
     Some(Cell::Head {

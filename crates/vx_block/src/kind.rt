@@ -1,7 +1,8 @@
 ghost use Rattle.std.specs.Prelude.{◌≡◌, ◌≤◌, length, IfSome, Some};
 ghost use Rattle.vx_block.specs.Kind.{kind_word};
 
-/// What a cell is, whatever its state. Each kind has one word, with which the texts of its cells and parts begin.
+/// What a cell is, whatever its state. Each kind has one word, with which the texts of its cells
+/// and parts begin.
 #[derive(Clone, Copy, Debug, PartialEq, Eq, Hash)]
 pub enum Kind {
     Air,

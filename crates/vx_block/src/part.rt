@@ -139,7 +139,8 @@ fn read_plain(kind: Kind) -> Option<Part>
 // The part of this kind that is placed as this text tells.
 fn read_placed(kind: Kind, placing: &str) -> Option<Part>
     ensures found { IfSome result (λ p. part_text p ≡ kind_word kind ++ colon ∷ placing.now) }
-    ensures only { (p : Part) → kind_of (part_cell p) ≡ kind → tail_of (part_text p) ≡ Some placing.now → result ≡ Some p }
+    ensures only { (p : Part) → kind_of (part_cell p) ≡ kind
+        → tail_of (part_text p) ≡ Some placing.now → result ≡ Some p }
 {
     match kind {
         Kind::Torch => Some(Part::Torch(Mount::read(placing)?)),
@@ -160,7 +161,8 @@ fn read_placed(kind: Kind, placing: &str) -> Option<Part>
 // The repeater that is placed as this text tells.
 fn read_repeater(placing: &str) -> Option<Part>
     ensures found { IfSome result (λ p. part_text p ≡ codes "repeater" ++ colon ∷ placing.now) }
-    ensures only { (facing : Side) → (delay : Delay) → dir_word (side_dir facing) ++ colon ∷ small_word (ticks_of delay) ≡ placing.now
+    ensures only { (facing : Side) → (delay : Delay)
+        → dir_word (side_dir facing) ++ colon ∷ small_word (ticks_of delay) ≡ placing.now
         → result ≡ Some (Part.Repeater facing delay) }
 {
     let (facing, delay) = cut(placing);

@@ -3,6 +3,7 @@
 
 mod answer;
 mod building;
+mod contest;
 mod decide;
 mod effective;
 mod inquiry;

@@ -7,7 +7,8 @@ use vx_region::RegionNo;
 /// The rule that decides, by the numbers of regions; number 0 is the world at large, `__global__`.
 #[derive(Clone, Copy, Debug, PartialEq, Eq)]
 pub enum Rule {
-    /// The action's own flag, which decides at one region and is set in that or in one of its ancestors.
+    /// The action's own flag, which decides at one region and is set in that or in one of its
+    /// ancestors.
     Flag {
         at: RegionNo,
         from: RegionNo,

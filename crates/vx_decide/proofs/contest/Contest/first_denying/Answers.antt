@@ -1,8 +1,8 @@
 use Rattle.std.proofs.Common.{refl, sym, ◌∙◌}
-use Rattle.vx_decide.specs.Asked.{asked}
+use Rattle.vx_decide.specs.Cases.{case_of}
 use Rattle.vx_decide.specs.Query.{is_denying, first_denying}
 use Rattle.vx_decide.proofs.Leasts.{least_next, least_here}
-use Rattle.vx_decide.proofs.inquiry.Inquiry.first_denying.Goals as goal
+use Rattle.vx_decide.proofs.contest.Contest.first_denying.Goals as goal
 
 pub loop-i-init : goal.loop-i-init
 unfolding first_denying
@@ -10,10 +10,10 @@ loop-i-init c = refl
 
 pub returns-then-is_denying : goal.returns-then-is_denying
 returns-then-is_denying c =
-    sym (least_here (is_denying c.args.question (asked c.args.self.now)) 0 c.args.self.now.regions.now.entries c.loop-i.i _
+    sym (least_here (is_denying c.args.self.now.question (case_of c.args.self.now.inquiry.now)) 0 c.args.self.now.inquiry.now.regions.now.entries c.loop-i.i _
     c.count-i-end.ensures.valid.numbered.ascending c.nth.ensures (sym c.is_denying.ensures ∙ c.if-is_denying.true)) ∙ c.loop-i.invariant
 
 pub loop-i-preserved : goal.loop-i-preserved
 loop-i-preserved c =
-    least_next (is_denying c.args.question (asked c.args.self.now)) c.args.self.now.regions.now.entries c.loop-i.i _
+    least_next (is_denying c.args.self.now.question (case_of c.args.self.now.inquiry.now)) c.args.self.now.inquiry.now.regions.now.entries c.loop-i.i _
     c.nth.ensures (sym c.is_denying.ensures ∙ c.if-is_denying.false) ∙ c.loop-i.invariant

@@ -37,6 +37,8 @@ pub enum Refusal {
     NoMemory,
 }
 
+/// The number and the words of each refusal. A script never prints those of `HistoryFull` and
+/// `NoMemory`, since it ends by a fault there; they are for whoever else runs a sector.
 impl fmt::Display for Refusal {
     ghost use Rattle.vx_sector.specs.Texts.{refusal_text};
 

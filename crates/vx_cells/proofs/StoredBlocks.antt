@@ -7,7 +7,7 @@ use Rattle.std.proofs.lemmas.Grind.{same_number_lists}
 use Rattle.std.proofs.lemmas.Map.{update_here, update_apart}
 use Rattle.vx_block.specs.declared.cell.Cell.TheVariants.{Air}
 use Rattle.vx_geom.specs.Sizes.{Sizes, sector_cells}
-use Rattle.vx_cells.specs.Chests.{Slots, ChestData, slots_at, Changes}
+use Rattle.vx_cells.specs.Chests.{Slots, ChestData, slots_of_chest, Changes}
 use Rattle.vx_cells.specs.Codes.{code_count, cell_of}
 use Rattle.vx_cells.specs.SectorCells.{Block, IsBlock, IsWhole, placed, only_air}
 use Rattle.vx_cells.specs.Stored.{block_of, blocks_from, stored, IsBeside, IsStored}
@@ -30,7 +30,7 @@ pub block-at : (codes : List ℕ) (chests : ChestData) (k : ℕ) (d : Block) →
 block-at codes chests k d near = let at : 0 + k ≡ k = omega arith in block-read 0 codes chests k d near ∙ ap (λ n. block_of (get_or codes k 0) chests n) at
 
 -- a byte and the slots at its index change
-pub blocks-set : (codes : List ℕ) (old new : ChestData) (k code : ℕ) → k < length codes → ((q : ℕ) → q ≢ k → slots_at new q ≡ slots_at old q)
+pub blocks-set : (codes : List ℕ) (old new : ChestData) (k code : ℕ) → k < length codes → ((q : ℕ) → q ≢ k → slots_of_chest new q ≡ slots_of_chest old q)
     → blocks_from 0 (set codes k code) new ≡ set (blocks_from 0 codes old) k (block_of code new k)
 blocks-set codes old new k code near others = ext_get_or (placed Air) _ _ long each
   where
@@ -97,8 +97,8 @@ stored-set bounds codes old new k code slots held near small change beside = rec
   whole = length-set codes k code ∙ held.whole;
   codes = All-set (λ b. b < code_count) codes k code small held.codes;
   chests = λ index. elim (cases_eq index k) [
-    | inl same ↦ rw same (rw (get_or-set_same codes k code 0 near) (rw (change k) (rw (update_here (slots_at old) k slots) beside)))
-    | inr other ↦ rw (get_or-set_other codes k index code 0 other) (rw (change index) (rw (update_apart (slots_at old) k slots index other) (held.chests index)))
+    | inl same ↦ rw same (rw (get_or-set_same codes k code 0 near) (rw (change k) (rw (update_here (slots_of_chest old) k slots) beside)))
+    | inr other ↦ rw (get_or-set_other codes k index code 0 other) (rw (change index) (rw (update_apart (slots_of_chest old) k slots index other) (held.chests index)))
   ];
 }
 
@@ -106,8 +106,8 @@ stored-set bounds codes old new k code slots held near small change beside = rec
 pub blocks-changed : (codes : List ℕ) (old new : ChestData) (k code : ℕ) (slots : Option Slots) → k < length codes → Changes old new k slots
     → blocks_from 0 (set codes k code) new ≡ set (blocks_from 0 codes old) k (record { cell = cell_of code; slots = unwrap_or slots [] })
 blocks-changed codes old new k code slots near change =
-    blocks-set codes old new k code near (λ q other. change q ∙ update_apart (slots_at old) k slots q other)
-    ∙ ap (λ o. set (blocks_from 0 codes old) k (record { cell = cell_of code; slots = unwrap_or o [] })) (change k ∙ update_here (slots_at old) k slots)
+    blocks-set codes old new k code near (λ q other. change q ∙ update_apart (slots_of_chest old) k slots q other)
+    ∙ ap (λ o. set (blocks_from 0 codes old) k (record { cell = cell_of code; slots = unwrap_or o [] })) (change k ∙ update_here (slots_of_chest old) k slots)
 
 same_beside : (code : ℕ) (o r : Option Slots) → IsBeside code o → IsBeside code r → unwrap_or o [] ≡ unwrap_or r [] → o ≡ r
 same_beside code None None left right same = refl
@@ -133,15 +133,15 @@ module _ (bounds rest : Sizes) (codes others : List ℕ) (chests more : ChestDat
   same-codes = same_number_lists codes others long
       (λ k near. same_code _ _ (held.codes k 0 near) (holds.codes k 0 (omega (arith, near, long))) (ap (λ b. b.cell) (same-block k near)))
 
-  pub same-slots : (index : ℕ) → slots_at chests index ≡ slots_at more index
+  pub same-slots : (index : ℕ) → slots_of_chest chests index ≡ slots_of_chest more index
   same-slots index = elim (cases_lt index (length codes)) [
-    | inr past ↦ none_past _ (subst (λ n. IsBeside n (slots_at chests index)) (get_or_past codes index 0 past) (held.chests index))
-        ∙ sym (none_past _ (subst (λ n. IsBeside n (slots_at more index)) (get_or_past others index 0 (omega (arith, past, long))) (holds.chests index)))
+    | inr past ↦ none_past _ (subst (λ n. IsBeside n (slots_of_chest chests index)) (get_or_past codes index 0 past) (held.chests index))
+        ∙ sym (none_past _ (subst (λ n. IsBeside n (slots_of_chest more index)) (get_or_past others index 0 (omega (arith, past, long))) (holds.chests index)))
     | inl near ↦ same_beside (get_or codes index 0) _ _ (held.chests index) (rw same-codes (holds.chests index)) (ap (λ b. b.slots) (same-block index near))
   ]
 
 -- and back
-pub same-blocks : (index : ℕ) (codes : List ℕ) (chests more : ChestData) → ((q : ℕ) → slots_at chests q ≡ slots_at more q) → blocks_from index codes chests ≡ blocks_from index codes more
+pub same-blocks : (index : ℕ) (codes : List ℕ) (chests more : ChestData) → ((q : ℕ) → slots_of_chest chests q ≡ slots_of_chest more q) → blocks_from index codes chests ≡ blocks_from index codes more
 same-blocks index [] chests more same = refl
 same-blocks index (code ∷ codes) chests more same =
     let slots = same index in

@@ -8,7 +8,7 @@ use Rattle.vx_block.specs.declared.cell.Cell.TheVariants.{Air}
 use Rattle.vx_geom.specs.declared.pos.Pos.{Pos}
 use Rattle.vx_geom.specs.Sizes.{Sizes, sector_cells, index_in_sector}
 use Rattle.vx_cells.specs.declared.stack.Stack.{Stack}
-use Rattle.vx_cells.specs.Chests.{refilled, Slots, ChestData, slots_at, no_content, Changes}
+use Rattle.vx_cells.specs.Chests.{refilled, Slots, ChestData, slots_of_chest, no_content, Changes}
 use Rattle.vx_cells.specs.Codes.{code_count, cell_of}
 use Rattle.vx_cells.specs.SectorCells.{IsSlot, is_chest, placed, block_at, cell_at, chest_at, with_block, with_cell, with_content, with_slot}
 use Rattle.vx_cells.specs.Stored.{block_of, blocks_from, stored, IsBeside, IsStored}
@@ -56,10 +56,10 @@ module _ (bounds : Sizes) (sector : ℕ) (codes : List ℕ) (chests : ChestData)
   cell-stored = ap (λ b. b.cell) block-stored
 
   -- the slots in the map
-  pub chest-stored : slots_at chests index ≡ chest_at (stored bounds sector codes chests) p
+  pub chest-stored : slots_of_chest chests index ≡ chest_at (stored bounds sector codes chests) p
   chest-stored = chest_or_none _ _ (held.chests index) ∙ ap (λ b. if is_chest b.cell then Some b.slots else None) block-stored
 
-  pub chest-there : is_chest (cell_at (stored bounds sector codes chests) p) ≡ true → IsSome (slots_at chests index)
+  pub chest-there : is_chest (cell_at (stored bounds sector codes chests) p) ≡ true → IsSome (slots_of_chest chests index)
   chest-there chest = some_chest _ _ (held.chests index) (ap is_chest cell-stored ∙ chest)
 
   -- a byte is put down, and the slots that begin with it
@@ -76,7 +76,7 @@ module _ (bounds : Sizes) (sector : ℕ) (codes : List ℕ) (chests : ChestData)
         λ i. record { bounds = bounds; sector = sector; blocks = blocks i }
 
   -- a slot of the chest there is put down
-  module _ (new : ChestData) (slot : ℕ) (content : Option Stack) (change : Changes chests new index (refilled slot content (slots_at chests index))) where
+  module _ (new : ChestData) (slot : ℕ) (content : Option Stack) (change : Changes chests new index (refilled slot content (slots_of_chest chests index))) where
     kept : set codes index (get_or codes index 0) ≡ codes
     kept = set-get_or codes index 0
 
@@ -87,8 +87,8 @@ module _ (bounds : Sizes) (sector : ℕ) (codes : List ℕ) (chests : ChestData)
     pub refilled-stored : stored bounds sector codes new ≡ with_slot (stored bounds sector codes chests) p slot content
     unfolding with_block
     refilled-stored =
-        let slots = refilled_slots slot content (slots_at chests index) in
-        let block : record { cell = cell_of (get_or codes index 0); slots = unwrap_or (refilled slot content (slots_at chests index)) [] }
+        let slots = refilled_slots slot content (slots_of_chest chests index) in
+        let block : record { cell = cell_of (get_or codes index 0); slots = unwrap_or (refilled slot content (slots_of_chest chests index)) [] }
         ≡ with_content (block_at (stored bounds sector codes chests) p) slot content
         = (λ i. record { cell = cell_of (get_or codes index 0); slots = slots i }) ∙ ap (λ b. with_content b slot content) block-stored in
         let blocks = ap (λ cs. blocks_from 0 cs new) (sym kept) ∙ blocks-changed codes chests new index (get_or codes index 0) _ near change ∙ (λ i. set (blocks_from 0 codes chests) (at i) (block i)) in
@@ -96,7 +96,7 @@ module _ (bounds : Sizes) (sector : ℕ) (codes : List ℕ) (chests : ChestData)
 
 -- two sectors of one size and number with the same bytes are the same where their slots are
 pub same-stored : (bounds rest : Sizes) (sector number : ℕ) (codes others : List ℕ) (chests more : ChestData) (r : Bool) → IsStored bounds codes chests → IsStored rest others more
-    → bounds ≡ rest → sector ≡ number → codes ≡ others → Decides r ((index : ℕ) → slots_at chests index ≡ slots_at more index)
+    → bounds ≡ rest → sector ≡ number → codes ≡ others → Decides r ((index : ℕ) → slots_of_chest chests index ≡ slots_of_chest more index)
     → Decides r (stored bounds sector codes chests ≡ stored rest number others more)
 same-stored bounds rest sector number codes others chests more r held holds sizes numbers bytes decides = (
   λ e.

@@ -12,8 +12,8 @@ abbrev pub ChestData : Type 0
 ChestData = List (ℕ × Slots)
 
 -- the slots of the chest at an index, if there is one
-abbrev pub slots_at : ChestData → ℕ → Option Slots
-slots_at chests index = lookup (nat_eq index) chests
+abbrev pub slots_of_chest : ChestData → ℕ → Option Slots
+slots_of_chest chests index = lookup (nat_eq index) chests
 
 -- a chest with nothing in it
 abbrev pub no_content : Slots
@@ -21,7 +21,8 @@ no_content = replicate 27 None
 
 -- one index has other slots or none, and all the others what they had
 abbrev pub Changes : ChestData → ChestData → ℕ → Option Slots → Type 0
-Changes old new index slots = (q : ℕ) → slots_at new q ≡ update nat_eq (slots_at old) index slots q
+Changes old new index slots = (q : ℕ)
+    → slots_of_chest new q ≡ update nat_eq (slots_of_chest old) index slots q
 
 -- the slots of a chest, if there is one, with something else in one of them
 abbrev pub refilled : ℕ → Option Stack → Option Slots → Option Slots

@@ -78,8 +78,8 @@ abbrev pub lamp_at : ℕ → Lamp
 lamp_at n = if n == 0 then lamp.Off else if n == 1 then lamp.Lit else lamp.Cooling
 
 -- the cell with state of a code, kind by kind
-unfoldable pub state_of : ℕ → Cell
-state_of n = if nat_lt n 24 then cell.Dust (n - 8)
+unfoldable pub cell_with_state : ℕ → Cell
+cell_with_state n = if nat_lt n 24 then cell.Dust (n - 8)
     else if nat_lt n 34 then cell.Torch (mount_at ((n - 24) / 2)) (is_odd (n - 24))
     else if nat_lt n 46 then cell.Lever (dir_at ((n - 34) / 2)) (is_odd (n - 34))
     else if nat_lt n 126 then cell.Repeater (repeater_at (n - 46))
@@ -90,4 +90,4 @@ state_of n = if nat_lt n 24 then cell.Dust (n - 8)
 
 -- the cell of a code
 unfoldable pub cell_of : ℕ → Cell
-cell_of n = if nat_lt n 8 then plain_at n else state_of n
+cell_of n = if nat_lt n 8 then plain_at n else cell_with_state n

@@ -1,7 +1,7 @@
 -- How a sector is stored: a byte for each cell, and the slots of the chests by their indices.
 use Rattle.std.specs.Prelude.{◌≡◌, ℕ, ◌+◌, ◌<◌, true, false, List, [], ◌∷◌, length, slice_index_or, All, Option, Some, None, unwrap_or}
 use Rattle.vx_geom.specs.Sizes.{Sizes, sector_cells}
-use Rattle.vx_cells.specs.Chests.{Slots, ChestData, slots_at}
+use Rattle.vx_cells.specs.Chests.{Slots, ChestData, slots_of_chest}
 use Rattle.vx_cells.specs.Codes.{code_count, cell_of}
 use Rattle.vx_cells.specs.SectorCells.{Block, SectorCells, is_chest, IsSlot}
 
@@ -9,7 +9,7 @@ use Rattle.vx_cells.specs.SectorCells.{Block, SectorCells, is_chest, IsSlot}
 abbrev pub block_of : ℕ → ChestData → ℕ → Block
 block_of code chests index = record {
   cell = cell_of code;
-  slots = unwrap_or (slots_at chests index) [];
+  slots = unwrap_or (slots_of_chest chests index) [];
 }
 
 -- the blocks of the bytes, from an index on
@@ -36,4 +36,4 @@ IsBeside code (Some slots) =
 pub record IsStored (bounds : Sizes) (store : List ℕ) (slots : ChestData) : Type 0 where
   pub whole : length store ≡ sector_cells bounds
   pub codes : All (λ code. code < code_count) store
-  pub chests : (index : ℕ) → IsBeside (slice_index_or store index 0) (slots_at slots index)
+  pub chests : (index : ℕ) → IsBeside (slice_index_or store index 0) (slots_of_chest slots index)

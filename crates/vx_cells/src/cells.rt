@@ -1,5 +1,4 @@
-ghost use Rattle.std.specs.Prelude.{◌≡◌, ◌<◌, true, false, IfOk, OnOk, OnErr, IfSome, IsOk};
-ghost use Rattle.std.specs.Bool.{Decides};
+ghost use Rattle.std.specs.Prelude.{◌≡◌, ◌<◌, ◌↔◌, true, false, IsTrue, IfOk, OnOk, OnErr, IfSome, IsOk};
 ghost use Rattle.std.specs.List.{All};
 ghost use Rattle.vx_geom.specs.Sizes.{sector_count};
 
@@ -136,7 +135,7 @@ impl Cells {
     /// Whether both are the same sector of worlds of one size, with the same at each position,
     /// slots too.
     pub fn same(&self, other: &Cells) -> bool
-        ensures { Decides result (self.now ≡ other.now) }
+        ensures { IsTrue result ↔ (self.now ≡ other.now) }
     {
         if self.bounds != other.bounds || self.sector != other.sector {
             return false;

@@ -1,5 +1,4 @@
-ghost use Rattle.std.specs.Prelude.{◌≡◌, ◌<◌, ℕ, [], false, if◌then◌else◌, None, Some, IsSome, IsOk, IfOk, OnOk, OnErr};
-ghost use Rattle.std.specs.Bool.{Decides};
+ghost use Rattle.std.specs.Prelude.{◌≡◌, ◌<◌, ◌↔◌, ℕ, IsTrue, [], false, if◌then◌else◌, None, Some, IsSome, IsOk, IfOk, OnOk, OnErr};
 
 use crate::stack::{SLOTS, Slot};
 use std::alloc::{AllocError, Global};
@@ -21,7 +20,7 @@ impl Model for Chests {
 }
 
 impl Chests {
-    ghost use Rattle.vx_cells.specs.Chests.{slots_at, no_content, refilled, Changes};
+    ghost use Rattle.vx_cells.specs.Chests.{slots_of_chest, no_content, refilled, Changes};
 
     /// No chests. It takes no memory.
     pub fn new(alloc: Global) -> Chests
@@ -34,7 +33,7 @@ impl Chests {
 
     /// The slots of the chest at that index.
     pub fn get(&self, index: u32) -> Option<[Slot; SLOTS]>
-        ensures { result ≡ slots_at self.now index }
+        ensures { result ≡ slots_of_chest self.now index }
     {
         match self.slots.get(&index) {
             Some(slots) => Some(*slots),
@@ -63,7 +62,7 @@ impl Chests {
     /// What a cell that is put down at that index leaves there: an empty chest if it `is` one, and
     /// none otherwise. `was` says whether the cell before it was a chest.
     pub fn replace(&mut self, index: u32, was: bool, is: bool) -> Result<(), AllocError>
-        requires { was ≡ false → slots_at self.old index ≡ None }
+        requires { was ≡ false → slots_of_chest self.old index ≡ None }
         ensures ok { OnOk result
             (Changes self.old self.new index (if is then Some no_content else None)) }
         ensures err { OnErr result (self.new ≡ self.old) }
@@ -80,10 +79,10 @@ impl Chests {
 
     /// Puts something else into a slot of the chest at that index.
     pub fn set(&mut self, index: u32, slot: u8, content: Slot)
-        requires there { IsSome (slots_at self.old index) }
+        requires there { IsSome (slots_of_chest self.old index) }
         requires slot { slot < 27 }
         ensures { Changes self.old self.new index
-            (refilled slot content (slots_at self.old index)) }
+            (refilled slot content (slots_of_chest self.old index)) }
     {
         let slots = self.slots.get_mut(&index).unwrap();
         slots[slot as usize] = content;
@@ -100,8 +99,8 @@ impl Chests {
 
     /// Whether both have chests at the same indices, with the same in each slot.
     pub fn same(&self, other: &Chests) -> bool
-        ensures { Decides result
-            ((index : ℕ) → slots_at self.now index ≡ slots_at other.now index) }
+        ensures { IsTrue result
+            ↔ ((index : ℕ) → slots_of_chest self.now index ≡ slots_of_chest other.now index) }
     {
         self.slots == other.slots
     }

@@ -1,4 +1,4 @@
-/// What a slot of a chest may hold: 1 to 64 of one item. Items have numbers.
+/// What a slot of a chest may hold: 1 to 64 of one item. Items go by their numbers.
 #[derive(Clone, Copy, Debug, PartialEq, Eq)]
 pub struct Stack {
     pub item: u16,

@@ -9,7 +9,7 @@ use Rattle.vx_region.specs.Regions.{Entry}
 use Rattle.vx_decide.specs.declared.answer.Answer.{Answer}
 use Rattle.vx_decide.specs.declared.question.Question.{Question}
 use Rattle.vx_decide.specs.declared.value.Value.{Value}
-use Rattle.vx_decide.specs.Answers.{In, IsLeast, IsTaken, IsAnswer, value_for, state_of}
+use Rattle.vx_decide.specs.Answers.{In, IsLeast, IsTaken, IsAnswer, value_for, value_state}
 use Rattle.vx_decide.specs.Cases.{Case}
 use Rattle.vx_decide.specs.Effective.{region_no}
 use Rattle.vx_decide.specs.Laws.{DecidedIsAnswer, AnswersAreOne, AnswerIsDecided}
@@ -38,7 +38,7 @@ unfolding answer_at
 answer_from q a n v is = ap (option_map (λ v. record { at = region_no n; value = v })) is
 
 -- what is taken and has a value that denies is denying
-denying_from : (q : Question) (a : Case) (e : Entry) → IsTaken q a e → state_of (value_for q a e.0) ≡ Some Deny
+denying_from : (q : Question) (a : Case) (e : Entry) → IsTaken q a e → value_state (value_for q a e.0) ≡ Some Deny
     → In (is_denying q a) a.regions.entries e
 unfolding is_denying
 denying_from q a e taken says = record { among = taken.among; passes = and_from _ _ (denied (value_for q a e.0) says) taken.passes }
@@ -48,7 +48,7 @@ of_denying : (q : Question) (a : Case) (answer : Answer) → IsLeast (is_denying
     → value_for q a answer.at.0 ≡ Some answer.value → IsAnswer q a answer
 of_denying q a answer low value =
     let parts = denying_parts q a (answer.at.0, low.region) low.member.passes in
-    let deny : Some answer.value.state ≡ Some Deny = sym (ap state_of value) ∙ denies (value_for q a answer.at.0) parts.0 in
+    let deny : Some answer.value.state ≡ Some Deny = sym (ap value_state value) ∙ denies (value_for q a answer.at.0) parts.0 in
     record {
       region = low.region;
       taken = record { among = low.member.among; passes = parts.1 };
@@ -122,13 +122,13 @@ two_states Allow Allow there back = refl
 
 -- an answer denies where another does
 denies_too : (q : Question) (a : Case) (x y : Answer) → IsAnswer q a x → IsAnswer q a y → x.value.state ≡ Deny → y.value.state ≡ Deny
-denies_too q a x y is also deny = also.deny_wins (x.at.0, is.region) is.taken (ap state_of is.value ∙ ap Some deny)
+denies_too q a x y is also deny = also.deny_wins (x.at.0, is.region) is.taken (ap value_state is.value ∙ ap Some deny)
 
 pub one_answer : AnswersAreOne
 one_answer q a x y is also =
     let same = two_states x.value.state y.value.state (denies_too q a x y is also) (denies_too q a y x also is) in
-    let low = is.least (y.at.0, also.region) also.taken (ap state_of also.value ∙ ap Some (sym same)) in
-    let less = also.least (x.at.0, is.region) is.taken (ap state_of is.value ∙ ap Some same) in
+    let low = is.least (y.at.0, also.region) also.taken (ap value_state also.value ∙ ap Some (sym same)) in
+    let less = also.least (x.at.0, is.region) is.taken (ap value_state is.value ∙ ap Some same) in
     let at : x.at.0 ≡ y.at.0 = omega arith in
     let value = same_Some x.value y.value (sym is.value ∙ ap (value_for q a) at ∙ also.value) in
     λ i. record { at = record { 0 = at i }; value = value i }

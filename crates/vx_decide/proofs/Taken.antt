@@ -6,7 +6,7 @@ use Rattle.vx_flag.specs.declared.state.State.TheVariants.{Allow, Deny}
 use Rattle.vx_region.specs.Regions.{Entry}
 use Rattle.vx_decide.specs.declared.question.Question.{Question}
 use Rattle.vx_decide.specs.declared.value.Value.{Value}
-use Rattle.vx_decide.specs.Answers.{value_for, state_of}
+use Rattle.vx_decide.specs.Answers.{value_for, value_state}
 use Rattle.vx_decide.specs.Cases.{Case}
 use Rattle.vx_decide.specs.Effective.{has_value, is_deny}
 use Rattle.vx_decide.specs.Query.{flag_of_question, contains, has_say, counts, is_top, speaks, is_taken, is_denying}
@@ -58,7 +58,7 @@ pub taken_contains : (q : Question) (a : Case) (e : Entry) → is_taken q a e �
 taken_contains q a e is = (counts_parts q a e (top_parts q a e (speaks_parts q a e (taken_parts q a e is).0).0).1).0
 
 -- the test for a denial is the state
-pub denies : (o : Option Value) → is_deny o ≡ true → state_of o ≡ Some Deny
+pub denies : (o : Option Value) → is_deny o ≡ true → value_state o ≡ Some Deny
 denies None is = cc
 denies (Some v) is = by v.state is
   where
@@ -66,7 +66,7 @@ denies (Some v) is = by v.state is
     by Deny so = refl
     by Allow so = cc
 
-pub denied : (o : Option Value) → state_of o ≡ Some Deny → is_deny o ≡ true
+pub denied : (o : Option Value) → value_state o ≡ Some Deny → is_deny o ≡ true
 denied None is = cc
 denied (Some v) is = by v.state is
   where

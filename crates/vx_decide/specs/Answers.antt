@@ -34,8 +34,8 @@ abbrev pub value_for : Question → Case → ℕ → Option Value
 value_for q a n = effective a.regions a.actor (flag_of_question q) n
 
 -- a state where there is a value
-abbrev pub state_of : Option Value → Option State
-state_of = option_map (λ v. v.state)
+abbrev pub value_state : Option Value → Option State
+value_state = option_map (λ v. v.state)
 
 -- the region is taken: its value decides on the question
 abbrev pub IsTaken : Question → Case → Entry → Type 0
@@ -67,10 +67,10 @@ pub record IsAnswer (q : Question) (a : Case) (answer : Answer) : Type 0 where
   pub region : RegionData
   pub taken : IsTaken q a (answer.at.0, region)
   pub value : value_for q a answer.at.0 ≡ Some answer.value
-  pub deny_wins : (e : Entry) → IsTaken q a e → state_of (value_for q a e.0) ≡ Some Deny
+  pub deny_wins : (e : Entry) → IsTaken q a e → value_state (value_for q a e.0) ≡ Some Deny
       → answer.value.state ≡ Deny
   pub least : (e : Entry) → IsTaken q a e
-      → state_of (value_for q a e.0) ≡ Some answer.value.state → answer.at.0 ≤ e.0
+      → value_state (value_for q a e.0) ≡ Some answer.value.state → answer.at.0 ≤ e.0
 
 -- the value of a flag is set by the nearest region of the ancestry that sets it for those who are
 -- to the region at which the question began what the actor is

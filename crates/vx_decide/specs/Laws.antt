@@ -18,7 +18,7 @@ use Rattle.vx_decide.specs.declared.rule.Rule.{Rule}
 use Rattle.vx_decide.specs.declared.rule.Rule.TheVariants as rule
 use Rattle.vx_decide.specs.declared.value.Value.{Value}
 use Rattle.vx_decide.specs.declared.verdict.Verdict.TheVariants as verdicts
-use Rattle.vx_decide.specs.Answers.{In, IsAnswer, IsInherited, MemberDenies, MemberPermits, IsTaken, Counts, SpeaksLowest, IsAtPlace, value_for, state_of}
+use Rattle.vx_decide.specs.Answers.{In, IsAnswer, IsInherited, MemberDenies, MemberPermits, IsTaken, Counts, SpeaksLowest, IsAtPlace, value_for, value_state}
 use Rattle.vx_decide.specs.Cases.{Case, case_at}
 use Rattle.vx_decide.specs.Build.{member_at, ruled, by_membership}
 use Rattle.vx_decide.specs.Effective.{value_at, effective, has_value}
@@ -51,7 +51,7 @@ SpeaksLowestIsTaken = (q : Question) (a : Case) (e : Entry) → SpeaksLowest q a
 -- where a region that is taken denies, the answer denies
 abbrev pub OneDenialDenies : Type 0
 OneDenialDenies = (q : Question) (a : Case) (e : Entry)
-    → IsTaken q a e → state_of (value_for q a e.0) ≡ Some Deny
+    → IsTaken q a e → value_state (value_for q a e.0) ≡ Some Deny
     → (answer : Answer) × (decided q a ≡ Some answer) × (answer.value.state ≡ Deny)
 
 -- the region that decides contains the place

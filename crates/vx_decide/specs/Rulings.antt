@@ -10,7 +10,7 @@ use Rattle.vx_decide.specs.declared.question.Question.{Question}
 use Rattle.vx_decide.specs.declared.question.Question.TheVariants.{OnFlag, OnBuilding}
 use Rattle.vx_decide.specs.declared.rule.Rule.{Rule}
 use Rattle.vx_decide.specs.declared.rule.Rule.TheVariants as rule
-use Rattle.vx_decide.specs.Answers.{IsTaken, Counts, IsAnswer, MemberDenies, MemberPermits, state_of}
+use Rattle.vx_decide.specs.Answers.{IsTaken, Counts, IsAnswer, MemberDenies, MemberPermits, value_state}
 use Rattle.vx_decide.specs.Cases.{Case}
 use Rattle.vx_decide.specs.Effective.{effective}
 
@@ -28,7 +28,7 @@ IsUnsetAtLarge f a = effective a.regions a.actor f 0 ≡ None
 
 -- the world at large does not let pass
 abbrev pub IsClosedAtLarge : Case → Type 0
-IsClosedAtLarge a = state_of (effective a.regions a.actor Passthrough 0) ≡ Some Deny
+IsClosedAtLarge a = value_state (effective a.regions a.actor Passthrough 0) ≡ Some Deny
 
 -- the answer is that of the world at large
 pub record IsWorldAnswer (f : Flag) (a : Case) (answer : Answer) : Type 0 where

@@ -15,7 +15,7 @@ use vx_region::{Region, RegionNo};
 
 impl Inquiry<'_> {
     /// What the policy answers on a flag at the place: the regions there, and where none of them
-    /// has a value the world at large. None where that has none either.
+    /// has a value the world at large; `None` where that has no value either.
     #[tactic(auto, unfolding(crate::specs::Query::query))]
     pub fn query(&self, flag: Flag) -> Option<Answer>
         ensures { result ≡ query flag (case_of self.now) }

@@ -1,5 +1,4 @@
-ghost use Rattle.std.specs.Prelude.{◌≡◌, true, false, IfOk, OnOk, OnErr};
-ghost use Rattle.std.specs.Bool.{Decides};
+ghost use Rattle.std.specs.Prelude.{◌≡◌, ◌↔◌, true, false, IsTrue, IfOk, OnOk, OnErr};
 ghost use Rattle.vx_geom.specs.Outline.{Cuboid, Polygon, is_in, is_polygon, in_cuboid, in_columns, is_amid, lower, higher};
 ghost use Rattle.vx_geom.specs.SameOutline.{same_outline, same_corners, same_corner, same_points, same_ends};
 
@@ -98,7 +97,7 @@ impl Shape {
     /// order and the same heights.
     pub fn same(&self, other: &Shape) -> bool
         ensures value { result ≡ same_outline self.now other.now }
-        ensures decides { Decides result (self.now ≡ other.now) }
+        ensures decides { IsTrue result ↔ (self.now ≡ other.now) }
     {
         self.kind.same(&other.kind)
     }

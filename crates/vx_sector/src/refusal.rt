@@ -31,7 +31,7 @@ pub enum Refusal {
     NoSlot,
     /// The slot holds another item.
     OtherItem,
-    /// None were to be put or taken, more than a slot takes, or more than it holds.
+    /// The count is 0, or greater than what the slot still takes or what it holds.
     BadCount,
     /// There is no memory for the record; nothing was done and nothing recorded.
     NoMemory,

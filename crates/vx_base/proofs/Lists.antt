@@ -1,6 +1,6 @@
 -- The steps of a loop over an index into a list, whose invariant speaks of what is left, `drop i xs`.
--- The item of the turn is given by `slice_get xs i ≡ Some x`, as the getters of the crates above say it. With the invariant
--- `list_any p (drop l.i xs) ≡ list_any p xs` a return of true is `sym (any_here ..) ∙ invariant`, the next turn
+-- The item of the step is given by `slice_get xs i ≡ Some x`, as the getters of the crates above say it. With the invariant
+-- `list_any p (drop l.i xs) ≡ list_any p xs` a return of true is `sym (any_here ..) ∙ invariant`, the next step
 -- `sym (any_next ..) ∙ invariant`, and the end `sym (any_end ..) ∙ invariant`; the same for `find`.
 use Rattle.std.proofs.Common.{◌≡◌, ℕ, zero, suc, ◌+◌, ◌≤◌, Bool, true, false, ◌||◌, cond, List, [], ◌∷◌, ◌++◌, length, drop, None, Some, refl, sym, ap, ◌∙◌, inl, inr, add-one}
 use Rattle.std.specs.List.{slice_get, list_any, find}

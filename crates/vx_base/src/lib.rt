@@ -1,4 +1,5 @@
-//! What every crate stands on: why nothing was read, and lemmas on lists, known bytes and signed numbers.
+//! What every crate stands on: why nothing was read, and lemmas on lists, known bytes and signed
+//! numbers.
 #![tactic(auto)]
 
 mod unread;

@@ -1,5 +1,5 @@
-use Rattle.std.specs.Prelude.{ℕ, ◌<◌, List, [], ◌∷◌}
-use Rattle.vx_block.specs.Cut.{joined}
+use Rattle.std.specs.Prelude.{ℕ, ◌≡◌, ◌<◌, List, [], ◌∷◌, ◌++◌}
+use Rattle.vx_block.specs.Cut.{colon, joined}
 use Rattle.vx_block.specs.Kind.{kind_word}
 use Rattle.vx_block.specs.States.{mount_dir, dir_word, small_word, on_word, out_word, grip_word, lamp_words}
 use Rattle.vx_block.specs.Repeating.{IsRepeating, repeater_words}
@@ -48,3 +48,7 @@ abbrev pub IsCell : Cell → Type 0
 IsCell (Dust level) = level < 16
 IsCell (Repeater r) = IsRepeating r
 IsCell _ = Unit {0}
+
+-- it is a cell, and its text is a word, a colon and the text of a state
+abbrev pub IsSpelled : List ℕ → List ℕ → Cell → Type 0
+IsSpelled word state c = IsCell c × (cell_text c ≡ word ++ colon ∷ state)

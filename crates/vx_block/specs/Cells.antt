@@ -12,7 +12,8 @@ use Rattle.vx_block.specs.declared.cell.Cell.TheVariants.{Air, Stone, Dirt, Plan
 
 -- the cells of no facing
 abbrev pub unfaced : List Cell
-unfaced = Air ∷ Stone ∷ Dirt ∷ Planks ∷ Glass ∷ Obsidian ∷ Bedrock ∷ Chest ∷ Lamp lamp.Off ∷ Lamp lamp.Lit ∷ Lamp lamp.Cooling
+unfaced = Air ∷ Stone ∷ Dirt ∷ Planks ∷ Glass ∷ Obsidian ∷ Bedrock ∷ Chest
+    ∷ Lamp lamp.Off ∷ Lamp lamp.Lit ∷ Lamp lamp.Cooling
     ∷ map Dust (0 ∷ 1 ∷ 2 ∷ 3 ∷ 4 ∷ 5 ∷ 6 ∷ 7 ∷ 8 ∷ 9 ∷ 10 ∷ 11 ∷ 12 ∷ 13 ∷ 14 ∷ 15 ∷ [])
 
 -- the cells that face any of the six directions
@@ -33,7 +34,8 @@ waits delay.Four = 0 ∷ 1 ∷ 2 ∷ 3 ∷ []
 
 -- the repeaters of a delay with their front on a side
 abbrev pub repeaters_of : Side → Delay → List Cell
-repeaters_of s d = map (λ w. Repeater (record { facing = s; delay = d; on = false; wait = w })) (waits d)
+repeaters_of s d =
+    map (λ w. Repeater (record { facing = s; delay = d; on = false; wait = w })) (waits d)
     ++ map (λ w. Repeater (record { facing = s; delay = d; on = true; wait = w })) (waits d)
 
 -- every delay

@@ -28,7 +28,8 @@ part_cell Chest = cell.Chest
 part_cell Dust = cell.Dust 0
 part_cell (Torch facing) = cell.Torch facing true
 part_cell (Lever facing) = cell.Lever facing false
-part_cell (Repeater facing delay) = cell.Repeater (record { facing = facing; delay = delay; on = false; wait = 0 })
+part_cell (Repeater facing delay) =
+    cell.Repeater (record { facing = facing; delay = delay; on = false; wait = 0 })
 part_cell Lamp = cell.Lamp lamp.Off
 part_cell (Piston facing sticky) = cell.Piston facing sticky false
 
@@ -56,11 +57,14 @@ dirs = dir.East ∷ dir.West ∷ dir.Up ∷ dir.Down ∷ dir.South ∷ dir.North
 
 -- the repeaters that can be placed with their front on a side
 abbrev pub repeaters : Side → List Part
-repeaters s = Repeater s delay.One ∷ Repeater s delay.Two ∷ Repeater s delay.Three ∷ Repeater s delay.Four ∷ []
+repeaters s =
+    Repeater s delay.One ∷ Repeater s delay.Two
+    ∷ Repeater s delay.Three ∷ Repeater s delay.Four ∷ []
 
 -- every part
 abbrev pub parts : List Part
-parts = Stone ∷ Dirt ∷ Planks ∷ Glass ∷ Obsidian ∷ Bedrock ∷ Chest ∷ Dust ∷ Lamp ∷ map Torch mounts ++ map Lever dirs
+parts = Stone ∷ Dirt ∷ Planks ∷ Glass ∷ Obsidian ∷ Bedrock ∷ Chest ∷ Dust ∷ Lamp
+    ∷ map Torch mounts ++ map Lever dirs
     ++ map (λ f. Piston f false) dirs ++ map (λ f. Piston f true) dirs
     ++ repeaters side.East ++ repeaters side.West ++ repeaters side.South ++ repeaters side.North
 

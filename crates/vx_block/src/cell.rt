@@ -1,5 +1,5 @@
 ghost use Rattle.std.specs.Prelude.{◌≡◌, Bool, if◌then◌else◌, [], ◌∷◌, ◌++◌, codes, IfSome, Some};
-ghost use Rattle.vx_block.specs.Cell.{kind_of, cell_state, cell_text, IsCell};
+ghost use Rattle.vx_block.specs.Cell.{kind_of, cell_state, cell_text, IsCell, IsSpelled};
 ghost use Rattle.vx_block.specs.Cut.{colon, tail_of};
 ghost use Rattle.vx_block.specs.Kind.{kind_word};
 ghost use Rattle.vx_block.specs.States.{mount_dir, dir_word, on_word, out_word, grip_word};
@@ -18,7 +18,8 @@ use arrayvec::ArrayString;
 use std::fmt;
 use vx_geom::Dir;
 
-/// What stands at one position of the world, with its state. There are 165 cells. The slots of a chest stand beside it.
+/// What stands at one position of the world, with its state. There are 165 cells. The slots of a
+/// chest stand beside it.
 #[derive(Clone, Copy, Debug, PartialEq, Eq, Hash)]
 pub enum Cell {
     Air,
@@ -146,8 +147,9 @@ fn read_plain(kind: Kind) -> Option<Cell>
 
 // The cell of this kind whose state has this text.
 fn read_state(kind: Kind, state: &str) -> Option<Cell>
-    ensures found { IfSome result (λ c. IsCell c × (cell_text c ≡ kind_word kind ++ colon ∷ state.now)) }
-    ensures only { (c : Cell) → IsCell c → kind_of c ≡ kind → tail_of (cell_text c) ≡ Some state.now → result ≡ Some c }
+    ensures found { IfSome result (IsSpelled (kind_word kind) state.now) }
+    ensures only { (c : Cell) → IsCell c → kind_of c ≡ kind
+        → tail_of (cell_text c) ≡ Some state.now → result ≡ Some c }
 {
     match kind {
         Kind::Dust => Some(Cell::Dust(Level::read(state)?)),
@@ -164,8 +166,9 @@ fn read_state(kind: Kind, state: &str) -> Option<Cell>
 
 // The torch whose state has this text.
 fn read_torch(state: &str) -> Option<Cell>
-    ensures found { IfSome result (λ c. IsCell c × (cell_text c ≡ codes "torch" ++ colon ∷ state.now)) }
-    ensures only { (facing : Mount) → (lit : Bool) → dir_word (mount_dir facing) ++ colon ∷ on_word lit ≡ state.now
+    ensures found { IfSome result (IsSpelled (codes "torch") state.now) }
+    ensures only { (facing : Mount) → (lit : Bool)
+        → dir_word (mount_dir facing) ++ colon ∷ on_word lit ≡ state.now
         → result ≡ Some (Cell.Torch facing lit) }
 {
     let (facing, lit) = cut(state);
@@ -177,8 +180,10 @@ fn read_torch(state: &str) -> Option<Cell>
 
 // The lever whose state has this text.
 fn read_lever(state: &str) -> Option<Cell>
-    ensures found { IfSome result (λ c. IsCell c × (cell_text c ≡ codes "lever" ++ colon ∷ state.now)) }
-    ensures only { (facing : Dir) → (on : Bool) → dir_word facing ++ colon ∷ on_word on ≡ state.now → result ≡ Some (Cell.Lever facing on) }
+    ensures found { IfSome result (IsSpelled (codes "lever") state.now) }
+    ensures only { (facing : Dir) → (on : Bool)
+        → dir_word facing ++ colon ∷ on_word on ≡ state.now
+        → result ≡ Some (Cell.Lever facing on) }
 {
     let (facing, on) = cut(state);
     Some(Cell::Lever {
@@ -189,8 +194,10 @@ fn read_lever(state: &str) -> Option<Cell>
 
 // The piston, sticky or plain, whose state has this text.
 fn read_piston(state: &str, sticky: bool) -> Option<Cell>
-    ensures found { IfSome result (λ c. IsCell c × (cell_text c ≡ (if sticky then codes "sticky" else codes "piston") ++ colon ∷ state.now)) }
-    ensures only { (facing : Dir) → (extended : Bool) → dir_word facing ++ colon ∷ out_word extended ≡ state.now
+    ensures found { IfSome result
+        (IsSpelled (if sticky then codes "sticky" else codes "piston") state.now) }
+    ensures only { (facing : Dir) → (extended : Bool)
+        → dir_word facing ++ colon ∷ out_word extended ≡ state.now
         → result ≡ Some (Cell.Piston facing sticky extended) }
 {
     let (facing, extended) = cut(state);
@@ -203,8 +210,10 @@ fn read_piston(state: &str, sticky: bool) -> Option<Cell>
 
 // The head whose state has this text.
 fn read_head(state: &str) -> Option<Cell>
-    ensures found { IfSome result (λ c. IsCell c × (cell_text c ≡ codes "head" ++ colon ∷ state.now)) }
-    ensures only { (facing : Dir) → (sticky : Bool) → dir_word facing ++ colon ∷ grip_word sticky ≡ state.now → result ≡ Some (Cell.Head facing sticky) }
+    ensures found { IfSome result (IsSpelled (codes "head") state.now) }
+    ensures only { (facing : Dir) → (sticky : Bool)
+        → dir_word facing ++ colon ∷ grip_word sticky ≡ state.now
+        → result ≡ Some (Cell.Head facing sticky) }
 {
     let (facing, sticky) = cut(state);
     Some(Cell::Head {
@@ -218,252 +227,5 @@ impl fmt::Display for Cell {
 
     fn fmt<W: fmt::Write>(&self, f: &mut fmt::Formatter<W>) -> fmt::Result {
         f.pad(&self.text())
-    }
-}
-
-#[cfg(test)]
-mod tests {
-    use super::*;
-    use crate::delay::Delay;
-    use crate::side::Side;
-    use std::process::Abort;
-    use std::test::Fail;
-
-    const DIRS: [Dir; 6] = [
-        Dir::East,
-        Dir::West,
-        Dir::Up,
-        Dir::Down,
-        Dir::South,
-        Dir::North,
-    ];
-
-    const SIDES: [Side; 4] = [Side::East, Side::West, Side::South, Side::North];
-
-    const DELAYS: [Delay; 4] = [Delay::One, Delay::Two, Delay::Three, Delay::Four];
-
-    fn check(rt: &impl Abort, cell: &Cell, kind: Kind, text: &str) {
-        assert_eq!(rt; cell.kind(), kind, "{text}");
-        assert_eq!(rt; cell.text().as_str(), text);
-        assert_eq!(rt; Cell::read(text), Some(*cell), "{text}");
-    }
-
-    #[test]
-    fn each_plain_cell_has_its_text(rt: HostRuntime) -> Result<(), Fail> {
-        for (cell, kind, text) in [
-            (Cell::Air, Kind::Air, "air"),
-            (Cell::Stone, Kind::Stone, "stone"),
-            (Cell::Dirt, Kind::Dirt, "dirt"),
-            (Cell::Planks, Kind::Planks, "planks"),
-            (Cell::Glass, Kind::Glass, "glass"),
-            (Cell::Obsidian, Kind::Obsidian, "obsidian"),
-            (Cell::Bedrock, Kind::Bedrock, "bedrock"),
-            (Cell::Chest, Kind::Chest, "chest"),
-        ] {
-            check(&rt, &cell, kind, text);
-        }
-        let line = format!(in rt.alloc(); "seen {}", Cell::Dust(Level::new(9)))?;
-        assert_eq!(rt; line.as_str(), "seen dust:9");
-        Ok(())
-    }
-
-    #[test]
-    fn each_cell_of_a_circuit_has_its_text(rt: HostRuntime) {
-        for (level, text) in [
-            (0, "dust:0"),
-            (9, "dust:9"),
-            (10, "dust:10"),
-            (15, "dust:15"),
-        ] {
-            check(&rt, &Cell::Dust(Level::new(level)), Kind::Dust, text);
-        }
-        for (facing, lit, text) in [
-            (Mount::Floor, true, "torch:down:on"),
-            (Mount::Wall(Side::West), false, "torch:west:off"),
-        ] {
-            check(&rt, &Cell::Torch { facing, lit }, Kind::Torch, text);
-        }
-        for (facing, on, text) in [
-            (Dir::Up, true, "lever:up:on"),
-            (Dir::South, false, "lever:south:off"),
-        ] {
-            check(&rt, &Cell::Lever { facing, on }, Kind::Lever, text);
-        }
-        for (repeater, text) in [
-            (
-                Repeater::new(Side::East, Delay::One, false, 0),
-                "repeater:east:1:off:0",
-            ),
-            (
-                Repeater::new(Side::North, Delay::Four, true, 3),
-                "repeater:north:4:on:3",
-            ),
-            (
-                Repeater::new(Side::West, Delay::Two, false, 1),
-                "repeater:west:2:off:1",
-            ),
-        ] {
-            check(&rt, &Cell::Repeater(repeater), Kind::Repeater, text);
-        }
-        for (lamp, text) in [
-            (Lamp::Off, "lamp:off:0"),
-            (Lamp::Lit, "lamp:on:0"),
-            (Lamp::Cooling, "lamp:on:1"),
-        ] {
-            check(&rt, &Cell::Lamp(lamp), Kind::Lamp, text);
-        }
-    }
-
-    #[test]
-    fn each_piston_and_head_has_its_text(rt: HostRuntime) {
-        for (facing, extended, text) in [
-            (Dir::Up, false, "piston:up:in"),
-            (Dir::East, true, "piston:east:out"),
-        ] {
-            let cell = Cell::Piston {
-                facing,
-                sticky: false,
-                extended,
-            };
-            check(&rt, &cell, Kind::Piston, text);
-        }
-        for (facing, extended, text) in [
-            (Dir::Down, false, "sticky:down:in"),
-            (Dir::North, true, "sticky:north:out"),
-        ] {
-            let cell = Cell::Piston {
-                facing,
-                sticky: true,
-                extended,
-            };
-            check(&rt, &cell, Kind::StickyPiston, text);
-        }
-        for (facing, sticky, text) in [
-            (Dir::East, false, "head:east:plain"),
-            (Dir::Down, true, "head:down:sticky"),
-        ] {
-            check(&rt, &Cell::Head { facing, sticky }, Kind::Head, text);
-        }
-    }
-
-    #[test]
-    fn no_other_text_is_read(rt: HostRuntime) {
-        for text in [
-            "",
-            "Stone",
-            "STONE",
-            "stone ",
-            " stone",
-            "stone\u{0}",
-            "stone:",
-            "stone:on",
-            "air:0",
-            "dust",
-            "dust:",
-            "dust:05",
-            "dust:00",
-            "dust:16",
-            "dust:-1",
-            "dust:1 ",
-            "dust:+1",
-            "dust:1:0",
-            "torch:up:on",
-            "torch:down",
-            "torch:down:lit",
-            "lever:on",
-            "repeater:up:1:on:0",
-            "repeater:east:0:on:0",
-            "repeater:east:5:on:0",
-            "repeater:east:1:on:1",
-            "repeater:east:04:on:0",
-            "repeater:east:4:on:03",
-            "repeater:east:4:on",
-            "lamp",
-            "lamp:off:1",
-            "lamp:on:2",
-            "lamp:on",
-            "piston:east",
-            "piston:east:on",
-            "sticky:east:sticky",
-            "head:east",
-            "head:east:in",
-        ] {
-            assert_eq!(rt; Cell::read(text), None, "{text}");
-        }
-    }
-
-    fn plain_cells(cells: &mut Vec<Cell>) -> Result<(), Fail> {
-        for cell in [
-            Cell::Air,
-            Cell::Stone,
-            Cell::Dirt,
-            Cell::Planks,
-            Cell::Glass,
-            Cell::Obsidian,
-            Cell::Bedrock,
-            Cell::Chest,
-            Cell::Lamp(Lamp::Off),
-            Cell::Lamp(Lamp::Lit),
-            Cell::Lamp(Lamp::Cooling),
-        ] {
-            cells.push(cell)?;
-        }
-        for level in 0..16 {
-            cells.push(Cell::Dust(Level::new(level)))?;
-        }
-        Ok(())
-    }
-
-    fn faced_cells(cells: &mut Vec<Cell>, facing: Dir) -> Result<(), Fail> {
-        for on in [false, true] {
-            cells.push(Cell::Lever { facing, on })?;
-            cells.push(Cell::Head { facing, sticky: on })?;
-            for sticky in [false, true] {
-                cells.push(Cell::Piston {
-                    facing,
-                    sticky,
-                    extended: on,
-                })?;
-            }
-        }
-        Ok(())
-    }
-
-    fn torches(cells: &mut Vec<Cell>, facing: Mount) -> Result<(), Fail> {
-        for lit in [false, true] {
-            cells.push(Cell::Torch { facing, lit })?;
-        }
-        Ok(())
-    }
-
-    fn repeaters(cells: &mut Vec<Cell>, facing: Side, delay: Delay) -> Result<(), Fail> {
-        for on in [false, true] {
-            for wait in 0..delay.ticks() {
-                let repeater = Repeater::new(facing, delay, on, wait);
-                cells.push(Cell::Repeater(repeater))?;
-            }
-        }
-        Ok(())
-    }
-
-    #[test]
-    fn each_of_165_cells_is_read_back(rt: HostRuntime) -> Result<(), Fail> {
-        let mut cells = Vec::new(rt.alloc());
-        plain_cells(&mut cells)?;
-        for facing in DIRS {
-            faced_cells(&mut cells, facing)?;
-        }
-        torches(&mut cells, Mount::Floor)?;
-        for side in SIDES {
-            torches(&mut cells, Mount::Wall(side))?;
-            for delay in DELAYS {
-                repeaters(&mut cells, side, delay)?;
-            }
-        }
-        assert_eq!(rt; cells.len(), 165);
-        for cell in &cells {
-            assert_eq!(rt; Cell::read(&cell.text()), Some(*cell), "{cell}");
-        }
-        Ok(())
     }
 }

@@ -1,7 +1,8 @@
 ghost use Rattle.std.specs.Prelude.{◌≡◌, ◌≤◌, length, IfSome, Some};
 ghost use Rattle.vx_block.specs.Kind.{kind_word};
 
-/// What a cell is, whatever its state. Each kind has one word, with which the texts of its cells and parts begin.
+/// What a cell is, whatever its state. Each kind has one word, with which the texts of its cells
+/// and parts begin.
 #[derive(Clone, Copy, Debug, PartialEq, Eq, Hash)]
 pub enum Kind {
     Air,
@@ -72,36 +73,5 @@ impl Kind {
             "head" => Some(Kind::Head),
             _ => None,
         }
-    }
-}
-
-#[cfg(test)]
-mod tests {
-    use super::*;
-
-    #[test]
-    fn each_kind_has_its_word(rt: HostRuntime) {
-        for (kind, word) in [
-            (Kind::Air, "air"),
-            (Kind::Stone, "stone"),
-            (Kind::Dirt, "dirt"),
-            (Kind::Planks, "planks"),
-            (Kind::Glass, "glass"),
-            (Kind::Obsidian, "obsidian"),
-            (Kind::Bedrock, "bedrock"),
-            (Kind::Chest, "chest"),
-            (Kind::Dust, "dust"),
-            (Kind::Torch, "torch"),
-            (Kind::Lever, "lever"),
-            (Kind::Repeater, "repeater"),
-            (Kind::Lamp, "lamp"),
-            (Kind::Piston, "piston"),
-            (Kind::StickyPiston, "sticky"),
-            (Kind::Head, "head"),
-        ] {
-            assert_eq!(rt; kind.word(), word);
-            assert_eq!(rt; Kind::read(word), Some(kind), "{word}");
-        }
-        assert_eq!(rt; Kind::read("Stone"), None);
     }
 }

@@ -55,15 +55,3 @@ impl Level {
         small_word(self.value)
     }
 }
-
-#[cfg(test)]
-mod tests {
-    use super::*;
-
-    #[test]
-    fn a_level_tells_its_number(rt: HostRuntime) {
-        for number in [0, 7, 15] {
-            assert_eq!(rt; Level::new(number).value(), number);
-        }
-    }
-}

@@ -139,7 +139,8 @@ fn read_plain(kind: Kind) -> Option<Part>
 // The part of this kind that is placed as this text tells.
 fn read_placed(kind: Kind, placing: &str) -> Option<Part>
     ensures found { IfSome result (λ p. part_text p ≡ kind_word kind ++ colon ∷ placing.now) }
-    ensures only { (p : Part) → kind_of (part_cell p) ≡ kind → tail_of (part_text p) ≡ Some placing.now → result ≡ Some p }
+    ensures only { (p : Part) → kind_of (part_cell p) ≡ kind
+        → tail_of (part_text p) ≡ Some placing.now → result ≡ Some p }
 {
     match kind {
         Kind::Torch => Some(Part::Torch(Mount::read(placing)?)),
@@ -160,162 +161,10 @@ fn read_placed(kind: Kind, placing: &str) -> Option<Part>
 // The repeater that is placed as this text tells.
 fn read_repeater(placing: &str) -> Option<Part>
     ensures found { IfSome result (λ p. part_text p ≡ codes "repeater" ++ colon ∷ placing.now) }
-    ensures only { (facing : Side) → (delay : Delay) → dir_word (side_dir facing) ++ colon ∷ small_word (ticks_of delay) ≡ placing.now
+    ensures only { (facing : Side) → (delay : Delay)
+        → dir_word (side_dir facing) ++ colon ∷ small_word (ticks_of delay) ≡ placing.now
         → result ≡ Some (Part.Repeater facing delay) }
 {
     let (facing, delay) = cut(placing);
     Some(Part::Repeater(Side::read(facing)?, Delay::read(delay?)?))
-}
-
-#[cfg(test)]
-mod tests {
-    use super::*;
-    use std::process::Abort;
-    use std::test::Fail;
-
-    fn check(rt: &impl Abort, part: Part, cell: Cell, text: &str) {
-        assert_eq!(rt; part.cell(), cell, "{text}");
-        assert_eq!(rt; part.text().as_str(), text);
-        assert_eq!(rt; Part::read(text), Some(part), "{text}");
-    }
-
-    #[test]
-    fn each_plain_part_has_its_text(rt: HostRuntime) {
-        for (part, cell, text) in [
-            (Part::Stone, Cell::Stone, "stone"),
-            (Part::Dirt, Cell::Dirt, "dirt"),
-            (Part::Planks, Cell::Planks, "planks"),
-            (Part::Glass, Cell::Glass, "glass"),
-            (Part::Obsidian, Cell::Obsidian, "obsidian"),
-            (Part::Bedrock, Cell::Bedrock, "bedrock"),
-            (Part::Chest, Cell::Chest, "chest"),
-            (Part::Dust, Cell::Dust(Level::new(0)), "dust"),
-            (Part::Lamp, Cell::Lamp(Lamp::Off), "lamp"),
-        ] {
-            check(&rt, part, cell, text);
-        }
-    }
-
-    #[test]
-    fn each_placed_part_has_its_text(rt: HostRuntime) {
-        for (facing, text) in [
-            (Mount::Floor, "torch:down"),
-            (Mount::Wall(Side::East), "torch:east"),
-        ] {
-            check(
-                &rt,
-                Part::Torch(facing),
-                Cell::Torch { facing, lit: true },
-                text,
-            );
-        }
-        let lever = Cell::Lever {
-            facing: Dir::Up,
-            on: false,
-        };
-        check(&rt, Part::Lever(Dir::Up), lever, "lever:up");
-        let repeater = Repeater::new(Side::East, Delay::Four, false, 0);
-        let part = Part::Repeater(Side::East, Delay::Four);
-        check(&rt, part, Cell::Repeater(repeater), "repeater:east:4");
-        for (facing, sticky, text) in [
-            (Dir::West, false, "piston:west"),
-            (Dir::Down, true, "sticky:down"),
-        ] {
-            let cell = Cell::Piston {
-                facing,
-                sticky,
-                extended: false,
-            };
-            check(&rt, Part::Piston { facing, sticky }, cell, text);
-        }
-    }
-
-    #[test]
-    fn no_other_text_is_read(rt: HostRuntime) {
-        for text in [
-            "air",
-            "",
-            "Stone",
-            "stone ",
-            " stone",
-            "stone:",
-            "stone:on",
-            "dust:0",
-            "torch:up",
-            "torch",
-            "lever",
-            "repeater:east",
-            "repeater:east:5",
-            "repeater:up:1",
-            "repeater:east:04",
-            "lamp:off:0",
-            "piston",
-            "piston:east:in",
-            "head:east:plain",
-            "head",
-            "sticky:east:in",
-            "chest ",
-            "Chest",
-        ] {
-            assert_eq!(rt; Part::read(text), None, "{text}");
-        }
-    }
-
-    fn plain_parts(parts: &mut Vec<Part>) -> Result<(), Fail> {
-        for part in [
-            Part::Stone,
-            Part::Dirt,
-            Part::Planks,
-            Part::Glass,
-            Part::Obsidian,
-            Part::Bedrock,
-            Part::Chest,
-            Part::Dust,
-            Part::Lamp,
-            Part::Torch(Mount::Floor),
-        ] {
-            parts.push(part)?;
-        }
-        Ok(())
-    }
-
-    fn parts_of_a_side(parts: &mut Vec<Part>, side: Side) -> Result<(), Fail> {
-        parts.push(Part::Torch(Mount::Wall(side)))?;
-        for delay in [Delay::One, Delay::Two, Delay::Three, Delay::Four] {
-            parts.push(Part::Repeater(side, delay))?;
-        }
-        Ok(())
-    }
-
-    fn faced_parts(parts: &mut Vec<Part>, facing: Dir) -> Result<(), Fail> {
-        parts.push(Part::Lever(facing))?;
-        for sticky in [false, true] {
-            parts.push(Part::Piston { facing, sticky })?;
-        }
-        Ok(())
-    }
-
-    #[test]
-    fn each_of_48_parts_is_read_back(rt: HostRuntime) -> Result<(), Fail> {
-        let mut parts = Vec::new(rt.alloc());
-        plain_parts(&mut parts)?;
-        for side in [Side::East, Side::West, Side::South, Side::North] {
-            parts_of_a_side(&mut parts, side)?;
-        }
-        for facing in [
-            Dir::East,
-            Dir::West,
-            Dir::Up,
-            Dir::Down,
-            Dir::South,
-            Dir::North,
-        ] {
-            faced_parts(&mut parts, facing)?;
-        }
-        assert_eq!(rt; parts.len(), 48);
-        for part in &parts {
-            assert_eq!(rt; Part::read(&part.text()), Some(*part));
-        }
-        Ok(())
-    }
 }

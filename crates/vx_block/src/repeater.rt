@@ -11,7 +11,8 @@ use crate::words::{dir_word, on_word, read_on, read_small, small_word};
 use arrayvec::ArrayString;
 use std::marker::Model;
 
-/// A repeater: the side of its front, its delay, whether it is on, and how many ticks are left of a count, fewer than its delay.
+/// A repeater: the side of its front, its delay, whether it is on, and how many ticks are left of a
+/// count, fewer than its delay.
 #[derive(Clone, Copy, Debug, PartialEq, Eq, Hash)]
 pub struct Repeater {
     facing: Side,
@@ -31,7 +32,8 @@ impl Model for Repeater {
 
     ghost invariant = { λ a. a.wait < ticks_of a.delay };
 
-    ghost inverse = { λ r. record { facing = r.facing; delay = r.delay; on = r.on; wait = r.wait } };
+    ghost inverse = { λ r.
+        record { facing = r.facing; delay = r.delay; on = r.on; wait = r.wait } };
 }
 
 impl Repeater {
@@ -79,8 +81,10 @@ impl Repeater {
 
     /// The repeater whose words, joined by colons, are this text.
     pub(crate) fn read(text: &str) -> Option<Repeater>
-        ensures found { IfSome result (λ r. IsRepeating r × (all_joined (repeater_words r) ≡ text.now)) }
-        ensures only { (r : Repeating) → IsRepeating r → all_joined (repeater_words r) ≡ text.now → result ≡ Some r }
+        ensures found { IfSome result
+            (λ r. IsRepeating r × (all_joined (repeater_words r) ≡ text.now)) }
+        ensures only { (r : Repeating) → IsRepeating r
+            → all_joined (repeater_words r) ≡ text.now → result ≡ Some r }
     {
         let (facing, rest) = cut(text);
         let facing = Side::read(facing)?;
@@ -103,20 +107,5 @@ impl Repeater {
     {
         let state = two_words(on_word(self.on), small_word(self.wait));
         three_words(dir_word(self.facing.dir()), self.delay.word(), &state)
-    }
-}
-
-#[cfg(test)]
-mod tests {
-    use super::*;
-
-    #[test]
-    fn a_repeater_tells_its_state(rt: HostRuntime) {
-        let repeater = Repeater::new(Side::South, Delay::Three, true, 2);
-        assert_eq!(rt; repeater.facing(), Side::South);
-        assert_eq!(rt; repeater.delay(), Delay::Three);
-        assert_eq!(rt; repeater.delay().ticks(), 3);
-        assert!(rt; repeater.is_on());
-        assert_eq!(rt; repeater.wait(), 2);
     }
 }

@@ -19,7 +19,7 @@ use Rattle.vx_block.specs.declared.cell.Cell.TheVariants as cell
 use Rattle.std.specs.Cmp.{booleans_Decides}
 use Rattle.std.specs.Bool.{beq}
 use Rattle.vx_cells.specs.SectorCells.{is_chest}
-use Rattle.vx_cells.specs.Codes.{code_count, is_odd, dir_at, lamp_at, repeater_at, state_of, cell_of}
+use Rattle.vx_cells.specs.Codes.{code_count, is_odd, dir_at, lamp_at, repeater_at, cell_with_state, cell_of}
 
 pistons : ℕ → Cell
 pistons n = if nat_lt n 141 then cell.Piston (dir_at ((n - 129) / 2)) false (is_odd (n - 129))
@@ -36,7 +36,7 @@ here : {X : Type 0} (n k : ℕ) (a b : X) → n < k → (if nat_lt n k then a el
 here n k a b near = grind arith
 
 before_repeaters : (n : ℕ) → 46 ≤ n → cell_of n ≡ (if nat_lt n 126 then cell.Repeater (repeater_at (n - 46)) else later n)
-unfolding cell_of state_of later pistons
+unfolding cell_of cell_with_state later pistons
 before_repeaters n far = past n 8 _ _ (omega (arith, far)) ∙ past n 24 _ _ (omega (arith, far)) ∙ past n 34 _ _ (omega (arith, far)) ∙ past n 46 _ _ far
 
 before_pistons : (n : ℕ) → 129 ≤ n → cell_of n ≡ pistons n
@@ -121,7 +121,7 @@ returned : ℕ → Bool
 returned n = nat_eq (code_of (cell_of n)) n
 
 each_returned : list_all returned (range_with_len 0 code_count) ≡ true
-unfolding cell_of state_of returned code_of mount_code bit side_code dir_code first_count lamp_code
+unfolding cell_of cell_with_state returned code_of mount_code bit side_code dir_code first_count lamp_code
 each_returned = refl
 
 passes : (p : ℕ → Bool) → list_all p (range_with_len 0 code_count) ≡ true → (n : ℕ) → n < code_count → p n ≡ true
@@ -147,7 +147,7 @@ told : ℕ → Bool
 told n = beq (is_chest (cell_of n)) (nat_eq n 7)
 
 each_told : list_all told (range_with_len 0 code_count) ≡ true
-unfolding cell_of state_of told
+unfolding cell_of cell_with_state told
 each_told = refl
 
 -- only 7 is the code of a chest

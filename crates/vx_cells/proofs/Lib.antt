@@ -1,6 +1,6 @@
 pub mod CellLaws
 pub mod CodeLemmas
-pub mod Places
+pub mod Indices
 pub mod Stacks
 pub mod StoredBlocks
 pub mod StoredCells

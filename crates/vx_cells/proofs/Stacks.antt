@@ -1,18 +1,14 @@
 -- Slots: what `==` and `clone` say of them.
-use Rattle.std.proofs.Common.{◌≡◌, Bool, true, false, ◌&&◌, nat_eq, Option, Some, None, refl, ap, arith, Decides}
-use Rattle.std.proofs.lemmas.Bool.{eqb-true}
+use Rattle.std.proofs.Common.{◌≡◌, Bool, true, ◌&&◌, nat_eq, Option, Some, None, refl, ap, arith, Decides}
+use Rattle.std.proofs.lemmas.Bool.{and_parts, eqb-true}
 use Rattle.std.specs.Option.{option_eq}
 use Rattle.vx_cells.specs.declared.stack.Stack.{Stack}
-
-split : (a b : Bool) → (a && b) ≡ true → (a ≡ true) × (b ≡ true)
-split true b e = (refl, e)
-split false b e = cc
 
 abbrev pub stack_eq : Stack → Stack → Bool
 stack_eq a b = nat_eq a.item b.item && nat_eq a.count b.count
 
 pub stack_Decides : (a b : Stack) → Decides (stack_eq a b) (a ≡ b)
-stack_Decides a b = (λ e. same (split _ _ e), λ s. grind (arith, s))
+stack_Decides a b = (λ e. same (and_parts _ _ e), λ s. grind (arith, s))
   where
     same : (nat_eq a.item b.item ≡ true) × (nat_eq a.count b.count ≡ true) → a ≡ b
     same both =

@@ -7,30 +7,30 @@ use Rattle.std.proofs.lemmas.Grind.{same_number_lists}
 use Rattle.std.proofs.lemmas.Map.{update_here, update_apart}
 use Rattle.vx_block.specs.declared.cell.Cell.TheVariants.{Air}
 use Rattle.vx_geom.specs.Sizes.{Sizes, sector_cells}
-use Rattle.vx_cells.specs.Chests.{Slots, ChestData, slots_at, Changes}
+use Rattle.vx_cells.specs.Chests.{Slots, ChestData, slots_of_chest, Changes}
 use Rattle.vx_cells.specs.Codes.{code_count, cell_of}
 use Rattle.vx_cells.specs.SectorCells.{Block, IsBlock, IsWhole, placed, only_air}
 use Rattle.vx_cells.specs.Stored.{block_of, blocks_from, stored, IsBeside, IsStored}
 use Rattle.vx_cells.proofs.CodeLemmas.{same_code}
 
-pub length-blocks : (place : ℕ) (codes : List ℕ) (chests : ChestData) → length (blocks_from place codes chests) ≡ length codes
-length-blocks place [] chests = refl
-length-blocks place (code ∷ codes) chests = ap suc (length-blocks (place + 1) codes chests)
+pub length-blocks : (index : ℕ) (codes : List ℕ) (chests : ChestData) → length (blocks_from index codes chests) ≡ length codes
+length-blocks index [] chests = refl
+length-blocks index (code ∷ codes) chests = ap suc (length-blocks (index + 1) codes chests)
 
--- what stands at a place
-pub block-read : (place : ℕ) (codes : List ℕ) (chests : ChestData) (k : ℕ) (d : Block) → k < length codes
-    → get_or (blocks_from place codes chests) k d ≡ block_of (get_or codes k 0) chests (place + k)
-block-read place [] chests k d near = absurd (omega (arith, near))
-block-read place (code ∷ codes) chests zero d near = let at : place ≡ place + 0 = omega arith in ap (λ n. block_of code chests n) at
-block-read place (code ∷ codes) chests (suc k) d near =
-    let at : place + 1 + k ≡ place + suc k = omega arith in
-    block-read (place + 1) codes chests k d (omega (arith, near)) ∙ ap (λ n. block_of (get_or codes k 0) chests n) at
+-- what stands at an index
+pub block-read : (index : ℕ) (codes : List ℕ) (chests : ChestData) (k : ℕ) (d : Block) → k < length codes
+    → get_or (blocks_from index codes chests) k d ≡ block_of (get_or codes k 0) chests (index + k)
+block-read index [] chests k d near = absurd (omega (arith, near))
+block-read index (code ∷ codes) chests zero d near = let at : index ≡ index + 0 = omega arith in ap (λ n. block_of code chests n) at
+block-read index (code ∷ codes) chests (suc k) d near =
+    let at : index + 1 + k ≡ index + suc k = omega arith in
+    block-read (index + 1) codes chests k d (omega (arith, near)) ∙ ap (λ n. block_of (get_or codes k 0) chests n) at
 
 pub block-at : (codes : List ℕ) (chests : ChestData) (k : ℕ) (d : Block) → k < length codes → get_or (blocks_from 0 codes chests) k d ≡ block_of (get_or codes k 0) chests k
 block-at codes chests k d near = let at : 0 + k ≡ k = omega arith in block-read 0 codes chests k d near ∙ ap (λ n. block_of (get_or codes k 0) chests n) at
 
--- a byte and the slots at its place change
-pub blocks-set : (codes : List ℕ) (old new : ChestData) (k code : ℕ) → k < length codes → ((q : ℕ) → q ≢ k → slots_at new q ≡ slots_at old q)
+-- a byte and the slots at its index change
+pub blocks-set : (codes : List ℕ) (old new : ChestData) (k code : ℕ) → k < length codes → ((q : ℕ) → q ≢ k → slots_of_chest new q ≡ slots_of_chest old q)
     → blocks_from 0 (set codes k code) new ≡ set (blocks_from 0 codes old) k (block_of code new k)
 blocks-set codes old new k code near others = ext_get_or (placed Air) _ _ long each
   where
@@ -66,10 +66,10 @@ stored-whole bounds sector codes chests held = record {
 }
 
 -- nothing but air
-pub blocks-fresh : (place n : ℕ) → blocks_from place (replicate n 0) [] ≡ replicate n (placed Air)
+pub blocks-fresh : (index n : ℕ) → blocks_from index (replicate n 0) [] ≡ replicate n (placed Air)
 unfolding cell_of
-blocks-fresh place zero = refl
-blocks-fresh place (suc n) = ap (λ bs. placed Air ∷ bs) (blocks-fresh (place + 1) n)
+blocks-fresh index zero = refl
+blocks-fresh index (suc n) = ap (λ bs. placed Air ∷ bs) (blocks-fresh (index + 1) n)
 
 zero_at : (n k z : ℕ) → get_or (replicate n z) k z ≡ z
 zero_at zero k z = refl
@@ -81,7 +81,7 @@ unfolding cell_of
 stored-fresh bounds n codes chests zeros none whole = record {
   whole = rw zeros (length-replicate n 0 ∙ whole);
   codes = rw zeros (All-replicate (λ b. b < code_count) n 0 (omega arith));
-  chests = λ place. rw zeros (rw none (rw (zero_at n place 0) refl));
+  chests = λ index. rw zeros (rw none (rw (zero_at n index 0) refl));
 }
 
 pub fresh-stored : (bounds : Sizes) (sector n : ℕ) (codes : List ℕ) (chests : ChestData) → codes ≡ replicate n 0 → chests ≡ [] → n ≡ sector_cells bounds
@@ -90,15 +90,15 @@ fresh-stored bounds sector n codes chests zeros none whole =
     let blocks = (λ i. blocks_from 0 (zeros i) (none i)) ∙ blocks-fresh 0 n ∙ (λ i. replicate (whole i) (placed Air)) in
     λ i. record { bounds = bounds; sector = sector; blocks = blocks i }
 
--- a byte changes, and the slots at its place with it
+-- a byte changes, and the slots at its index with it
 pub stored-set : (bounds : Sizes) (codes : List ℕ) (old new : ChestData) (k code : ℕ) (slots : Option Slots) → IsStored bounds codes old → k < length codes → code < code_count
     → Changes old new k slots → IsBeside code slots → IsStored bounds (set codes k code) new
 stored-set bounds codes old new k code slots held near small change beside = record {
   whole = length-set codes k code ∙ held.whole;
   codes = All-set (λ b. b < code_count) codes k code small held.codes;
-  chests = λ place. elim (cases_eq place k) [
-    | inl same ↦ rw same (rw (get_or-set_same codes k code 0 near) (rw (change k) (rw (update_here (slots_at old) k slots) beside)))
-    | inr other ↦ rw (get_or-set_other codes k place code 0 other) (rw (change place) (rw (update_apart (slots_at old) k slots place other) (held.chests place)))
+  chests = λ index. elim (cases_eq index k) [
+    | inl same ↦ rw same (rw (get_or-set_same codes k code 0 near) (rw (change k) (rw (update_here (slots_of_chest old) k slots) beside)))
+    | inr other ↦ rw (get_or-set_other codes k index code 0 other) (rw (change index) (rw (update_apart (slots_of_chest old) k slots index other) (held.chests index)))
   ];
 }
 
@@ -106,8 +106,8 @@ stored-set bounds codes old new k code slots held near small change beside = rec
 pub blocks-changed : (codes : List ℕ) (old new : ChestData) (k code : ℕ) (slots : Option Slots) → k < length codes → Changes old new k slots
     → blocks_from 0 (set codes k code) new ≡ set (blocks_from 0 codes old) k (record { cell = cell_of code; slots = unwrap_or slots [] })
 blocks-changed codes old new k code slots near change =
-    blocks-set codes old new k code near (λ q other. change q ∙ update_apart (slots_at old) k slots q other)
-    ∙ ap (λ o. set (blocks_from 0 codes old) k (record { cell = cell_of code; slots = unwrap_or o [] })) (change k ∙ update_here (slots_at old) k slots)
+    blocks-set codes old new k code near (λ q other. change q ∙ update_apart (slots_of_chest old) k slots q other)
+    ∙ ap (λ o. set (blocks_from 0 codes old) k (record { cell = cell_of code; slots = unwrap_or o [] })) (change k ∙ update_here (slots_of_chest old) k slots)
 
 same_beside : (code : ℕ) (o r : Option Slots) → IsBeside code o → IsBeside code r → unwrap_or o [] ≡ unwrap_or r [] → o ≡ r
 same_beside code None None left right same = refl
@@ -120,7 +120,7 @@ unfolding cell_of
 none_past None beside = refl
 none_past (Some s) beside = absurd (true≢false (sym beside.0))
 
--- two that stand for the same have the same bytes, and the same slots at each place
+-- two that stand for the same have the same bytes, and the same slots at each index
 module _ (bounds rest : Sizes) (codes others : List ℕ) (chests more : ChestData) (held : IsStored bounds codes chests) (holds : IsStored rest others more)
     (same : blocks_from 0 codes chests ≡ blocks_from 0 others more) where
   long : length codes ≡ length others
@@ -133,17 +133,17 @@ module _ (bounds rest : Sizes) (codes others : List ℕ) (chests more : ChestDat
   same-codes = same_number_lists codes others long
       (λ k near. same_code _ _ (held.codes k 0 near) (holds.codes k 0 (omega (arith, near, long))) (ap (λ b. b.cell) (same-block k near)))
 
-  pub same-slots : (place : ℕ) → slots_at chests place ≡ slots_at more place
-  same-slots place = elim (cases_lt place (length codes)) [
-    | inr past ↦ none_past _ (subst (λ n. IsBeside n (slots_at chests place)) (get_or_past codes place 0 past) (held.chests place))
-        ∙ sym (none_past _ (subst (λ n. IsBeside n (slots_at more place)) (get_or_past others place 0 (omega (arith, past, long))) (holds.chests place)))
-    | inl near ↦ same_beside (get_or codes place 0) _ _ (held.chests place) (rw same-codes (holds.chests place)) (ap (λ b. b.slots) (same-block place near))
+  pub same-slots : (index : ℕ) → slots_of_chest chests index ≡ slots_of_chest more index
+  same-slots index = elim (cases_lt index (length codes)) [
+    | inr past ↦ none_past _ (subst (λ n. IsBeside n (slots_of_chest chests index)) (get_or_past codes index 0 past) (held.chests index))
+        ∙ sym (none_past _ (subst (λ n. IsBeside n (slots_of_chest more index)) (get_or_past others index 0 (omega (arith, past, long))) (holds.chests index)))
+    | inl near ↦ same_beside (get_or codes index 0) _ _ (held.chests index) (rw same-codes (holds.chests index)) (ap (λ b. b.slots) (same-block index near))
   ]
 
 -- and back
-pub same-blocks : (place : ℕ) (codes : List ℕ) (chests more : ChestData) → ((q : ℕ) → slots_at chests q ≡ slots_at more q) → blocks_from place codes chests ≡ blocks_from place codes more
-same-blocks place [] chests more same = refl
-same-blocks place (code ∷ codes) chests more same =
-    let slots = same place in
-    let rest = same-blocks (place + 1) codes chests more same in
+pub same-blocks : (index : ℕ) (codes : List ℕ) (chests more : ChestData) → ((q : ℕ) → slots_of_chest chests q ≡ slots_of_chest more q) → blocks_from index codes chests ≡ blocks_from index codes more
+same-blocks index [] chests more same = refl
+same-blocks index (code ∷ codes) chests more same =
+    let slots = same index in
+    let rest = same-blocks (index + 1) codes chests more same in
     λ i. record { cell = cell_of code; slots = unwrap_or (slots i) [] } ∷ rest i

@@ -1,14 +1,14 @@
 -- What is read from a stored sector, and what a change of the store is to it.
-use Rattle.std.proofs.Common.{◌≡◌, ℕ, ◌<◌, Bool, true, false, not, ◌&&◌, nat_eq, List, [], length, get_or, set, slice_set, Option, Some, None, IsSome, unwrap_or, option_map, if◌then◌else◌, Decides, refl, ap, sym, ◌∙◌, true≢false, arith}
-use Rattle.std.proofs.lemmas.Bool.{eqb-true}
+use Rattle.std.proofs.Common.{◌≡◌, ℕ, ◌<◌, Bool, true, false, not, ◌&&◌, nat_eq, List, [], length, get_or, set, slice_set, Option, Some, None, IsSome, unwrap_or, if◌then◌else◌, Decides, refl, ap, sym, ◌∙◌, true≢false, arith}
+use Rattle.std.proofs.lemmas.Bool.{and_parts, eqb-true}
 use Rattle.std.proofs.lemmas.List.{set-get_or, length-set}
 use Rattle.std.proofs.lemmas.List.Elements.{All-replicate, All-set}
 use Rattle.vx_block.specs.declared.cell.Cell.{Cell}
 use Rattle.vx_block.specs.declared.cell.Cell.TheVariants.{Air}
 use Rattle.vx_geom.specs.declared.pos.Pos.{Pos}
-use Rattle.vx_geom.specs.Sizes.{Sizes, sector_cells, place_in_sector}
+use Rattle.vx_geom.specs.Sizes.{Sizes, sector_cells, index_in_sector}
 use Rattle.vx_cells.specs.declared.stack.Stack.{Stack}
-use Rattle.vx_cells.specs.Chests.{Slots, ChestData, slots_at, no_content, Changes}
+use Rattle.vx_cells.specs.Chests.{refilled, Slots, ChestData, slots_of_chest, no_content, Changes}
 use Rattle.vx_cells.specs.Codes.{code_count, cell_of}
 use Rattle.vx_cells.specs.SectorCells.{IsSlot, is_chest, placed, block_at, cell_at, chest_at, with_block, with_cell, with_content, with_slot}
 use Rattle.vx_cells.specs.Stored.{block_of, blocks_from, stored, IsBeside, IsStored}
@@ -34,10 +34,6 @@ some_chest : (code : ℕ) (o : Option Slots) → IsBeside code o → is_chest (c
 some_chest code None beside chest = absurd (true≢false (sym chest ∙ beside))
 some_chest code (Some slots) beside chest = refl
 
--- the slots of a chest with something else in one of them
-abbrev pub refilled : ℕ → Option Stack → Option Slots → Option Slots
-refilled slot content slots = option_map (λ s. slice_set s slot content) slots
-
 refilled_beside : (code slot : ℕ) (content : Option Stack) (o : Option Slots) → IsSlot content → IsBeside code o → IsBeside code (refilled slot content o)
 refilled_beside code slot content None small beside = beside
 refilled_beside code slot content (Some slots) small beside = (beside.0, length-set slots slot content ∙ beside.1, All-set IsSlot slots slot content small beside.2)
@@ -46,61 +42,61 @@ refilled_slots : (slot : ℕ) (content : Option Stack) (o : Option Slots) → un
 refilled_slots slot content None = refl
 refilled_slots slot content (Some slots) = refl
 
-module _ (bounds : Sizes) (sector : ℕ) (codes : List ℕ) (chests : ChestData) (held : IsStored bounds codes chests) (p : Pos) (place : ℕ)
-    (at : place ≡ place_in_sector bounds p) (within : place < sector_cells bounds) where
-  near : place < length codes
+module _ (bounds : Sizes) (sector : ℕ) (codes : List ℕ) (chests : ChestData) (held : IsStored bounds codes chests) (p : Pos) (index : ℕ)
+    (at : index ≡ index_in_sector bounds p) (within : index < sector_cells bounds) where
+  near : index < length codes
   near = omega (arith, within, held.whole)
 
-  block-stored : block_of (get_or codes place 0) chests place ≡ block_at (stored bounds sector codes chests) p
+  block-stored : block_of (get_or codes index 0) chests index ≡ block_at (stored bounds sector codes chests) p
   unfolding block_at
-  block-stored = sym (block-at codes chests place (placed Air) near) ∙ ap (λ k. get_or (blocks_from 0 codes chests) k (placed Air)) at
+  block-stored = sym (block-at codes chests index (placed Air) near) ∙ ap (λ k. get_or (blocks_from 0 codes chests) k (placed Air)) at
 
   -- the cell of the byte
-  pub cell-stored : cell_of (get_or codes place 0) ≡ cell_at (stored bounds sector codes chests) p
+  pub cell-stored : cell_of (get_or codes index 0) ≡ cell_at (stored bounds sector codes chests) p
   cell-stored = ap (λ b. b.cell) block-stored
 
   -- the slots in the map
-  pub chest-stored : slots_at chests place ≡ chest_at (stored bounds sector codes chests) p
-  chest-stored = chest_or_none _ _ (held.chests place) ∙ ap (λ b. if is_chest b.cell then Some b.slots else None) block-stored
+  pub chest-stored : slots_of_chest chests index ≡ chest_at (stored bounds sector codes chests) p
+  chest-stored = chest_or_none _ _ (held.chests index) ∙ ap (λ b. if is_chest b.cell then Some b.slots else None) block-stored
 
-  pub chest-there : is_chest (cell_at (stored bounds sector codes chests) p) ≡ true → IsSome (slots_at chests place)
-  chest-there chest = some_chest _ _ (held.chests place) (ap is_chest cell-stored ∙ chest)
+  pub chest-there : is_chest (cell_at (stored bounds sector codes chests) p) ≡ true → IsSome (slots_of_chest chests index)
+  chest-there chest = some_chest _ _ (held.chests index) (ap is_chest cell-stored ∙ chest)
 
   -- a byte is put down, and the slots that begin with it
-  module _ (new : ChestData) (code : ℕ) (b : Bool) (told : b ≡ is_chest (cell_of code)) (change : Changes chests new place (begun b)) where
-    pub put-held : code < code_count → IsStored bounds (set codes place code) new
-    put-held small = stored-set bounds codes chests new place code (begun b) held near small change (begun_beside code b told)
+  module _ (new : ChestData) (code : ℕ) (b : Bool) (told : b ≡ is_chest (cell_of code)) (change : Changes chests new index (begun b)) where
+    pub put-held : code < code_count → IsStored bounds (set codes index code) new
+    put-held small = stored-set bounds codes chests new index code (begun b) held near small change (begun_beside code b told)
 
-    pub put-stored : (cell : Cell) → cell_of code ≡ cell → stored bounds sector (set codes place code) new ≡ with_cell (stored bounds sector codes chests) p cell
+    pub put-stored : (cell : Cell) → cell_of code ≡ cell → stored bounds sector (set codes index code) new ≡ with_cell (stored bounds sector codes chests) p cell
     unfolding with_block
     put-stored cell same =
         let slots = begun_placed code b told in
         let block : record { cell = cell_of code; slots = unwrap_or (begun b) [] } ≡ placed cell = (λ i. record { cell = cell_of code; slots = slots i }) ∙ ap placed same in
-        let blocks = blocks-changed codes chests new place code (begun b) near change ∙ (λ i. set (blocks_from 0 codes chests) (at i) (block i)) in
+        let blocks = blocks-changed codes chests new index code (begun b) near change ∙ (λ i. set (blocks_from 0 codes chests) (at i) (block i)) in
         λ i. record { bounds = bounds; sector = sector; blocks = blocks i }
 
   -- a slot of the chest there is put down
-  module _ (new : ChestData) (slot : ℕ) (content : Option Stack) (change : Changes chests new place (refilled slot content (slots_at chests place))) where
-    kept : set codes place (get_or codes place 0) ≡ codes
-    kept = set-get_or codes place 0
+  module _ (new : ChestData) (slot : ℕ) (content : Option Stack) (change : Changes chests new index (refilled slot content (slots_of_chest chests index))) where
+    kept : set codes index (get_or codes index 0) ≡ codes
+    kept = set-get_or codes index 0
 
     pub refilled-held : IsSlot content → IsStored bounds codes new
-    refilled-held small = rw (← kept) (stored-set bounds codes chests new place (get_or codes place 0) _ held near (held.codes place 0 near) change
-        (refilled_beside _ slot content _ small (held.chests place)))
+    refilled-held small = rw (← kept) (stored-set bounds codes chests new index (get_or codes index 0) _ held near (held.codes index 0 near) change
+        (refilled_beside _ slot content _ small (held.chests index)))
 
     pub refilled-stored : stored bounds sector codes new ≡ with_slot (stored bounds sector codes chests) p slot content
     unfolding with_block
     refilled-stored =
-        let slots = refilled_slots slot content (slots_at chests place) in
-        let block : record { cell = cell_of (get_or codes place 0); slots = unwrap_or (refilled slot content (slots_at chests place)) [] }
+        let slots = refilled_slots slot content (slots_of_chest chests index) in
+        let block : record { cell = cell_of (get_or codes index 0); slots = unwrap_or (refilled slot content (slots_of_chest chests index)) [] }
         ≡ with_content (block_at (stored bounds sector codes chests) p) slot content
-        = (λ i. record { cell = cell_of (get_or codes place 0); slots = slots i }) ∙ ap (λ b. with_content b slot content) block-stored in
-        let blocks = ap (λ cs. blocks_from 0 cs new) (sym kept) ∙ blocks-changed codes chests new place (get_or codes place 0) _ near change ∙ (λ i. set (blocks_from 0 codes chests) (at i) (block i)) in
+        = (λ i. record { cell = cell_of (get_or codes index 0); slots = slots i }) ∙ ap (λ b. with_content b slot content) block-stored in
+        let blocks = ap (λ cs. blocks_from 0 cs new) (sym kept) ∙ blocks-changed codes chests new index (get_or codes index 0) _ near change ∙ (λ i. set (blocks_from 0 codes chests) (at i) (block i)) in
         λ i. record { bounds = bounds; sector = sector; blocks = blocks i }
 
 -- two sectors of one size and number with the same bytes are the same where their slots are
 pub same-stored : (bounds rest : Sizes) (sector number : ℕ) (codes others : List ℕ) (chests more : ChestData) (r : Bool) → IsStored bounds codes chests → IsStored rest others more
-    → bounds ≡ rest → sector ≡ number → codes ≡ others → Decides r ((place : ℕ) → slots_at chests place ≡ slots_at more place)
+    → bounds ≡ rest → sector ≡ number → codes ≡ others → Decides r ((index : ℕ) → slots_of_chest chests index ≡ slots_of_chest more index)
     → Decides r (stored bounds sector codes chests ≡ stored rest number others more)
 same-stored bounds rest sector number codes others chests more r held holds sizes numbers bytes decides = (
   λ e.
@@ -109,15 +105,11 @@ same-stored bounds rest sector number codes others chests more r held holds size
   λ same. decides.1 (same-slots bounds rest codes others chests more held holds (ap (λ c. c.blocks) same)),
 )
 
-both : (a b : Bool) → (a && b) ≡ true → (a ≡ true) × (b ≡ true)
-both true b e = (refl, e)
-both false b e = cc
-
 -- `!=` of two sizes says no where they are the same
 pub same-sizes : (v w : Sizes) → false ≡ not (nat_eq v.sx w.sx && (nat_eq v.sz w.sz && nat_eq v.s w.s)) → v ≡ w
 same-sizes v w e =
-    let all = both (nat_eq v.sx w.sx) (nat_eq v.sz w.sz && nat_eq v.s w.s) (by _ e) in
-    let rest = both (nat_eq v.sz w.sz) (nat_eq v.s w.s) all.1 in
+    let all = and_parts (nat_eq v.sx w.sx) (nat_eq v.sz w.sz && nat_eq v.s w.s) (by _ e) in
+    let rest = and_parts (nat_eq v.sz w.sz) (nat_eq v.s w.s) all.1 in
     let sx = eqb-true v.sx w.sx all.0 in
     let sz = eqb-true v.sz w.sz rest.0 in
     let s = eqb-true v.s w.s rest.1 in

@@ -1,5 +1,5 @@
--- The slots of a sector's chests, by their places.
-use Rattle.std.specs.Prelude.{◌≡◌, ℕ, nat_eq, List, Option, None, replicate}
+-- The slots of a sector's chests, by their indices.
+use Rattle.std.specs.Prelude.{◌≡◌, ℕ, nat_eq, List, Option, None, option_map, replicate, slice_set}
 use Rattle.std.specs.Map.{lookup, update}
 use Rattle.vx_cells.specs.declared.stack.Stack.{Stack}
 
@@ -7,18 +7,23 @@ use Rattle.vx_cells.specs.declared.stack.Stack.{Stack}
 abbrev pub Slots : Type 0
 Slots = List (Option Stack)
 
--- the slots of each chest, beside its place
+-- the slots of each chest, beside its index
 abbrev pub ChestData : Type 0
 ChestData = List (ℕ × Slots)
 
--- the slots of the chest at a place, if there is one
-abbrev pub slots_at : ChestData → ℕ → Option Slots
-slots_at chests place = lookup (nat_eq place) chests
+-- the slots of the chest at an index, if there is one
+abbrev pub slots_of_chest : ChestData → ℕ → Option Slots
+slots_of_chest chests index = lookup (nat_eq index) chests
 
 -- a chest with nothing in it
 abbrev pub no_content : Slots
 no_content = replicate 27 None
 
--- one place has other slots or none, and all the others what they had
+-- one index has other slots or none, and all the others what they had
 abbrev pub Changes : ChestData → ChestData → ℕ → Option Slots → Type 0
-Changes old new place slots = (q : ℕ) → slots_at new q ≡ update nat_eq (slots_at old) place slots q
+Changes old new index slots = (q : ℕ)
+    → slots_of_chest new q ≡ update nat_eq (slots_of_chest old) index slots q
+
+-- the slots of a chest, if there is one, with something else in one of them
+abbrev pub refilled : ℕ → Option Stack → Option Slots → Option Slots
+refilled slot content slots = option_map (λ each. slice_set each slot content) slots

@@ -4,7 +4,7 @@ use Rattle.std.specs.Option.{option_map_or}
 use Rattle.vx_block.specs.declared.cell.Cell.{Cell}
 use Rattle.vx_block.specs.declared.cell.Cell.TheVariants.{Air, Chest}
 use Rattle.vx_geom.specs.declared.pos.Pos.{Pos}
-use Rattle.vx_geom.specs.Sizes.{Sizes, sector_of, sector_cells, place_in_sector}
+use Rattle.vx_geom.specs.Sizes.{Sizes, sector_of, sector_cells, index_in_sector}
 use Rattle.vx_cells.specs.declared.stack.Stack.{Stack}
 
 -- what stands at a place: a cell, and the slots of a chest
@@ -25,17 +25,21 @@ slot_count cell = if is_chest cell then 27 else 0
 abbrev pub placed : Cell → Block
 placed cell = record { cell = cell; slots = replicate (slot_count cell) None }
 
+-- how many of one item a slot holds at most
+abbrev pub most_count : ℕ
+most_count = 64
+
 -- a slot is empty, or holds 1 to 64 of an item
 abbrev pub IsSlot : Option Stack → Type 0
 IsSlot None = Unit {0}
-IsSlot (Some stack) = (1 ≤ stack.count) × (stack.count ≤ 64)
+IsSlot (Some stack) = (1 ≤ stack.count) × (stack.count ≤ most_count)
 
 -- a chest has its 27 slots, and no other cell has any
 pub record IsBlock (b : Block) : Type 0 where
   pub slots : length b.slots ≡ slot_count b.cell
   pub each : All IsSlot b.slots
 
--- one sector of a world: what stands at each of its places, in their order
+-- one sector of a world: what stands at each of its places, in the order of their indices
 pub record SectorCells : Type 0 where
   pub bounds : Sizes
   pub sector : ℕ
@@ -52,11 +56,15 @@ holds c p = option_map_or (nat_eq c.sector) (sector_of c.bounds p) false
 
 -- nothing but air
 abbrev pub only_air : Sizes → ℕ → SectorCells
-only_air bounds sector = record { bounds = bounds; sector = sector; blocks = replicate (sector_cells bounds) (placed Air) }
+only_air bounds sector = record {
+  bounds = bounds;
+  sector = sector;
+  blocks = replicate (sector_cells bounds) (placed Air);
+}
 
 -- what stands at a position of the sector
 unfoldable pub block_at : SectorCells → Pos → Block
-block_at c p = slice_index_or c.blocks (place_in_sector c.bounds p) (placed Air)
+block_at c p = slice_index_or c.blocks (index_in_sector c.bounds p) (placed Air)
 
 -- its cell
 abbrev pub cell_at : SectorCells → Pos → Cell
@@ -68,7 +76,7 @@ chest_at c p = if is_chest (cell_at c p) then Some (block_at c p).slots else Non
 
 -- something else at one position, and all the others as they are
 unfoldable pub with_block : SectorCells → Pos → Block → SectorCells
-with_block c p block = record c { blocks = slice_set c.blocks (place_in_sector c.bounds p) block }
+with_block c p block = record c { blocks = slice_set c.blocks (index_in_sector c.bounds p) block }
 
 -- a cell put down at one position
 abbrev pub with_cell : SectorCells → Pos → Cell → SectorCells

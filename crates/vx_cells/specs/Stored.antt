@@ -1,30 +1,39 @@
--- How a sector is stored: a byte for each cell, and the slots of the chests by their places.
+-- How a sector is stored: a byte for each cell, and the slots of the chests by their indices.
 use Rattle.std.specs.Prelude.{◌≡◌, ℕ, ◌+◌, ◌<◌, true, false, List, [], ◌∷◌, length, slice_index_or, All, Option, Some, None, unwrap_or}
 use Rattle.vx_geom.specs.Sizes.{Sizes, sector_cells}
-use Rattle.vx_cells.specs.Chests.{Slots, ChestData, slots_at}
+use Rattle.vx_cells.specs.Chests.{Slots, ChestData, slots_of_chest}
 use Rattle.vx_cells.specs.Codes.{code_count, cell_of}
 use Rattle.vx_cells.specs.SectorCells.{Block, SectorCells, is_chest, IsSlot}
 
--- the block of a byte, with the slots that stand at its place
+-- the block of a byte, with the slots that stand at its index
 abbrev pub block_of : ℕ → ChestData → ℕ → Block
-block_of code chests place = record { cell = cell_of code; slots = unwrap_or (slots_at chests place) [] }
+block_of code chests index = record {
+  cell = cell_of code;
+  slots = unwrap_or (slots_of_chest chests index) [];
+}
 
--- the blocks of the bytes, from a place on
+-- the blocks of the bytes, from an index on
 abbrev pub blocks_from : ℕ → List ℕ → ChestData → List Block
-blocks_from place [] chests = []
-blocks_from place (code ∷ codes) chests = block_of code chests place ∷ blocks_from (place + 1) codes chests
+blocks_from index [] chests = []
+blocks_from index (code ∷ codes) chests =
+    block_of code chests index ∷ blocks_from (index + 1) codes chests
 
 -- the sector that is stored
 abbrev pub stored : Sizes → ℕ → List ℕ → ChestData → SectorCells
-stored bounds sector codes chests = record { bounds = bounds; sector = sector; blocks = blocks_from 0 codes chests }
+stored bounds sector codes chests = record {
+  bounds = bounds;
+  sector = sector;
+  blocks = blocks_from 0 codes chests;
+}
 
--- a chest's 27 slots stand at its place, and none at another cell's
+-- a chest's 27 slots stand at its index, and none at another cell's
 abbrev pub IsBeside : ℕ → Option Slots → Type 0
 IsBeside code None = is_chest (cell_of code) ≡ false
-IsBeside code (Some slots) = (is_chest (cell_of code) ≡ true) × (length slots ≡ 27) × All IsSlot slots
+IsBeside code (Some slots) =
+    (is_chest (cell_of code) ≡ true) × (length slots ≡ 27) × All IsSlot slots
 
--- each place has its byte, each chest its slots, and past the last place there are none
+-- each index has its byte, each chest its slots, and past the last index there are none
 pub record IsStored (bounds : Sizes) (store : List ℕ) (slots : ChestData) : Type 0 where
   pub whole : length store ≡ sector_cells bounds
   pub codes : All (λ code. code < code_count) store
-  pub chests : (place : ℕ) → IsBeside (slice_index_or store place 0) (slots_at slots place)
+  pub chests : (index : ℕ) → IsBeside (slice_index_or store index 0) (slots_of_chest slots index)

@@ -1,10 +1,6 @@
-ghost use Rattle.std.specs.Prelude.{◌≡◌, ◌<◌, true, false, IfOk, OnOk, OnErr, IfSome, IsOk};
-ghost use Rattle.std.specs.Bool.{Decides};
+ghost use Rattle.std.specs.Prelude.{◌≡◌, ◌<◌, ◌↔◌, true, false, IsTrue, IfOk, OnOk, OnErr, IfSome, IsOk};
 ghost use Rattle.std.specs.List.{All};
 ghost use Rattle.vx_geom.specs.Sizes.{sector_count};
-
-#[cfg(test)]
-mod tests;
 
 use crate::chests::Chests;
 use crate::code::{AIR, decode, encode, is_chest};
@@ -15,7 +11,7 @@ use vx_block::Cell;
 use vx_geom::{Bounds, Pos};
 
 /// What stands in one sector of the world: a cell at each position, and the slots of each chest.
-// The cells are a byte each, in one block of memory; the chests stand beside it, by their places.
+// The cells are a byte each, in one block of memory; the chests stand beside it, by their indices.
 #[derive(Drop)]
 pub struct Cells {
     bounds: Bounds,
@@ -83,21 +79,22 @@ impl Cells {
         requires { holds self.now p ≡ true }
         ensures { result ≡ cell_at self.now p }
     {
-        decode(self.store[self.bounds.place_in_sector(p) as usize])
+        decode(self.store[self.bounds.index_in_sector(p) as usize])
     }
 
-    /// Puts a cell down at a position of this sector, in place of what was there. A chest begins empty; it alone takes memory.
+    /// Puts a cell down at a position of this sector, in place of what was there. A chest begins
+    /// empty; it alone takes memory.
     pub fn set(&mut self, p: Pos, cell: Cell) -> Result<(), AllocError>
         requires { holds self.old p ≡ true }
         ensures ok { OnOk result (self.new ≡ with_cell self.old p cell) }
         ensures err { OnErr result (self.new ≡ self.old) }
         ensures always { is_chest cell ≡ false → IsOk result }
     {
-        let place = self.bounds.place_in_sector(p);
-        let was = self.store[place as usize];
+        let index = self.bounds.index_in_sector(p);
+        let was = self.store[index as usize];
         let code = encode(cell);
-        self.chests.replace(place, is_chest(was), is_chest(code))?;
-        self.store[place as usize] = code;
+        self.chests.replace(index, is_chest(was), is_chest(code))?;
+        self.store[index as usize] = code;
         Ok(())
     }
 
@@ -107,10 +104,11 @@ impl Cells {
         ensures slots { result ≡ chest_at self.now p }
         ensures each { IfSome result (All IsSlot) }
     {
-        self.chests.get(self.bounds.place_in_sector(p))
+        self.chests.get(self.bounds.index_in_sector(p))
     }
 
-    /// Puts something else into a slot of the chest at a position of this sector: nothing, or 1 to 64 of an item.
+    /// Puts something else into a slot of the chest at a position of this sector: nothing, or 1 to
+    /// 64 of an item.
     pub fn set_slot(&mut self, p: Pos, slot: u8, content: Slot)
         requires held { holds self.old p ≡ true }
         requires chest { is_chest (cell_at self.old p) ≡ true }
@@ -118,8 +116,8 @@ impl Cells {
         requires content { IsSlot content }
         ensures { self.new ≡ with_slot self.old p slot content }
     {
-        let place = self.bounds.place_in_sector(p);
-        self.chests.set(place, slot, content);
+        let index = self.bounds.index_in_sector(p);
+        self.chests.set(index, slot, content);
     }
 
     /// A copy of the sector.
@@ -134,9 +132,10 @@ impl Cells {
         })
     }
 
-    /// Whether both are the same sector of worlds of one size, with the same at each position, slots too.
+    /// Whether both are the same sector of worlds of one size, with the same at each position,
+    /// slots too.
     pub fn same(&self, other: &Cells) -> bool
-        ensures { Decides result (self.now ≡ other.now) }
+        ensures { IsTrue result ↔ (self.now ≡ other.now) }
     {
         if self.bounds != other.bounds || self.sector != other.sector {
             return false;

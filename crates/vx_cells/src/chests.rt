@@ -1,12 +1,11 @@
-ghost use Rattle.std.specs.Prelude.{◌≡◌, ◌<◌, ℕ, [], false, if◌then◌else◌, None, Some, slice_set, IsSome, IsOk, IfOk, OnOk, OnErr};
-ghost use Rattle.std.specs.Bool.{Decides};
+ghost use Rattle.std.specs.Prelude.{◌≡◌, ◌<◌, ◌↔◌, ℕ, IsTrue, [], false, if◌then◌else◌, None, Some, IsSome, IsOk, IfOk, OnOk, OnErr};
 
 use crate::stack::{SLOTS, Slot};
 use std::alloc::{AllocError, Global};
 use std::collections::HashMap;
 use std::marker::Model;
 
-/// The slots of the chests in one sector, by their places.
+/// The slots of the chests in one sector, by their indices.
 #[derive(Drop)]
 pub struct Chests {
     slots: HashMap<u32, [Slot; SLOTS]>,
@@ -21,8 +20,7 @@ impl Model for Chests {
 }
 
 impl Chests {
-    ghost use Rattle.std.specs.Prelude.{option_map};
-    ghost use Rattle.vx_cells.specs.Chests.{slots_at, no_content, Changes};
+    ghost use Rattle.vx_cells.specs.Chests.{slots_of_chest, no_content, refilled, Changes};
 
     /// No chests. It takes no memory.
     pub fn new(alloc: Global) -> Chests
@@ -33,58 +31,60 @@ impl Chests {
         }
     }
 
-    /// The slots of the chest at that place.
-    pub fn get(&self, place: u32) -> Option<[Slot; SLOTS]>
-        ensures { result ≡ slots_at self.now place }
+    /// The slots of the chest at that index.
+    pub fn get(&self, index: u32) -> Option<[Slot; SLOTS]>
+        ensures { result ≡ slots_of_chest self.now index }
     {
-        match self.slots.get(&place) {
+        match self.slots.get(&index) {
             Some(slots) => Some(*slots),
             None => None,
         }
     }
 
-    // An empty chest at that place, also where one stood.
-    fn put(&mut self, place: u32) -> Result<(), AllocError>
-        ensures ok { OnOk result (Changes self.old self.new place (Some no_content)) }
+    // An empty chest at that index, also where one stood.
+    fn put(&mut self, index: u32) -> Result<(), AllocError>
+        ensures ok { OnOk result (Changes self.old self.new index (Some no_content)) }
         ensures err { OnErr result (self.new ≡ self.old) }
     {
-        match self.slots.insert(place, [None; SLOTS]) {
+        match self.slots.insert(index, [None; SLOTS]) {
             Ok(_) => Ok(()),
             Err(_) => Err(AllocError),
         }
     }
 
-    // No chest at that place.
-    fn remove(&mut self, place: u32)
-        ensures { Changes self.old self.new place None }
+    // No chest at that index.
+    fn remove(&mut self, index: u32)
+        ensures { Changes self.old self.new index None }
     {
-        self.slots.remove(&place);
+        self.slots.remove(&index);
     }
 
-    /// What a cell that is put down at that place leaves there: an empty chest if it `is` one, and none otherwise. `was` says
-    /// whether the cell before it was a chest.
-    pub fn replace(&mut self, place: u32, was: bool, is: bool) -> Result<(), AllocError>
-        requires { was ≡ false → slots_at self.old place ≡ None }
-        ensures ok { OnOk result (Changes self.old self.new place (if is then Some no_content else None)) }
+    /// What a cell that is put down at that index leaves there: an empty chest if it `is` one, and
+    /// none otherwise. `was` says whether the cell before it was a chest.
+    pub fn replace(&mut self, index: u32, was: bool, is: bool) -> Result<(), AllocError>
+        requires { was ≡ false → slots_of_chest self.old index ≡ None }
+        ensures ok { OnOk result
+            (Changes self.old self.new index (if is then Some no_content else None)) }
         ensures err { OnErr result (self.new ≡ self.old) }
         ensures always { is ≡ false → IsOk result }
     {
         if is {
-            return self.put(place);
+            return self.put(index);
         }
         if was {
-            self.remove(place);
+            self.remove(index);
         }
         Ok(())
     }
 
-    /// Puts something else into a slot of the chest at that place.
-    pub fn set(&mut self, place: u32, slot: u8, content: Slot)
-        requires there { IsSome (slots_at self.old place) }
+    /// Puts something else into a slot of the chest at that index.
+    pub fn set(&mut self, index: u32, slot: u8, content: Slot)
+        requires there { IsSome (slots_of_chest self.old index) }
         requires slot { slot < 27 }
-        ensures { Changes self.old self.new place (option_map (λ slots. slice_set slots slot content) (slots_at self.old place)) }
+        ensures { Changes self.old self.new index
+            (refilled slot content (slots_of_chest self.old index)) }
     {
-        let slots = self.slots.get_mut(&place).unwrap();
+        let slots = self.slots.get_mut(&index).unwrap();
         slots[slot as usize] = content;
     }
 
@@ -97,9 +97,10 @@ impl Chests {
         })
     }
 
-    /// Whether both have chests at the same places, with the same in each slot.
+    /// Whether both have chests at the same indices, with the same in each slot.
     pub fn same(&self, other: &Chests) -> bool
-        ensures { Decides result ((place : ℕ) → slots_at self.now place ≡ slots_at other.now place) }
+        ensures { IsTrue result
+            ↔ ((index : ℕ) → slots_of_chest self.now index ≡ slots_of_chest other.now index) }
     {
         self.slots == other.slots
     }

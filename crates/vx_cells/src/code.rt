@@ -1,7 +1,7 @@
 //! The bytes that stand for cells: each of the 165 cells has one, below 165.
 ghost use Rattle.std.specs.Prelude.{◌≡◌, ◌+◌, ◌*◌, ◌/◌, ◌<◌, ◌≤◌};
 ghost use Rattle.vx_block.specs.declared.cell.Cell.TheVariants.{Torch, Lever, Piston, Head};
-ghost use Rattle.vx_cells.specs.Codes.{code_count, is_odd, plain_at, side_at, mount_at, dir_at, delay_at, wait_at, repeater_at, lamp_at, state_of, cell_of};
+ghost use Rattle.vx_cells.specs.Codes.{code_count, is_odd, plain_at, side_at, mount_at, dir_at, delay_at, wait_at, repeater_at, lamp_at, cell_with_state, cell_of};
 ghost use Rattle.vx_cells.specs.SectorCells.{is_chest};
 ghost use Rattle.vx_block.specs.States.{ticks_of};
 
@@ -48,11 +48,11 @@ fn plain(code: u8) -> Cell
 }
 
 // The cell with state of that byte, kind by kind.
-#[tactic(auto, unfolding(crate::specs::Codes::state_of))]
+#[tactic(auto, unfolding(crate::specs::Codes::cell_with_state))]
 fn decode_state(code: u8) -> Cell
     requires stated { 8 ≤ code }
     requires within { code < code_count }
-    ensures { result ≡ state_of code }
+    ensures { result ≡ cell_with_state code }
 {
     if code < 24 {
         return Cell::Dust(Level::new(code - 8));
@@ -199,7 +199,7 @@ fn lamp(code: u8) -> Lamp
 }
 
 /// The byte of that cell.
-#[tactic(auto, unfolding(crate::specs::Codes::cell_of, crate::specs::Codes::state_of))]
+#[tactic(auto, unfolding(crate::specs::Codes::cell_of, crate::specs::Codes::cell_with_state))]
 pub fn encode(cell: Cell) -> u8
     ensures cell { cell_of result ≡ cell }
     ensures within { result < code_count }
@@ -237,7 +237,7 @@ fn two(code: u8, bit: bool) -> u8
     if bit { 2 * code + 1 } else { 2 * code }
 }
 
-#[tactic(auto, unfolding(crate::specs::Codes::cell_of, crate::specs::Codes::state_of))]
+#[tactic(auto, unfolding(crate::specs::Codes::cell_of, crate::specs::Codes::cell_with_state))]
 fn piston_code(code: u8, sticky: bool) -> u8
     requires { code < 12 }
     ensures cell { cell_of result ≡ Piston (dir_at (code / 2)) sticky (is_odd code) }
@@ -250,12 +250,12 @@ fn repeater_code(repeater: Repeater) -> u8
     ensures value { repeater_at result ≡ repeater }
     ensures most { result < 80 }
 {
-    let count = count_of(repeater.delay(), repeater.wait());
+    let count = delay_code(repeater.delay(), repeater.wait());
     two(10 * side_code(repeater.facing()) + count, repeater.is_on())
 }
 
 // The number of a delay and what is left of a count.
-fn count_of(delay: Delay, wait: u8) -> u8
+fn delay_code(delay: Delay, wait: u8) -> u8
     requires { wait < ticks_of delay }
     ensures delay { delay_at result ≡ delay }
     ensures wait { wait_at result ≡ wait }

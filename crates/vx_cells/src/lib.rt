@@ -9,4 +9,4 @@ mod stack;
 
 pub use cells::Cells;
 pub use laws::{other_blocks_stay, set_block_is_read};
-pub use stack::{SLOTS, Slot, Stack};
+pub use stack::{MAX_COUNT, SLOTS, Slot, Stack};

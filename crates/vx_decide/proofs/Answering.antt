@@ -9,8 +9,8 @@ use Rattle.vx_region.specs.Regions.{Entry}
 use Rattle.vx_decide.specs.declared.answer.Answer.{Answer}
 use Rattle.vx_decide.specs.declared.question.Question.{Question}
 use Rattle.vx_decide.specs.declared.value.Value.{Value}
-use Rattle.vx_decide.specs.Answers.{In, IsLeast, IsTaken, IsAnswer, value_for, state_of}
-use Rattle.vx_decide.specs.Asked.{Asked}
+use Rattle.vx_decide.specs.Answers.{In, IsLeast, IsTaken, IsAnswer, value_for, value_state}
+use Rattle.vx_decide.specs.Cases.{Case}
 use Rattle.vx_decide.specs.Effective.{region_no}
 use Rattle.vx_decide.specs.Laws.{DecidedIsAnswer, AnswersAreOne, AnswerIsDecided}
 use Rattle.vx_decide.specs.Query.{flag_of_question, is_taken, is_denying, first_denying, first_taken, decider, answer_at, decided}
@@ -19,7 +19,7 @@ use Rattle.vx_decide.proofs.Picks.{below_each, least_found, least_none}
 use Rattle.vx_decide.proofs.Taken.{denying_parts, taken_value, denies, denied}
 
 -- the answer of the region of a number names it and has its value
-pub answer_parts : (q : Question) (a : Asked) (n : ℕ) (answer : Answer) → answer_at a (flag_of_question q) n ≡ Some answer
+pub answer_parts : (q : Question) (a : Case) (n : ℕ) (answer : Answer) → answer_at a (flag_of_question q) n ≡ Some answer
     → (n ≡ answer.at.0) × (value_for q a n ≡ Some answer.value)
 unfolding answer_at
 answer_parts q a n answer is = by (value_for q a n) is
@@ -32,23 +32,23 @@ answer_parts q a n answer is = by (value_for q a n) is
         (ap (λ (x : Answer). x.at.0) one, ap (λ (x : Answer). Some x.value) one)
 
 -- and where it has a value, it answers
-pub answer_from : (q : Question) (a : Asked) (n : ℕ) (v : Value) → value_for q a n ≡ Some v
+pub answer_from : (q : Question) (a : Case) (n : ℕ) (v : Value) → value_for q a n ≡ Some v
     → answer_at a (flag_of_question q) n ≡ Some (record { at = region_no n; value = v })
 unfolding answer_at
 answer_from q a n v is = ap (option_map (λ v. record { at = region_no n; value = v })) is
 
 -- what is taken and has a value that denies is denying
-denying_from : (q : Question) (a : Asked) (e : Entry) → IsTaken q a e → state_of (value_for q a e.0) ≡ Some Deny
+denying_from : (q : Question) (a : Case) (e : Entry) → IsTaken q a e → value_state (value_for q a e.0) ≡ Some Deny
     → In (is_denying q a) a.regions.entries e
 unfolding is_denying
 denying_from q a e taken says = record { among = taken.among; passes = and_from _ _ (denied (value_for q a e.0) says) taken.passes }
 
 -- the answer of the least that denies
-of_denying : (q : Question) (a : Asked) (answer : Answer) → IsLeast (is_denying q a) a.regions.entries answer.at.0
+of_denying : (q : Question) (a : Case) (answer : Answer) → IsLeast (is_denying q a) a.regions.entries answer.at.0
     → value_for q a answer.at.0 ≡ Some answer.value → IsAnswer q a answer
 of_denying q a answer low value =
     let parts = denying_parts q a (answer.at.0, low.region) low.member.passes in
-    let deny : Some answer.value.state ≡ Some Deny = sym (ap state_of value) ∙ denies (value_for q a answer.at.0) parts.0 in
+    let deny : Some answer.value.state ≡ Some Deny = sym (ap value_state value) ∙ denies (value_for q a answer.at.0) parts.0 in
     record {
       region = low.region;
       taken = record { among = low.member.among; passes = parts.1 };
@@ -58,7 +58,7 @@ of_denying q a answer low value =
     }
 
 -- the answer of the least taken, where none denies
-of_taken : (q : Question) (a : Asked) (answer : Answer) → least (is_denying q a) a.regions.entries ≡ None
+of_taken : (q : Question) (a : Case) (answer : Answer) → least (is_denying q a) a.regions.entries ≡ None
     → IsLeast (is_taken q a) a.regions.entries answer.at.0 → value_for q a answer.at.0 ≡ Some answer.value → IsAnswer q a answer
 of_taken q a answer none low value = record {
   region = low.region;
@@ -92,7 +92,7 @@ decided_is q a answer found = by (least (is_denying q a) a.regions.entries) refl
         (subst (λ k. value_for q a k ≡ Some answer.value) parts.0 parts.1)
 
 -- where a region is taken, some answer is decided
-pub decided_some : (q : Question) (a : Asked) (e : Entry) → IsTaken q a e → (answer : Answer) × (decided q a ≡ Some answer)
+pub decided_some : (q : Question) (a : Case) (e : Entry) → IsTaken q a e → (answer : Answer) × (decided q a ≡ Some answer)
 unfolding decided decider first_denying first_taken
 decided_some q a e taken = by (least (is_denying q a) a.regions.entries) refl
   where
@@ -121,14 +121,14 @@ two_states Allow Deny there back = back refl
 two_states Allow Allow there back = refl
 
 -- an answer denies where another does
-denies_too : (q : Question) (a : Asked) (x y : Answer) → IsAnswer q a x → IsAnswer q a y → x.value.state ≡ Deny → y.value.state ≡ Deny
-denies_too q a x y is also deny = also.deny_wins (x.at.0, is.region) is.taken (ap state_of is.value ∙ ap Some deny)
+denies_too : (q : Question) (a : Case) (x y : Answer) → IsAnswer q a x → IsAnswer q a y → x.value.state ≡ Deny → y.value.state ≡ Deny
+denies_too q a x y is also deny = also.deny_wins (x.at.0, is.region) is.taken (ap value_state is.value ∙ ap Some deny)
 
 pub one_answer : AnswersAreOne
 one_answer q a x y is also =
     let same = two_states x.value.state y.value.state (denies_too q a x y is also) (denies_too q a y x also is) in
-    let low = is.least (y.at.0, also.region) also.taken (ap state_of also.value ∙ ap Some (sym same)) in
-    let less = also.least (x.at.0, is.region) is.taken (ap state_of is.value ∙ ap Some same) in
+    let low = is.least (y.at.0, also.region) also.taken (ap value_state also.value ∙ ap Some (sym same)) in
+    let less = also.least (x.at.0, is.region) is.taken (ap value_state is.value ∙ ap Some same) in
     let at : x.at.0 ≡ y.at.0 = omega arith in
     let value = same_Some x.value y.value (sym is.value ∙ ap (value_for q a) at ∙ also.value) in
     λ i. record { at = record { 0 = at i }; value = value i }

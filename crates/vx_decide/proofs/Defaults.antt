@@ -12,7 +12,7 @@ use Rattle.vx_region.specs.Subjects.{Actor}
 use Rattle.vx_decide.specs.declared.question.Question.{Question}
 use Rattle.vx_decide.specs.declared.question.Question.TheVariants.{OnFlag, OnBuilding}
 use Rattle.vx_decide.specs.Answers.{Counts}
-use Rattle.vx_decide.specs.Asked.{Asked}
+use Rattle.vx_decide.specs.Cases.{Case}
 use Rattle.vx_decide.specs.Effective.{heard, value_at, first_of, effective}
 use Rattle.vx_decide.specs.Laws.{NothingSaidPermits, EmptyWorldPermitsAll}
 use Rattle.vx_decide.specs.Rulings.{IsClosedAtLarge}
@@ -23,7 +23,7 @@ use Rattle.vx_decide.proofs.Rulings.{none_counts_taken, silent_default}
 pub nothing_said_permits : NothingSaidPermits
 unfolding verdict
 nothing_said_permits rs s action p none =
-    let a : Asked = record { regions = rs; actor = s; place = p } in
+    let a : Case = record { regions = rs; actor = s; place = p } in
     let f = flag_of_action action in
     silent_default f a (record {
       silent = record { regions = none_counts_taken (OnFlag f) a none.regions; at_large = none.at_large };
@@ -58,12 +58,12 @@ unset_everywhere rs s f none unset =
     ∙ ap (λ o. option_or (heard 0 a o) None) (nothing_set f)
 
 -- without regions none counts
-nobody_counts : (q : Question) (a : Asked) (e : Entry) → a.regions.entries ≡ [] → Counts q a e → ⊥
+nobody_counts : (q : Question) (a : Case) (e : Entry) → a.regions.entries ≡ [] → Counts q a e → ⊥
 nobody_counts q a e none is = in_none e (subst (λ es. Contains es e) none is.among)
 
 pub empty_world_permits_all : EmptyWorldPermitsAll
 empty_world_permits_all rs s action p none unset =
-    let a : Asked = record { regions = rs; actor = s; place = p } in
+    let a : Case = record { regions = rs; actor = s; place = p } in
     let open_to_all : IsClosedAtLarge a → ⊥ = λ closed. cc (unset_everywhere rs s Passthrough none unset) in
     nothing_said_permits rs s action p (record {
       regions = λ e is. nobody_counts (OnFlag (flag_of_action action)) a e none is;

@@ -40,7 +40,7 @@ pub highest : (members : Members) (es : List Entry) (z : ℤ) → none_higher me
 unfolding top is_at_most
 highest members es z = sym (from_at_most members None es z)
 
--- a turn of a walk over the regions for the greatest priority
+-- a step of a walk over the regions for the greatest priority
 pub top_step : (members : Members) (best : Option ℤ) (es : List Entry) (i : ℕ) (e : Entry) → slice_get es i ≡ Some e
     → top_from members (if members e then Some (raised best e.1.priority) else best) (drop (i + 1) es) ≡ top_from members best (drop i es)
 top_step members best es i e item = sym (ap (top_from members best) (drop_at es i e item))

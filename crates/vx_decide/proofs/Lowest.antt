@@ -15,7 +15,7 @@ use Rattle.vx_decide.specs.declared.question.Question.{Question}
 use Rattle.vx_decide.specs.declared.question.Question.TheVariants.{OnFlag}
 use Rattle.vx_decide.specs.declared.rule.Rule.TheVariants as rule
 use Rattle.vx_decide.specs.Answers.{In, IsTaken, Counts}
-use Rattle.vx_decide.specs.Asked.{Asked}
+use Rattle.vx_decide.specs.Cases.{Case}
 use Rattle.vx_decide.specs.Laws.{ValuesAtThePlaceDecide, DefaultOnlyWhereNothingIsSaid}
 use Rattle.vx_decide.specs.Query.{has_say, is_top, speaks, is_taken}
 use Rattle.vx_decide.specs.RegionGroups.{is_above_one, is_lowest}
@@ -31,11 +31,11 @@ entry_known rs e numbered among =
     region_at_place rs among.0 e.0 e.1 numbered (slice_get-get_or rs.entries among.0 e among.1 ∙ ap Some among.2)
 
 -- how long the ancestry of a region is
-abbrev depth : Asked → Entry → ℤ
+abbrev depth : Case → Entry → ℤ
 depth a e = pos (length (ancestors a.regions e.0))
 
 -- the deepest that speaks is above no other that does
-deepest_is_lowest : (q : Question) (a : Asked) → IsForest a.regions → (deep : Greatest (depth a) (speaks q a) a.regions.entries)
+deepest_is_lowest : (q : Question) (a : Case) → IsForest a.regions → (deep : Greatest (depth a) (speaks q a) a.regions.entries)
     → is_above_one (speaks q a) a.regions deep.entry.0 ≡ true → ⊥
 unfolding is_above_one
 deepest_is_lowest q a forest deep above =
@@ -47,7 +47,7 @@ deepest_is_lowest q a forest deep above =
     omega (arith, ints)
 
 -- where some speak, one is taken
-pub some_is_taken : (q : Question) (a : Asked) (e : Entry) → IsForest a.regions → In (speaks q a) a.regions.entries e
+pub some_is_taken : (q : Question) (a : Case) (e : Entry) → IsForest a.regions → In (speaks q a) a.regions.entries e
     → (t : Entry) × IsTaken q a t
 unfolding is_taken is_lowest
 some_is_taken q a e forest is =
@@ -56,12 +56,12 @@ some_is_taken q a e forest is =
     (deep.entry, record { among = deep.member.among; passes = and_from _ _ deep.member.passes lowest })
 
 -- what is of highest priority on a flag speaks
-top_speaks : (f : Flag) (a : Asked) (e : Entry) → is_top (OnFlag f) a e ≡ true → speaks (OnFlag f) a e ≡ true
+top_speaks : (f : Flag) (a : Case) (e : Entry) → is_top (OnFlag f) a e ≡ true → speaks (OnFlag f) a e ≡ true
 unfolding has_say
 top_speaks f a e top = speaks_from (OnFlag f) a e top (counts_parts (OnFlag f) a e (top_parts (OnFlag f) a e top).1).1
 
 -- where some count on a flag, one is taken
-pub some_count_some_taken : (f : Flag) (a : Asked) (e : Entry) → IsForest a.regions → Counts (OnFlag f) a e
+pub some_count_some_taken : (f : Flag) (a : Case) (e : Entry) → IsForest a.regions → Counts (OnFlag f) a e
     → (t : Entry) × IsTaken (OnFlag f) a t
 some_count_some_taken f a e forest is =
     let top = some_on_top (OnFlag f) a e is in
@@ -72,7 +72,7 @@ values_at_the_place_decide f a e forest is = let taken = some_count_some_taken f
 
 pub default_only_where_nothing_is_said : DefaultOnlyWhereNothingIsSaid
 default_only_where_nothing_is_said rs s action p forest is =
-    let a : Asked = record { regions = rs; actor = s; place = p } in
+    let a : Case = record { regions = rs; actor = s; place = p } in
     let f = flag_of_action action in
     let holds = rule_holds rs s action p Allow rule.Default is in
     let nobody = λ (e : Entry) (counted : Counts (OnFlag f) a e). let taken = some_count_some_taken f a e forest counted in

@@ -12,7 +12,7 @@ use Rattle.vx_decide.specs.declared.question.Question.TheVariants.{OnBuilding}
 use Rattle.vx_decide.specs.declared.rule.Rule.TheVariants as rule
 use Rattle.vx_decide.specs.declared.verdict.Verdict.TheVariants as verdict
 use Rattle.vx_decide.specs.Answers.{In, OnTop, Fails, IsSatisfied, MemberDenies, MemberPermits}
-use Rattle.vx_decide.specs.Asked.{Asked}
+use Rattle.vx_decide.specs.Cases.{Case}
 use Rattle.vx_decide.specs.Build.{admits, is_home, is_satisfied, is_failing, first_failing, first_home, member_at, ruled, by_build, by_answer, by_passthrough, in_the_open, by_members, by_membership}
 use Rattle.vx_decide.specs.Effective.{region_no, effective, is_deny}
 use Rattle.vx_decide.specs.Laws.{MembershipDeniesWhereOneFails, MembershipPermitsWhereNoneFails}
@@ -22,20 +22,20 @@ use Rattle.vx_decide.proofs.Picks.{any_at, any_from, least_found, least_none}
 use Rattle.vx_decide.proofs.Taken.{counts_parts, top_parts}
 
 -- what is of highest priority contains the place
-pub top_contains : (a : Asked) (e : Entry) → is_top OnBuilding a e ≡ true → contains a e ≡ true
+pub top_contains : (a : Case) (e : Entry) → is_top OnBuilding a e ≡ true → contains a e ≡ true
 top_contains a e is = (counts_parts OnBuilding a e (top_parts OnBuilding a e is).1).0
 
 -- a region that admits the actor, of highest priority
-pub home_parts : (a : Asked) (e : Entry) → is_home a e ≡ true → (admits a e.0 ≡ true) × (is_top OnBuilding a e ≡ true)
+pub home_parts : (a : Case) (e : Entry) → is_home a e ≡ true → (admits a e.0 ≡ true) × (is_top OnBuilding a e ≡ true)
 unfolding is_home
 home_parts a e is = and_parts (admits a e.0) (is_top OnBuilding a e) is
 
-pub home_from : (a : Asked) (e : Entry) → admits a e.0 ≡ true → is_top OnBuilding a e ≡ true → is_home a e ≡ true
+pub home_from : (a : Case) (e : Entry) → admits a e.0 ≡ true → is_top OnBuilding a e ≡ true → is_home a e ≡ true
 unfolding is_home
 home_from a e insider top = and_from _ _ insider top
 
 -- the test for a region that is satisfied says what it is to be
-satisfied_parts : (a : Asked) (e : Entry) → is_satisfied a e.0 ≡ true → IsSatisfied a e
+satisfied_parts : (a : Case) (e : Entry) → is_satisfied a e.0 ≡ true → IsSatisfied a e
 unfolding is_satisfied is_above_one
 satisfied_parts a e is = elim (or_cases (admits a e.0) (is_above_one (is_home a) a.regions e.0) is) [
   | inl insider ↦ inl insider
@@ -50,7 +50,7 @@ satisfied_parts a e is = elim (or_cases (admits a e.0) (is_above_one (is_home a)
         let home = home_parts a found.0 parts.1 in
         (found.0, record { among = found.1; passes = home.1 }, home.0, parts.0)
 
-satisfied_from : (a : Asked) (e : Entry) → IsSatisfied a e → is_satisfied a e.0 ≡ true
+satisfied_from : (a : Case) (e : Entry) → IsSatisfied a e → is_satisfied a e.0 ≡ true
 unfolding is_satisfied is_above_one
 satisfied_from a e is = elim is [
   | inl insider ↦ or_left _ _ insider
@@ -61,18 +61,18 @@ satisfied_from a e is = elim is [
 ]
 
 -- a region that fails is of highest priority and not satisfied
-failing_parts : (a : Asked) (e : Entry) → is_failing a e ≡ true → (is_top OnBuilding a e ≡ true) × (is_satisfied a e.0 ≡ false)
+failing_parts : (a : Case) (e : Entry) → is_failing a e ≡ true → (is_top OnBuilding a e ≡ true) × (is_satisfied a e.0 ≡ false)
 unfolding is_failing
 failing_parts a e is =
     let parts = and_parts (is_top OnBuilding a e) (not (is_satisfied a e.0)) is in
     (parts.0, not-true (is_satisfied a e.0) parts.1)
 
-failing_from : (a : Asked) (e : Entry) → is_top OnBuilding a e ≡ true → is_satisfied a e.0 ≡ false → is_failing a e ≡ true
+failing_from : (a : Case) (e : Entry) → is_top OnBuilding a e ≡ true → is_satisfied a e.0 ≡ false → is_failing a e ≡ true
 unfolding is_failing
 failing_from a e top not_so = and_from _ _ top (not_from_false (is_satisfied a e.0) not_so)
 
 -- a region fails exactly where the test says so
-pub fails : (a : Asked) (e : Entry) → In (is_failing a) a.regions.entries e → Fails a e
+pub fails : (a : Case) (e : Entry) → In (is_failing a) a.regions.entries e → Fails a e
 fails a e is =
     let parts = failing_parts a e is.passes in
     let unless = λ (so : IsSatisfied a e). true≢false (sym (satisfied_from a e so) ∙ parts.1) in
@@ -83,25 +83,25 @@ fails a e is =
     }
 
 -- what fails is not satisfied
-pub unsatisfied : (a : Asked) (e : Entry) → Fails a e → IsSatisfied a e → ⊥
+pub unsatisfied : (a : Case) (e : Entry) → Fails a e → IsSatisfied a e → ⊥
 unsatisfied a e is so = elim so [
   | inl insider ↦ true≢false (sym insider ∙ is.stranger)
   | inr below ↦ true≢false (sym below.3 ∙ is.no_home below.0 below.1 below.2)
 ]
 
-pub failing : (a : Asked) (e : Entry) → Fails a e → In (is_failing a) a.regions.entries e
+pub failing : (a : Case) (e : Entry) → Fails a e → In (is_failing a) a.regions.entries e
 failing a e is =
     let not_so = false_from_ne_true (is_satisfied a e.0) (λ so. unsatisfied a e is (satisfied_parts a e so)) in
     record { among = is.top.among; passes = failing_from a e is.top.passes not_so }
 
 -- where none fails, each region of highest priority is satisfied
-pub satisfied_where_none_fails : (a : Asked) (e : Entry) → first_failing a ≡ None → OnTop a e → IsSatisfied a e
+pub satisfied_where_none_fails : (a : Case) (e : Entry) → first_failing a ≡ None → OnTop a e → IsSatisfied a e
 unfolding first_failing
 satisfied_where_none_fails a e none top = satisfied_parts a e (true_from_ne_false _ λ not_so.
     least_none (is_failing a) a.regions.entries e none (record { among = top.among; passes = failing_from a e top.passes not_so }))
 
 -- where one fails, the least denies
-pub denies_membership : (a : Asked) (n : ℕ) → first_failing a ≡ Some n → MemberDenies a n
+pub denies_membership : (a : Case) (n : ℕ) → first_failing a ≡ Some n → MemberDenies a n
 unfolding first_failing
 denies_membership a n found =
     let low = least_found (is_failing a) a.regions.entries n found in
@@ -114,7 +114,7 @@ denies_membership a n found =
     }
 
 -- where none fails, the least that admits permits
-pub permits_membership : (a : Asked) (n : ℕ) → first_failing a ≡ None → first_home a ≡ Some n → MemberPermits a n
+pub permits_membership : (a : Case) (n : ℕ) → first_failing a ≡ None → first_home a ≡ Some n → MemberPermits a n
 unfolding first_home
 permits_membership a n none found =
     let low = least_found (is_home a) a.regions.entries n found in
@@ -149,7 +149,7 @@ passing_permits true n same = cc
 passing_permits false n same = cc
 
 -- and so with all that the world at large says
-open_denies : (a : Asked) (n : ℕ) → in_the_open a ≡ verdict.Deny (member_at n) → n ≡ 0
+open_denies : (a : Case) (n : ℕ) → in_the_open a ≡ verdict.Deny (member_at n) → n ≡ 0
 unfolding in_the_open by_passthrough
 open_denies a n same = by (answer_at a Build 0) same
   where
@@ -157,7 +157,7 @@ open_denies a n same = by (answer_at a Build 0) same
     by (Some answer) is = built_denies answer.value.state answer.at answer.value.from n is
     by None is = passing_denies (is_deny (effective a.regions a.actor Passthrough 0)) n is
 
-open_permits : (a : Asked) (n : ℕ) → in_the_open a ≡ verdict.Permit (member_at n) → ⊥
+open_permits : (a : Case) (n : ℕ) → in_the_open a ≡ verdict.Permit (member_at n) → ⊥
 unfolding in_the_open by_passthrough
 open_permits a n same = by (answer_at a Build 0) same
   where

@@ -1,4 +1,4 @@
--- The turns of a walk up the ancestry for the first region that answers.
+-- The steps of a walk up the ancestry for the first region that answers.
 use Rattle.std.proofs.Common.{◌≡◌, ℕ, ◌+◌, true, false, Option, Some, None, is_some, refl, ap, ◌∙◌}
 use Rattle.std.specs.Option.{option_or}
 use Rattle.vx_region.specs.Regions.{Regions, parent_of}
@@ -27,6 +27,6 @@ module _ {X : Type 0} (f : ℕ → Option X) where
   pub first_last : (rs : Regions) (j k r : ℕ) → j ≡ k + 1 → is_some (f r) ≡ false → parent_of rs r ≡ None → first_of f (chain j rs r) ≡ None
   first_last rs j k r more none last = chain_last (first_of f) rs j k r more last ∙ or_next (f r) None none
 
-  -- no turn is left
+  -- no step is left
   pub first_over : (rs : Regions) (j r : ℕ) → j ≡ 0 → first_of f (chain j rs r) ≡ None
   first_over rs j r none = ap (λ n. first_of f (chain n rs r)) none

@@ -7,7 +7,7 @@ use Rattle.vx_region.specs.Ancestry.{is_above}
 use Rattle.vx_region.specs.Regions.{Entry}
 use Rattle.vx_decide.specs.declared.question.Question.{Question}
 use Rattle.vx_decide.specs.Answers.{In, Speaks, Counts}
-use Rattle.vx_decide.specs.Asked.{Asked}
+use Rattle.vx_decide.specs.Cases.{Case}
 use Rattle.vx_decide.specs.Effective.{has_value}
 use Rattle.vx_decide.specs.Laws.{TakenSpeaksLowest, SpeaksLowestIsTaken, OneDenialDenies, DeciderContainsThePlace, TopIsHighest, HigherPriorityDecides, ChildStandsBeforeParent, ChildAtTheSamePriority}
 use Rattle.vx_decide.specs.Query.{flag_of_question, counts, is_top, speaks, is_taken}
@@ -57,13 +57,13 @@ pub top_is_highest : TopIsHighest
 top_is_highest q a d e is top = none_higher_at (counts q a) a.regions.entries e.1.priority d (top_parts q a e top).0 is
 
 -- what counts is of highest priority where none that counts has a higher one
-pub top_from : (q : Question) (a : Asked) (e : Entry) → counts q a e ≡ true
+pub top_from : (q : Question) (a : Case) (e : Entry) → counts q a e ≡ true
     → ((d : Entry) → Counts q a d → d.1.priority ≤ℤ e.1.priority) → is_top q a e ≡ true
 unfolding is_top is_highest
 top_from q a e is each = and_from _ _ (none_higher_from (counts q a) a.regions.entries e.1.priority each) is
 
 -- what is taken is of highest priority
-pub taken_top : (q : Question) (a : Asked) (e : Entry) → is_taken q a e ≡ true → is_top q a e ≡ true
+pub taken_top : (q : Question) (a : Case) (e : Entry) → is_taken q a e ≡ true → is_top q a e ≡ true
 taken_top q a e taken = (speaks_parts q a e (taken_parts q a e taken).0).0
 
 pub higher_priority_decides : HigherPriorityDecides
@@ -80,13 +80,13 @@ child_stands_before_parent q a child parent is above =
     false_from_ne_true _ (λ taken. true≢false (sym some ∙ (taken_parts q a parent taken).1))
 
 -- what is of highest priority and has a value speaks
-pub speaks_from : (q : Question) (a : Asked) (e : Entry) → is_top q a e ≡ true
+pub speaks_from : (q : Question) (a : Case) (e : Entry) → is_top q a e ≡ true
     → has_value a.regions a.actor (flag_of_question q) e.0 ≡ true → speaks q a e ≡ true
 unfolding speaks
 speaks_from q a e top has = and_from _ _ top has
 
 -- beside one of highest priority, each that counts and has no lower priority is so too
-pub top_too : (q : Question) (a : Asked) (d e : Entry) → is_top q a e ≡ true → counts q a d ≡ true
+pub top_too : (q : Question) (a : Case) (d e : Entry) → is_top q a e ≡ true → counts q a d ≡ true
     → e.1.priority ≤ℤ d.1.priority → is_top q a d ≡ true
 top_too q a d e top is above = top_from q a d is λ x counted. let low = top_is_highest q a x e counted top in grind (arith, ints)
 
@@ -97,7 +97,7 @@ child_at_the_same_priority q a child parent is has level above = false_from_ne_t
     true≢false (sym taken ∙ child_stands_before_parent q a child parent speaking above)
 
 -- what the test for speaking says
-speaks_is : (q : Question) (a : Asked) (e : Entry) → In (speaks q a) a.regions.entries e → Speaks q a e
+speaks_is : (q : Question) (a : Case) (e : Entry) → In (speaks q a) a.regions.entries e → Speaks q a e
 speaks_is q a e is =
     let parts = speaks_parts q a e is.passes in
     record {
@@ -106,7 +106,7 @@ speaks_is q a e is =
       value = parts.1;
     }
 
-is_speaking : (q : Question) (a : Asked) (e : Entry) → Speaks q a e → In (speaks q a) a.regions.entries e
+is_speaking : (q : Question) (a : Case) (e : Entry) → Speaks q a e → In (speaks q a) a.regions.entries e
 is_speaking q a e is =
     record { among = is.counts.among; passes = speaks_from q a e (top_from q a e is.counts.passes is.highest) is.value }
 

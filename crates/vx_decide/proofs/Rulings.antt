@@ -17,12 +17,12 @@ use Rattle.vx_decide.specs.declared.value.Value.{Value}
 use Rattle.vx_decide.specs.declared.verdict.Verdict.{Verdict}
 use Rattle.vx_decide.specs.declared.verdict.Verdict.TheVariants as verdicts
 use Rattle.vx_decide.specs.Answers.{In, Counts, IsAnswer, IsAtPlace, OnTop, IsSatisfied, MemberDenies, MemberPermits, IsLeast}
-use Rattle.vx_decide.specs.Asked.{Asked}
+use Rattle.vx_decide.specs.Cases.{Case}
 use Rattle.vx_decide.specs.Build.{admits, is_failing, is_home, first_failing, first_home, member_at, ruled, by_build, by_answer, by_passthrough, in_the_open, by_members, by_membership, build}
 use Rattle.vx_decide.specs.Effective.{region_no, effective, is_deny}
 use Rattle.vx_decide.specs.Laws.{RuleOfTheVerdictHolds, RuleThatHoldsIsTheVerdict, VerdictNamesARegionAtThePlace}
 use Rattle.vx_decide.specs.Query.{counts, is_top, answer_at, decided, query}
-use Rattle.vx_decide.specs.Rulings.{NoneIsTaken, NoneCounts, IsUnsetAtLarge, IsClosedAtLarge, IsWorldAnswer, FlagAnswers, FlagIsSilent, BuildAnswers, BuildIsSilent, answer_of, ByDefault, RuleHolds, number_of_rule}
+use Rattle.vx_decide.specs.Rulings.{NoneIsTaken, NoneCounts, IsUnsetAtLarge, IsClosedAtLarge, IsWorldAnswer, FlagAnswers, FlagIsSilent, BuildAnswers, BuildIsSilent, answer_from_parts, ByDefault, RuleHolds, number_of_rule}
 use Rattle.vx_decide.specs.Verdict.{by_flag, decided_by, verdict}
 use Rattle.vx_decide.proofs.Answering.{answer_parts, answer_from, decided_is, decided_some, answer_decided}
 use Rattle.vx_decide.proofs.Membership.{fails, failing, unsatisfied, home_from, home_parts, denies_membership, permits_membership, satisfied_where_none_fails}
@@ -31,23 +31,23 @@ use Rattle.vx_decide.proofs.Ranks.{top_from, taken_top}
 use Rattle.vx_decide.proofs.Taken.{top_parts, taken_contains, denies, denied}
 
 -- a verdict by a rule that holds
-record Ruling (f : Flag) (a : Asked) (v : Verdict) : Type 0 where
+record Ruling (f : Flag) (a : Case) (v : Verdict) : Type 0 where
   state : State
   named : Rule
   is : v ≡ ruled state named
   holds : RuleHolds f a state named
 
 -- where some region counts, one is of highest priority
-pub some_on_top : (q : Question) (a : Asked) (e : Entry) → Counts q a e → (t : Entry) × In (is_top q a) a.regions.entries t
+pub some_on_top : (q : Question) (a : Case) (e : Entry) → Counts q a e → (t : Entry) × In (is_top q a) a.regions.entries t
 some_on_top q a e is =
     let most = greatest (λ d. d.1.priority) (counts q a) a.regions.entries e is in
     (most.entry, record { among = most.member.among; passes = top_from q a most.entry most.member.passes most.highest })
 
 -- where none is decided, none is taken, and the other way round
-pub none_taken : (q : Question) (a : Asked) → decided q a ≡ None → NoneIsTaken q a
+pub none_taken : (q : Question) (a : Case) → decided q a ≡ None → NoneIsTaken q a
 none_taken q a none e taken = let some = decided_some q a e taken in cc
 
-pub none_decided : (q : Question) (a : Asked) → NoneIsTaken q a → decided q a ≡ None
+pub none_decided : (q : Question) (a : Case) → NoneIsTaken q a → decided q a ≡ None
 none_decided q a none = by (decided q a) refl
   where
     by : (o : Option Answer) → decided q a ≡ o → o ≡ None
@@ -55,7 +55,7 @@ none_decided q a none = by (decided q a) refl
     by (Some answer) is = let it = decided_is q a answer is in absurd (none (answer.at.0, it.region) it.taken)
 
 -- where none fails and none admits, no region counts
-none_counts : (a : Asked) → first_failing a ≡ None → first_home a ≡ None → NoneCounts OnBuilding a
+none_counts : (a : Case) → first_failing a ≡ None → first_home a ≡ None → NoneCounts OnBuilding a
 unfolding first_home
 none_counts a sound homeless e is =
     let top = some_on_top OnBuilding a e is in
@@ -67,16 +67,16 @@ none_counts a sound homeless e is =
     ]
 
 -- what the world at large answers
-world_answers : (f : Flag) (a : Asked) (answer : Answer) → answer_at a f 0 ≡ Some answer → IsWorldAnswer f a answer
+world_answers : (f : Flag) (a : Case) (answer : Answer) → answer_at a f 0 ≡ Some answer → IsWorldAnswer f a answer
 world_answers f a answer is = let parts = answer_parts (OnFlag f) a 0 answer is in record { at = sym parts.0; value = parts.1 }
 
-world_answer_is : (f : Flag) (a : Asked) (answer : Answer) → IsWorldAnswer f a answer → answer_at a f 0 ≡ Some answer
+world_answer_is : (f : Flag) (a : Case) (answer : Answer) → IsWorldAnswer f a answer → answer_at a f 0 ≡ Some answer
 world_answer_is f a answer is =
     answer_from (OnFlag f) a 0 answer.value is.value
     ∙ ap (λ n. Some (record { at = region_no n; value = answer.value })) (sym is.at)
 
 -- where it does not answer, it has no value
-unset_at_large : (f : Flag) (a : Asked) → answer_at a f 0 ≡ None → IsUnsetAtLarge f a
+unset_at_large : (f : Flag) (a : Case) → answer_at a f 0 ≡ None → IsUnsetAtLarge f a
 unfolding answer_at
 unset_at_large f a is = by (effective a.regions a.actor f 0) is
   where
@@ -84,12 +84,12 @@ unset_at_large f a is = by (effective a.regions a.actor f 0) is
     by None none = refl
     by (Some v) none = cc
 
-unset_is : (f : Flag) (a : Asked) → IsUnsetAtLarge f a → answer_at a f 0 ≡ None
+unset_is : (f : Flag) (a : Case) → IsUnsetAtLarge f a → answer_at a f 0 ≡ None
 unfolding answer_at
 unset_is f a is = ap (option_map {U = Answer} (λ v. record { at = region_no 0; value = v })) is
 
 -- where no region counts on building, what the world at large says is by a rule that holds
-open_ruling : (f : Flag) (a : Asked) → FlagIsSilent f a → NoneIsTaken OnBuilding a → NoneCounts OnBuilding a → Ruling f a (in_the_open a)
+open_ruling : (f : Flag) (a : Case) → FlagIsSilent f a → NoneIsTaken OnBuilding a → NoneCounts OnBuilding a → Ruling f a (in_the_open a)
 unfolding in_the_open by_passthrough
 open_ruling f a silent unset none = by (answer_at a Build 0) refl
   where
@@ -120,7 +120,7 @@ open_ruling f a silent unset none = by (answer_at a Build 0) refl
         passing (is_deny (effective a.regions a.actor Passthrough 0)) refl building
 
 -- so is what membership says
-membership_ruling : (f : Flag) (a : Asked) → FlagIsSilent f a → NoneIsTaken OnBuilding a → Ruling f a (by_membership a)
+membership_ruling : (f : Flag) (a : Case) → FlagIsSilent f a → NoneIsTaken OnBuilding a → Ruling f a (by_membership a)
 unfolding by_membership
 membership_ruling f a silent unset = by (first_failing a) (first_home a) refl refl
   where
@@ -140,7 +140,7 @@ membership_ruling f a silent unset = by (first_failing a) (first_home a) refl re
     by None None sound homeless = open_ruling f a silent unset (none_counts a sound homeless)
 
 -- what is said on building
-build_ruling : (f : Flag) (a : Asked) → FlagIsSilent f a → Ruling f a (build a)
+build_ruling : (f : Flag) (a : Case) → FlagIsSilent f a → Ruling f a (build a)
 unfolding build
 build_ruling f a silent = by (decided OnBuilding a) refl
   where
@@ -154,7 +154,7 @@ build_ruling f a silent = by (decided OnBuilding a) refl
     by None none = membership_ruling f a silent (none_taken OnBuilding a none)
 
 -- and the whole verdict
-ruling : (f : Flag) (a : Asked) → Ruling f a (decided_by f a)
+ruling : (f : Flag) (a : Case) → Ruling f a (decided_by f a)
 unfolding decided_by query
 ruling f a = by (decided (OnFlag f) a) (answer_at a f 0) refl refl
   where
@@ -182,67 +182,67 @@ one_ruling Deny Allow r u same = cc
 pub rule_holds : RuleOfTheVerdictHolds
 unfolding verdict
 rule_holds rs s action p state r is =
-    let a : Asked = record { regions = rs; actor = s; place = p } in
+    let a : Case = record { regions = rs; actor = s; place = p } in
     let it = ruling (flag_of_action action) a in
     let same = one_ruling it.state state it.named r (sym it.is ∙ is) in
     subst (λ t. RuleHolds (flag_of_action action) a t r) same.0
     (subst (λ u. RuleHolds (flag_of_action action) a it.state u) same.1 it.holds)
 
 -- the other way round: the world at large says what holds there
-open_passing : (a : Asked) → BuildIsSilent a → in_the_open a ≡ by_passthrough a
+open_passing : (a : Case) → BuildIsSilent a → in_the_open a ≡ by_passthrough a
 unfolding in_the_open
 open_passing a building = ap (λ o. by_answer by_build o (by_passthrough a)) (unset_is Build a building.at_large)
 
 -- and by what lets pass
-closed_denies : (a : Asked) → IsClosedAtLarge a → by_passthrough a ≡ verdicts.Deny (member_at 0)
+closed_denies : (a : Case) → IsClosedAtLarge a → by_passthrough a ≡ verdicts.Deny (member_at 0)
 unfolding by_passthrough
 closed_denies a closed = ap (λ b. if b then verdicts.Deny (member_at 0) else verdicts.Permit rule.Default) (denied _ closed)
 
-passing_permits : (a : Asked) → (IsClosedAtLarge a → ⊥) → by_passthrough a ≡ verdicts.Permit rule.Default
+passing_permits : (a : Case) → (IsClosedAtLarge a → ⊥) → by_passthrough a ≡ verdicts.Permit rule.Default
 unfolding by_passthrough
 passing_permits a passing =
     let not_closed = false_from_ne_true (is_deny (effective a.regions a.actor Passthrough 0)) (λ closed. passing (denies _ closed)) in
     ap (λ b. if b then verdicts.Deny (member_at 0) else verdicts.Permit rule.Default) not_closed
 
 -- what is of highest priority counts
-top_counts : (a : Asked) (e : Entry) → OnTop a e → Counts OnBuilding a e
+top_counts : (a : Case) (e : Entry) → OnTop a e → Counts OnBuilding a e
 top_counts a e is = record { among = is.among; passes = (top_parts OnBuilding a e is.passes).1 }
 
 -- where no region counts, none fails and none admits
-none_fails : (a : Asked) → NoneCounts OnBuilding a → first_failing a ≡ None
+none_fails : (a : Case) → NoneCounts OnBuilding a → first_failing a ≡ None
 unfolding first_failing
 none_fails a none = no_least (is_failing a) a.regions.entries λ e is. none e (top_counts a e (fails a e is).top)
 
-none_admits : (a : Asked) → NoneCounts OnBuilding a → first_home a ≡ None
+none_admits : (a : Case) → NoneCounts OnBuilding a → first_home a ≡ None
 unfolding first_home
 none_admits a none = no_least (is_home a) a.regions.entries λ e is.
     none e (top_counts a e (record { among = is.among; passes = (home_parts a e is.passes).1 }))
 
 -- so membership is what the world at large says
-open_membership : (a : Asked) → NoneCounts OnBuilding a → by_membership a ≡ in_the_open a
+open_membership : (a : Case) → NoneCounts OnBuilding a → by_membership a ≡ in_the_open a
 unfolding by_membership
 open_membership a none =
     ap (λ o. by_members o (first_home a) (in_the_open a)) (none_fails a none)
     ∙ ap (λ o. by_members None o (in_the_open a)) (none_admits a none)
 
 -- where no region counts, none is taken
-pub none_counts_taken : (q : Question) (a : Asked) → NoneCounts q a → NoneIsTaken q a
+pub none_counts_taken : (q : Question) (a : Case) → NoneCounts q a → NoneIsTaken q a
 none_counts_taken q a none e taken = none e (record { among = taken.among; passes = (top_parts q a e (taken_top q a e taken.passes)).1 })
 
 -- and so is what is said on building
-pub open_build : (a : Asked) → NoneCounts OnBuilding a → build a ≡ in_the_open a
+pub open_build : (a : Case) → NoneCounts OnBuilding a → build a ≡ in_the_open a
 unfolding build
 open_build a none =
     let unset = none_decided OnBuilding a (none_counts_taken OnBuilding a none) in
     ap (λ o. by_answer by_build o (by_membership a)) unset ∙ open_membership a none
 
 -- membership is what is asked where no region is taken
-build_by_membership : (a : Asked) → NoneIsTaken OnBuilding a → build a ≡ by_membership a
+build_by_membership : (a : Case) → NoneIsTaken OnBuilding a → build a ≡ by_membership a
 unfolding build
 build_by_membership a none = ap (λ o. by_answer by_build o (by_membership a)) (none_decided OnBuilding a none)
 
 -- where membership denies, the verdict by it is a denial
-member_denied : (a : Asked) (n : ℕ) → MemberDenies a n → by_membership a ≡ verdicts.Deny (member_at n)
+member_denied : (a : Case) (n : ℕ) → MemberDenies a n → by_membership a ≡ verdicts.Deny (member_at n)
 unfolding by_membership first_failing
 member_denied a n is =
     let low : IsLeast (is_failing a) a.regions.entries n = record {
@@ -253,12 +253,12 @@ member_denied a n is =
     ap (λ o. by_members o (first_home a) (in_the_open a)) (least_at (is_failing a) a.regions.entries n low)
 
 -- where each is satisfied, none fails
-satisfied_sound : (a : Asked) → ((e : Entry) → OnTop a e → IsSatisfied a e) → first_failing a ≡ None
+satisfied_sound : (a : Case) → ((e : Entry) → OnTop a e → IsSatisfied a e) → first_failing a ≡ None
 unfolding first_failing
 satisfied_sound a each = no_least (is_failing a) a.regions.entries λ e is. unsatisfied a e (fails a e is) (each e (fails a e is).top)
 
 -- where it permits, the verdict by it is a permit
-member_permitted : (a : Asked) (n : ℕ) → MemberPermits a n → by_membership a ≡ verdicts.Permit (member_at n)
+member_permitted : (a : Case) (n : ℕ) → MemberPermits a n → by_membership a ≡ verdicts.Permit (member_at n)
 unfolding by_membership first_home
 member_permitted a n is =
     let low : IsLeast (is_home a) a.regions.entries n = record {
@@ -270,14 +270,14 @@ member_permitted a n is =
     ∙ ap (λ o. by_members None o (in_the_open a)) (least_at (is_home a) a.regions.entries n low)
 
 -- where `build` answers, it is what is said on building
-build_answered : (a : Asked) (answer : Answer) → BuildAnswers a answer → build a ≡ by_build answer
+build_answered : (a : Case) (answer : Answer) → BuildAnswers a answer → build a ≡ by_build answer
 unfolding build in_the_open
 build_answered a answer (inl is) = ap (λ o. by_answer by_build o (by_membership a)) (answer_decided OnBuilding a answer is)
 build_answered a answer (inr world) =
     open_build a world.0 ∙ ap (λ o. by_answer by_build o (by_passthrough a)) (world_answer_is Build a answer world.1)
 
 -- where the action's own flag answers, it is the verdict
-flag_answered : (f : Flag) (a : Asked) (answer : Answer) → FlagAnswers f a answer → decided_by f a ≡ by_flag f answer
+flag_answered : (f : Flag) (a : Case) (answer : Answer) → FlagAnswers f a answer → decided_by f a ≡ by_flag f answer
 unfolding decided_by query
 flag_answered f a answer (inl is) =
     ap (λ o. by_answer (by_flag f) (option_or o (answer_at a f 0)) (build a)) (answer_decided (OnFlag f) a answer is)
@@ -286,22 +286,22 @@ flag_answered f a answer (inr world) =
     ∙ ap (λ o. by_answer (by_flag f) o (build a)) (world_answer_is f a answer world.1)
 
 -- and where it does not, the verdict is what is said on building
-flag_silent : (f : Flag) (a : Asked) → FlagIsSilent f a → decided_by f a ≡ build a
+flag_silent : (f : Flag) (a : Case) → FlagIsSilent f a → decided_by f a ≡ build a
 unfolding decided_by query
 flag_silent f a silent =
     ap (λ o. by_answer (by_flag f) (option_or o (answer_at a f 0)) (build a)) (none_decided (OnFlag f) a silent.regions)
     ∙ ap (λ o. by_answer (by_flag f) o (build a)) (unset_is f a silent.at_large)
 
 -- the verdict where nothing is said
-pub silent_default : (f : Flag) (a : Asked) → ByDefault f a → decided_by f a ≡ verdicts.Permit rule.Default
+pub silent_default : (f : Flag) (a : Case) → ByDefault f a → decided_by f a ≡ verdicts.Permit rule.Default
 silent_default f a is =
     flag_silent f a is.silent ∙ open_build a is.building.regions ∙ open_passing a is.building ∙ passing_permits a is.passing
 
 -- a rule that holds is that of the verdict
-held : (f : Flag) (a : Asked) (state : State) (r : Rule) → RuleHolds f a state r → decided_by f a ≡ ruled state r
+held : (f : Flag) (a : Case) (state : State) (r : Rule) → RuleHolds f a state r → decided_by f a ≡ ruled state r
 held f a s (rule.Flag at from g) is =
-    flag_answered f a (answer_of at s from) is.answers ∙ ap (λ h. ruled s (rule.Flag at from h)) (sym is.flag)
-held f a s (rule.Build at from) is = flag_silent f a is.silent ∙ build_answered a (answer_of at s from) is.answers
+    flag_answered f a (answer_from_parts at s from) is.answers ∙ ap (λ h. ruled s (rule.Flag at from h)) (sym is.flag)
+held f a s (rule.Build at from) is = flag_silent f a is.silent ∙ build_answered a (answer_from_parts at s from) is.answers
 held f a Deny (rule.Member at) is = flag_silent f a is.silent ∙ build_by_membership a is.unset ∙ elim is.denies [
   | inl one ↦ member_denied a at.0 one
   | inr world ↦
@@ -317,18 +317,18 @@ unfolding verdict
 held_is_the_verdict rs s action p state r is = held (flag_of_action action) (record { regions = rs; actor = s; place = p }) state r is
 
 -- the region that an answer names contains the place
-answer_at_place : (q : Question) (a : Asked) (answer : Answer) → IsAnswer q a answer → IsAtPlace a answer.at.0
+answer_at_place : (q : Question) (a : Case) (answer : Answer) → IsAnswer q a answer → IsAtPlace a answer.at.0
 answer_at_place q a answer is = (is.region, is.taken.among, taken_contains q a (answer.at.0, is.region) is.taken.passes)
 
 -- the region that a rule names contains the place
-rule_at_place : (f : Flag) (a : Asked) (state : State) (r : Rule) → RuleHolds f a state r → number_of_rule r ≢ 0
+rule_at_place : (f : Flag) (a : Case) (state : State) (r : Rule) → RuleHolds f a state r → number_of_rule r ≢ 0
     → IsAtPlace a (number_of_rule r)
 rule_at_place f a s (rule.Flag at from g) is some = elim is.answers [
-  | inl one ↦ answer_at_place (OnFlag f) a (answer_of at s from) one
+  | inl one ↦ answer_at_place (OnFlag f) a (answer_from_parts at s from) one
   | inr world ↦ absurd (some world.1.at)
 ]
 rule_at_place f a s (rule.Build at from) is some = elim is.answers [
-  | inl one ↦ answer_at_place OnBuilding a (answer_of at s from) one
+  | inl one ↦ answer_at_place OnBuilding a (answer_from_parts at s from) one
   | inr world ↦ absurd (some world.1.at)
 ]
 rule_at_place f a Deny (rule.Member at) is some = elim is.denies [

@@ -5,7 +5,7 @@ use Rattle.std.proofs.lemmas.Int.{ints}
 use Rattle.vx_region.specs.Regions.{Entry}
 use Rattle.vx_decide.specs.declared.question.Question.{Question}
 use Rattle.vx_decide.specs.declared.question.Question.TheVariants.{OnBuilding}
-use Rattle.vx_decide.specs.Asked.{Asked}
+use Rattle.vx_decide.specs.Cases.{Case}
 use Rattle.vx_decide.specs.Build.{is_home, in_the_open, build}
 use Rattle.vx_decide.specs.Query.{contains, counts, is_denying, decided}
 use Rattle.vx_decide.specs.Rulings.{NoneCounts}
@@ -17,21 +17,21 @@ use Rattle.vx_decide.proofs.Rulings.{none_decided, none_counts_taken, open_build
 use Rattle.vx_decide.proofs.Taken.{denying_parts, taken_contains}
 
 -- a test that holds only where another does may be asked after it
-after : (a b : Bool) → (b ≡ true → a ≡ true) → b ≡ (a && b)
-after true b only = refl
-after false true only = absurd (true≢false (sym (only refl)))
-after false false only = refl
+asked_second : (a b : Bool) → (b ≡ true → a ≡ true) → b ≡ (a && b)
+asked_second true b only = refl
+asked_second false true only = absurd (true≢false (sym (only refl)))
+asked_second false false only = refl
 
 -- what denies contains the place
-pub denying_there : (q : Question) (a : Asked) (e : Entry) → is_denying q a e ≡ (contains a e && is_denying q a e)
-denying_there q a e = after (contains a e) (is_denying q a e) (λ is. taken_contains q a e (denying_parts q a e is).1)
+pub denying_there : (q : Question) (a : Case) (e : Entry) → is_denying q a e ≡ (contains a e && is_denying q a e)
+denying_there q a e = asked_second (contains a e) (is_denying q a e) (λ is. taken_contains q a e (denying_parts q a e is).1)
 
 -- and so does what is a home
-pub home_there : (a : Asked) (e : Entry) → is_home a e ≡ (contains a e && is_home a e)
-home_there a e = after (contains a e) (is_home a e) (λ is. top_contains a e (home_parts a e is).1)
+pub home_there : (a : Case) (e : Entry) → is_home a e ≡ (contains a e && is_home a e)
+home_there a e = asked_second (contains a e) (is_home a e) (λ is. top_contains a e (home_parts a e is).1)
 
 -- where there is no highest priority, no region counts
-pub none_on_top : (q : Question) (a : Asked) → top (counts q a) a.regions.entries ≡ None → NoneCounts q a
+pub none_on_top : (q : Question) (a : Case) → top (counts q a) a.regions.entries ≡ None → NoneCounts q a
 unfolding is_at_most
 none_on_top q a none e is =
     let below = e.1.priority -ℤ pos 1 in
@@ -39,8 +39,8 @@ none_on_top q a none e is =
     let low = none_higher_at (counts q a) a.regions.entries below e all is in
     omega (arith, ints)
 
-pub none_decides : (q : Question) (a : Asked) → top (counts q a) a.regions.entries ≡ None → decided q a ≡ None
+pub none_decides : (q : Question) (a : Case) → top (counts q a) a.regions.entries ≡ None → decided q a ≡ None
 none_decides q a none = none_decided q a (none_counts_taken q a (none_on_top q a none))
 
-pub none_builds : (a : Asked) → top (counts OnBuilding a) a.regions.entries ≡ None → build a ≡ in_the_open a
+pub none_builds : (a : Case) → top (counts OnBuilding a) a.regions.entries ≡ None → build a ≡ in_the_open a
 none_builds a none = open_build a (none_on_top OnBuilding a none)

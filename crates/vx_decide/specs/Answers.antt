@@ -12,7 +12,7 @@ use Rattle.vx_decide.specs.declared.answer.Answer.{Answer}
 use Rattle.vx_decide.specs.declared.question.Question.{Question}
 use Rattle.vx_decide.specs.declared.question.Question.TheVariants.{OnBuilding}
 use Rattle.vx_decide.specs.declared.value.Value.{Value}
-use Rattle.vx_decide.specs.Asked.{Asked}
+use Rattle.vx_decide.specs.Cases.{Case}
 use Rattle.vx_decide.specs.Build.{admits}
 use Rattle.vx_decide.specs.Effective.{value_at, effective, has_value}
 use Rattle.vx_decide.specs.Query.{flag_of_question, contains, counts, is_top, is_taken}
@@ -30,46 +30,50 @@ pub record IsLeast (members : Members) (es : List Entry) (n : ℕ) : Type 0 wher
   pub least : (e : Entry) → In members es e → n ≤ e.0
 
 -- what the region of the number says on the question
-abbrev pub value_for : Question → Asked → ℕ → Option Value
+abbrev pub value_for : Question → Case → ℕ → Option Value
 value_for q a n = effective a.regions a.actor (flag_of_question q) n
 
 -- a state where there is a value
-abbrev pub state_of : Option Value → Option State
-state_of = option_map (λ v. v.state)
+abbrev pub value_state : Option Value → Option State
+value_state = option_map (λ v. v.state)
 
 -- the region is taken: its value decides on the question
-abbrev pub IsTaken : Question → Asked → Entry → Type 0
+abbrev pub IsTaken : Question → Case → Entry → Type 0
 IsTaken q a e = In (is_taken q a) a.regions.entries e
 
 -- a region of this number contains the place
-abbrev pub IsAtPlace : Asked → ℕ → Type 0
+abbrev pub IsAtPlace : Case → ℕ → Type 0
 IsAtPlace a n = (r : RegionData) × Contains a.regions.entries (n, r) × (contains a (n, r) ≡ true)
 
 -- the region is among those that contain the place and have a say on the question
-abbrev pub Counts : Question → Asked → Entry → Type 0
+abbrev pub Counts : Question → Case → Entry → Type 0
 Counts q a e = In (counts q a) a.regions.entries e
 
--- the region counts, none that counts has a higher priority, and it has a value for the flag that is asked for
-pub record Speaks (q : Question) (a : Asked) (e : Entry) : Type 0 where
+-- the region counts, none that counts has a higher priority, and it has a value for the flag that
+-- is asked for
+pub record Speaks (q : Question) (a : Case) (e : Entry) : Type 0 where
   pub counts : Counts q a e
   pub highest : (d : Entry) → Counts q a d → d.1.priority ≤ℤ e.1.priority
   pub value : has_value a.regions a.actor (flag_of_question q) e.0 ≡ true
 
 -- the region speaks, and is no ancestor of another that speaks
-pub record SpeaksLowest (q : Question) (a : Asked) (e : Entry) : Type 0 where
+pub record SpeaksLowest (q : Question) (a : Case) (e : Entry) : Type 0 where
   pub speaks : Speaks q a e
   pub lowest : (d : Entry) → Speaks q a d → is_above a.regions e.0 d.1 ≡ false
 
--- the answer is that of a region taken; it denies where one that is taken denies; and it names the least of those that say the same
-pub record IsAnswer (q : Question) (a : Asked) (answer : Answer) : Type 0 where
+-- the answer is that of a region taken; it denies where one that is taken denies; and it names the
+-- least of those that say the same
+pub record IsAnswer (q : Question) (a : Case) (answer : Answer) : Type 0 where
   pub region : RegionData
   pub taken : IsTaken q a (answer.at.0, region)
   pub value : value_for q a answer.at.0 ≡ Some answer.value
-  pub deny_wins : (e : Entry) → IsTaken q a e → state_of (value_for q a e.0) ≡ Some Deny → answer.value.state ≡ Deny
-  pub least : (e : Entry) → IsTaken q a e → state_of (value_for q a e.0) ≡ Some answer.value.state → answer.at.0 ≤ e.0
+  pub deny_wins : (e : Entry) → IsTaken q a e → value_state (value_for q a e.0) ≡ Some Deny
+      → answer.value.state ≡ Deny
+  pub least : (e : Entry) → IsTaken q a e
+      → value_state (value_for q a e.0) ≡ Some answer.value.state → answer.at.0 ≤ e.0
 
--- the value of a flag is set by the nearest region of the ancestry that sets it for those who are to the region at which the
--- question began what the actor is
+-- the value of a flag is set by the nearest region of the ancestry that sets it for those who are
+-- to the region at which the question began what the actor is
 pub record IsInherited (rs : Regions) (s : Actor) (f : Flag) (n : ℕ) (v : Value) : Type 0 where
   pub nearer : List ℕ
   pub farther : List ℕ
@@ -81,30 +85,32 @@ pub record IsInherited (rs : Regions) (s : Actor) (f : Flag) (n : ℕ) (v : Valu
   pub silent : (m : ℕ) → Contains nearer m → value_at rs f (association rs s n) m ≡ None
 
 -- the region is of highest priority on building
-abbrev pub OnTop : Asked → Entry → Type 0
+abbrev pub OnTop : Case → Entry → Type 0
 OnTop a e = In (is_top OnBuilding a) a.regions.entries e
 
--- the region is of highest priority on building, and admits the actor neither by itself nor by one of its descendants of the
--- same priority
-pub record Fails (a : Asked) (e : Entry) : Type 0 where
+-- the region is of highest priority on building, and admits the actor neither by itself nor by one
+-- of its descendants of the same priority
+pub record Fails (a : Case) (e : Entry) : Type 0 where
   pub top : OnTop a e
   pub stranger : admits a e.0 ≡ false
   pub no_home : (d : Entry) → OnTop a d → admits a d.0 ≡ true → is_above a.regions e.0 d.1 ≡ false
 
--- membership denies: the region contains the place and fails, and none that fails has a lesser number
-pub record MemberDenies (a : Asked) (n : ℕ) : Type 0 where
+-- membership denies: the region contains the place and fails, and none that fails has a lesser
+-- number
+pub record MemberDenies (a : Case) (n : ℕ) : Type 0 where
   pub region : RegionData
   pub place : contains a (n, region) ≡ true
   pub fails : Fails a (n, region)
   pub least : (e : Entry) → Fails a e → n ≤ e.0
 
 -- the region admits the actor by itself or by one of its descendants of the same priority
-abbrev pub IsSatisfied : Asked → Entry → Type 0
-IsSatisfied a e = (admits a e.0 ≡ true) ⊎ ((d : Entry) × OnTop a d × (admits a d.0 ≡ true) × (is_above a.regions e.0 d.1 ≡ true))
+abbrev pub IsSatisfied : Case → Entry → Type 0
+IsSatisfied a e = (admits a e.0 ≡ true)
+    ⊎ ((d : Entry) × OnTop a d × (admits a d.0 ≡ true) × (is_above a.regions e.0 d.1 ≡ true))
 
--- membership permits: the region contains the place and admits the actor, none that does has a lesser number, and every region
--- of highest priority is satisfied
-pub record MemberPermits (a : Asked) (n : ℕ) : Type 0 where
+-- membership permits: the region contains the place and admits the actor, none that does has a
+-- lesser number, and every region of highest priority is satisfied
+pub record MemberPermits (a : Case) (n : ℕ) : Type 0 where
   pub region : RegionData
   pub place : contains a (n, region) ≡ true
   pub top : OnTop a (n, region)

@@ -19,7 +19,8 @@ region_no n = record { 0 = n }
 -- what is set counts where its group fits the association
 abbrev pub heard : ℕ → Association → Option Setting → Option Value
 heard n a None = None
-heard n a (Some s) = if fits s.group a then Some (record { state = s.state; from = region_no n }) else None
+heard n a (Some s) =
+    if fits s.group a then Some (record { state = s.state; from = region_no n }) else None
 
 -- the value that the region of the number itself sets for those of this association
 unfoldable pub value_at : Regions → Flag → Association → ℕ → Option Value
@@ -30,8 +31,8 @@ abbrev pub first_of : {X : Type 0} → (ℕ → Option X) → List ℕ → Optio
 first_of f [] = None
 first_of f (n ∷ ns) = option_or (f n) (first_of f ns)
 
--- the value of a flag for an actor at a region: the one that the nearest region of its ancestry sets for those who are to
--- that region, at which the question began, what the actor is
+-- the value of a flag for an actor at a region: the one that the nearest region of its ancestry
+-- sets for those who are to that region, at which the question began, what the actor is
 unfoldable pub effective : Regions → Actor → Flag → ℕ → Option Value
 effective rs s f n = first_of (value_at rs f (association rs s n)) (ancestors rs n)
 

@@ -1,6 +1,6 @@
 pub mod Answers
-pub mod Asked
 pub mod Build
+pub mod Cases
 pub mod Effective
 pub mod Laws
 pub mod Query

@@ -31,4 +31,5 @@ lesser n (Some m) = min n m
 -- the least number of a member
 abbrev pub least : Members → List Entry → Option ℕ
 least members [] = None
-least members (e ∷ es) = if members e then Some (lesser e.0 (least members es)) else least members es
+least members (e ∷ es) =
+    if members e then Some (lesser e.0 (least members es)) else least members es

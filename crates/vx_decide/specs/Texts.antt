@@ -5,7 +5,10 @@ use Rattle.vx_decide.specs.declared.rule.Rule.TheVariants as rule
 
 -- the words of a rule in a reply
 abbrev pub rule_text : Rule → List ℕ
-rule_text (rule.Flag at from flag) = codes "flag " ++ flag_text flag ++ codes " at " ++ decimal at.0 ++ codes " from " ++ decimal from.0
-rule_text (rule.Build at from) = codes "build at " ++ decimal at.0 ++ codes " from " ++ decimal from.0
+rule_text (rule.Flag at from flag) =
+    codes "flag " ++ flag_text flag ++ codes " at " ++ decimal at.0
+    ++ codes " from " ++ decimal from.0
+rule_text (rule.Build at from) =
+    codes "build at " ++ decimal at.0 ++ codes " from " ++ decimal from.0
 rule_text (rule.Member at) = codes "member at " ++ decimal at.0
 rule_text rule.Default = codes "default"

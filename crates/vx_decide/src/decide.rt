@@ -13,7 +13,8 @@ pub trait Decide {
     /// The regions whose policy it is.
     ghost policy: { Self → Regions };
 
-    /// Whether the subject may do this at the place, and the rule that says so (docs/RULES.md). It takes no memory.
+    /// Whether the subject may do this at the place, and the rule that says so (docs/RULES.md). It
+    /// takes no memory.
     fn decide(&self, subject: &Subject, action: Action, p: Pos) -> Verdict
         ensures { result ≡ verdict (policy self.now) (actor_of subject.now) action p };
 }

@@ -8,8 +8,9 @@ use crate::value::Value;
 use vx_flag::{Flag, State, fits};
 use vx_region::{RegionNo, RegionSet, Subject};
 
-/// The value of the flag for the subject at the region of that number: the one of the nearest region of its ancestry that sets
-/// the flag for a group that the subject is of, as the subject is to the region where the question began.
+/// The value of the flag for the subject at the region of that number: the one of the nearest
+/// region of its ancestry that sets the flag for a group that the subject is of, as the subject is
+/// to the region where the question began.
 pub fn effective(
     regions: &RegionSet,
     subject: &Subject,
@@ -60,7 +61,8 @@ pub fn is_allow(value: Option<Value>) -> bool
     }
 }
 
-// The value that the region at that number sets itself, for those who are to the region `number` what the subject is.
+// The value that the region at that number sets itself, for those who are to the region `number`
+// what the subject is.
 #[tactic(auto, unfolding(crate::specs::Effective::value_at))]
 fn value_at(
     regions: &RegionSet,
@@ -69,7 +71,8 @@ fn value_at(
     number: RegionNo,
     at: RegionNo,
 ) -> Option<Value>
-    ensures { result ≡ value_at regions.now flag (association regions.now (actor_of subject.now) number.0) at.0 }
+    ensures { result
+        ≡ value_at regions.now flag (association regions.now (actor_of subject.now) number.0) at.0 }
 {
     let setting = regions.setting(at, flag)?;
     if !fits(setting.group, regions.association(subject, number)) {

@@ -15,13 +15,14 @@ pub struct Inquiry<'a> {
 }
 
 impl Inquiry<'_> {
-    ghost use Rattle.vx_decide.specs.Asked.{asked};
+    ghost use Rattle.vx_decide.specs.Cases.{case_of};
     ghost use Rattle.vx_decide.specs.Query.{contains, has_say, counts};
 
-    /// Whether the region has a say on the question: a value of its own, or on building also that it does not let pass.
+    /// Whether the region has a say on the question: a value of its own, or on building also that
+    /// it does not let pass.
     #[tactic(auto, unfolding(crate::specs::Query::has_say))]
     pub fn has_say(&self, question: Question, number: RegionNo) -> bool
-        ensures { result ≡ has_say question (asked self.now) number.0 }
+        ensures { result ≡ has_say question (case_of self.now) number.0 }
     {
         match question {
             Question::OnFlag(flag) => has_value(self.regions, self.subject, flag, number),
@@ -35,7 +36,7 @@ impl Inquiry<'_> {
     /// Whether the region contains the place and has a say on the question.
     #[tactic(auto, unfolding(crate::specs::Query::counts, crate::specs::Query::contains))]
     pub fn counts(&self, question: Question, number: RegionNo, region: &Region) -> bool
-        ensures { result ≡ counts question (asked self.now) (number.0, region.now) }
+        ensures { result ≡ counts question (case_of self.now) (number.0, region.now) }
     {
         region.contains(self.place) && self.has_say(question, number)
     }

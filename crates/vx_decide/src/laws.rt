@@ -1,13 +1,15 @@
 ghost use Rattle.vx_decide.specs.Laws.{DecidedIsAnswer, AnswersAreOne, AnswerIsDecided, TakenSpeaksLowest, SpeaksLowestIsTaken, OneDenialDenies, DeciderContainsThePlace, TopIsHighest, HigherPriorityDecides, ChildStandsBeforeParent, ChildAtTheSamePriority, ValueIsInherited, InheritedIsTheValue, ValueIsFromTheAncestry, NoValueIsSet, MembershipDeniesWhereOneFails, MembershipPermitsWhereNoneFails, RuleOfTheVerdictHolds, RuleThatHoldsIsTheVerdict, VerdictNamesARegionAtThePlace, NothingSaidPermits, EmptyWorldPermitsAll, ValuesAtThePlaceDecide, DefaultOnlyWhereNothingIsSaid};
 
-/// What the regions at a place decide is the one answer: of those taken, the least that denies, else the least.
+/// What the regions at a place decide is the one answer: of those taken, the least that denies,
+/// else the least.
 pub fn one_answer()
     ensures answer { DecidedIsAnswer }
     ensures one { AnswersAreOne }
     ensures decided { AnswerIsDecided }
 {}
 
-/// A region is taken exactly where none that counts has a higher priority, it has a value, and it is no ancestor of another such.
+/// A region is taken exactly where none that counts has a higher priority, it has a value, and it
+/// is no ancestor of another such.
 pub fn taken_speaks_lowest()
     ensures lowest { TakenSpeaksLowest }
     ensures taken { SpeaksLowestIsTaken }
@@ -43,26 +45,30 @@ pub fn value_is_inherited()
     ensures none { NoValueIsSet }
 {}
 
-/// Membership denies at a region that does not admit the actor, nor any below it, and permits where each region is satisfied.
+/// Membership denies at a region that does not admit the actor, nor any below it, and permits where
+/// each region is satisfied.
 pub fn membership_is_grounded()
     ensures denies { MembershipDeniesWhereOneFails }
     ensures permits { MembershipPermitsWhereNoneFails }
 {}
 
-/// A verdict is by one rule exactly where that rule holds, and the region that it names contains the place.
+/// A verdict is by one rule exactly where that rule holds, and the region that it names contains
+/// the place.
 pub fn verdict_names_its_region()
     ensures holds { RuleOfTheVerdictHolds }
     ensures only { RuleThatHoldsIsTheVerdict }
     ensures place { VerdictNamesARegionAtThePlace }
 {}
 
-/// Where nothing is said, all is permitted; so where there is no region and nothing is set at large.
+/// Where nothing is said, all is permitted; so where there is no region and nothing is set at
+/// large.
 pub fn nothing_said_permits()
     ensures said { NothingSaidPermits }
     ensures empty { EmptyWorldPermitsAll }
 {}
 
-/// A value that some region at the place has is not passed over, so only where nothing is said is the verdict by default.
+/// A value that some region at the place has is not passed over, so only where nothing is said is
+/// the verdict by default.
 pub fn default_only_where_nothing_is_said()
     ensures values { ValuesAtThePlaceDecide }
     ensures default { DefaultOnlyWhereNothingIsSaid }

@@ -3,6 +3,7 @@
 
 mod answer;
 mod building;
+mod contest;
 mod decide;
 mod effective;
 mod inquiry;
@@ -23,6 +24,3 @@ pub use laws::{
 pub use plain::Plain;
 pub use rule::Rule;
 pub use verdict::Verdict;
-
-#[cfg(test)]
-mod tests;

@@ -1,6 +1,6 @@
 ghost use Rattle.std.specs.Prelude.{◌≡◌};
 ghost use Rattle.vx_region.specs.Subjects.{actor_of};
-ghost use Rattle.vx_decide.specs.Asked.{asked};
+ghost use Rattle.vx_decide.specs.Cases.{case_of};
 ghost use Rattle.vx_decide.specs.Verdict.{by_flag, decided_by, verdict};
 
 use crate::answer::Answer;
@@ -54,7 +54,7 @@ impl Inquiry<'_> {
     // By the flag, and where that is not set by building.
     #[tactic(auto, unfolding(crate::specs::Verdict::decided_by))]
     fn decided_by(&self, flag: Flag) -> Verdict
-        ensures { result ≡ decided_by flag (asked self.now) }
+        ensures { result ≡ decided_by flag (case_of self.now) }
     {
         match self.query(flag) {
             Some(answer) => by_flag(flag, answer),

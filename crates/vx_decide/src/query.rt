@@ -1,11 +1,12 @@
 ghost use Rattle.std.specs.Prelude.{◌≡◌, ◌&&◌, if◌then◌else◌, Some, option_map};
 ghost use Rattle.vx_region.specs.Ancestry.{is_above};
-ghost use Rattle.vx_decide.specs.Asked.{asked};
+ghost use Rattle.vx_decide.specs.Cases.{case_of};
 ghost use Rattle.vx_decide.specs.Query.{counts, is_top, speaks, is_taken, is_denying, first_denying, first_taken, decider, answer_at, decided, query};
-ghost use Rattle.vx_decide.specs.RegionGroups.{is_above_one, none_higher};
+ghost use Rattle.vx_decide.specs.RegionGroups.{is_above_one};
 ghost use Rattle.vx_decide.specs.Tops.{top, raised, is_at_most};
 
 use crate::answer::Answer;
+use crate::contest::Contest;
 use crate::effective::{effective, has_value, is_deny};
 use crate::inquiry::Inquiry;
 use crate::question::Question;
@@ -13,37 +14,35 @@ use vx_flag::Flag;
 use vx_region::{Region, RegionNo};
 
 impl Inquiry<'_> {
-    /// What the policy answers on a flag at the place: the regions there, and where none of them has a value the world at
-    /// large. None where that has none either.
+    /// What the policy answers on a flag at the place: the regions there, and where none of them
+    /// has a value the world at large; `None` where that has no value either.
     #[tactic(auto, unfolding(crate::specs::Query::query))]
     pub fn query(&self, flag: Flag) -> Option<Answer>
-        ensures { result ≡ query flag (asked self.now) }
+        ensures { result ≡ query flag (case_of self.now) }
     {
-        let decided = self.decided(Question::OnFlag(flag), self.top(Question::OnFlag(flag)));
+        let decided = self.contest(Question::OnFlag(flag)).decided();
         if decided.is_some() {
             return decided;
         }
         self.answer_at(flag, RegionNo(0))
     }
 
-    /// What the regions at the place answer: of those of highest priority that have a value, ancestors of others left out, the
-    /// least that denies, else the least. `best` is the highest priority.
-    #[tactic(auto, unfolding(crate::specs::Query::decided), using(crate::proofs::Shortcuts::none_decides))]
-    pub fn decided(&self, question: Question, best: Option<i32>) -> Option<Answer>
-        requires { best ≡ top (counts question (asked self.now)) self.now.regions.now.entries }
-        ensures { result ≡ decided question (asked self.now) }
+    /// The contest of the regions at the place on that question.
+    pub fn contest(&self, question: Question) -> Contest<'_>
+        ensures inquiry { result.inquiry.now ≡ self.now }
+        ensures question { result.question ≡ question }
     {
-        if best.is_none() {
-            return None;
+        Contest {
+            inquiry: self,
+            question,
+            best: self.top(question),
         }
-        let decider = self.decider(question, best)?;
-        self.answer_at(question.flag(), decider)
     }
 
-    /// The highest priority of a region that contains the place and has a say.
+    // The highest priority of a region that counts on the question.
     #[tactic(auto, unfolding(crate::specs::Tops::top))]
-    pub fn top(&self, question: Question) -> Option<i32>
-        ensures { result ≡ top (counts question (asked self.now)) self.now.regions.now.entries }
+    fn top(&self, question: Question) -> Option<i32>
+        ensures { result ≡ top (counts question (case_of self.now)) self.now.regions.now.entries }
     {
         let mut best = None;
         for i in 0..self.regions.count() {
@@ -53,7 +52,7 @@ impl Inquiry<'_> {
         best
     }
 
-    // The best so far, or the priority of this region, if it has a say and is higher.
+    // The best so far, or the priority of this region, if it counts and is higher.
     fn best_with(
         &self,
         question: Question,
@@ -61,7 +60,8 @@ impl Inquiry<'_> {
         number: RegionNo,
         region: &Region,
     ) -> Option<i32>
-        ensures { result ≡ (if counts question (asked self.now) (number.0, region.now) then Some (raised best region.now.priority) else best) }
+        ensures { result ≡ (if counts question (case_of self.now) (number.0, region.now)
+            then Some (raised best region.now.priority) else best) }
     {
         if self.counts(question, number, region) {
             return Some(raised(best, region.priority()));
@@ -69,53 +69,73 @@ impl Inquiry<'_> {
         best
     }
 
-    /// Whether the region has a say and none that has one has a higher priority. `best` is the highest.
-    #[tactic(auto, unfolding(crate::specs::Query::is_top, crate::specs::RegionGroups::is_highest), using(crate::proofs::Highest::highest))]
-    pub fn is_top(
-        &self,
-        question: Question,
-        best: Option<i32>,
-        number: RegionNo,
-        region: &Region,
-    ) -> bool
-        requires { best ≡ top (counts question (asked self.now)) self.now.regions.now.entries }
-        ensures { result ≡ is_top question (asked self.now) (number.0, region.now) }
+    /// The value of the flag at the region of that number, 0 for the world at large, as an answer
+    /// of this region.
+    #[tactic(auto, unfolding(crate::specs::Query::answer_at))]
+    pub fn answer_at(&self, flag: Flag, at: RegionNo) -> Option<Answer>
+        ensures { result ≡ answer_at (case_of self.now) flag at.0 }
     {
-        is_at_most(best, region.priority()) && self.counts(question, number, region)
+        let value = effective(self.regions, self.subject, flag, at)?;
+        Some(Answer { at, value })
+    }
+}
+
+impl Contest<'_> {
+    /// What the regions at the place answer: of those of highest priority that have a value,
+    /// ancestors of others left out, the least that denies, else the least.
+    #[tactic(auto, unfolding(crate::specs::Query::decided), using(crate::proofs::Shortcuts::none_decides))]
+    pub fn decided(&self) -> Option<Answer>
+        ensures { result ≡ decided self.now.question (case_of self.now.inquiry.now) }
+    {
+        if self.best.is_none() {
+            return None;
+        }
+        let decider = self.decider()?;
+        self.inquiry.answer_at(self.question.flag(), decider)
+    }
+
+    /// Whether the region counts and none that counts has a higher priority.
+    #[tactic(auto, unfolding(crate::specs::Query::is_top, crate::specs::RegionGroups::is_highest), using(crate::proofs::Highest::highest))]
+    pub fn is_top(&self, number: RegionNo, region: &Region) -> bool
+        ensures { result
+            ≡ is_top self.now.question (case_of self.now.inquiry.now) (number.0, region.now) }
+    {
+        is_at_most(self.best, region.priority())
+            && self.inquiry.counts(self.question, number, region)
     }
 
     #[tactic(auto, unfolding(crate::specs::Query::decider))]
-    fn decider(&self, question: Question, best: Option<i32>) -> Option<RegionNo>
-        requires { best ≡ top (counts question (asked self.now)) self.now.regions.now.entries }
-        ensures { option_map (λ n. n.0) result ≡ decider question (asked self.now) }
+    fn decider(&self) -> Option<RegionNo>
+        ensures { option_map (λ n. n.0) result
+            ≡ decider self.now.question (case_of self.now.inquiry.now) }
     {
-        let first = self.first_denying(question, best);
+        let first = self.first_denying();
         if first.is_some() {
             return first;
         }
-        self.first_taken(question, best)
+        self.first_taken()
     }
 
-    fn first_denying(&self, question: Question, best: Option<i32>) -> Option<RegionNo>
-        requires { best ≡ top (counts question (asked self.now)) self.now.regions.now.entries }
-        ensures { option_map (λ n. n.0) result ≡ first_denying question (asked self.now) }
+    fn first_denying(&self) -> Option<RegionNo>
+        ensures { option_map (λ n. n.0) result
+            ≡ first_denying self.now.question (case_of self.now.inquiry.now) }
     {
-        for i in 0..self.regions.count() {
-            let (number, region) = self.regions.nth(i);
-            if self.is_denying(question, best, number, region) {
+        for i in 0..self.inquiry.regions.count() {
+            let (number, region) = self.inquiry.regions.nth(i);
+            if self.is_denying(number, region) {
                 return Some(number);
             }
         }
         None
     }
 
-    fn first_taken(&self, question: Question, best: Option<i32>) -> Option<RegionNo>
-        requires { best ≡ top (counts question (asked self.now)) self.now.regions.now.entries }
-        ensures { option_map (λ n. n.0) result ≡ first_taken question (asked self.now) }
+    fn first_taken(&self) -> Option<RegionNo>
+        ensures { option_map (λ n. n.0) result
+            ≡ first_taken self.now.question (case_of self.now.inquiry.now) }
     {
-        for i in 0..self.regions.count() {
-            let (number, region) = self.regions.nth(i);
-            if self.is_taken(question, best, number, region) {
+        for i in 0..self.inquiry.regions.count() {
+            let (number, region) = self.inquiry.regions.nth(i);
+            if self.is_taken(number, region) {
                 return Some(number);
             }
         }
@@ -124,59 +144,45 @@ impl Inquiry<'_> {
 
     // Whether the region is taken and its value denies.
     #[tactic(auto, unfolding(crate::specs::Query::contains), using(crate::proofs::Shortcuts::denying_there))]
-    fn is_denying(
-        &self,
-        question: Question,
-        best: Option<i32>,
-        number: RegionNo,
-        region: &Region,
-    ) -> bool
-        requires { best ≡ top (counts question (asked self.now)) self.now.regions.now.entries }
-        ensures { result ≡ is_denying question (asked self.now) (number.0, region.now) }
+    fn is_denying(&self, number: RegionNo, region: &Region) -> bool
+        ensures { result
+            ≡ is_denying self.now.question (case_of self.now.inquiry.now) (number.0, region.now) }
     {
-        region.contains(self.place) && self.denies_if_taken(question, best, number, region)
+        region.contains(self.inquiry.place) && self.denies_if_taken(number, region)
     }
 
     // The same, with the value asked for before the regions below.
     #[tactic(auto, unfolding(crate::specs::Query::is_denying))]
-    fn denies_if_taken(
-        &self,
-        question: Question,
-        best: Option<i32>,
-        number: RegionNo,
-        region: &Region,
-    ) -> bool
-        requires { best ≡ top (counts question (asked self.now)) self.now.regions.now.entries }
-        ensures { result ≡ is_denying question (asked self.now) (number.0, region.now) }
+    fn denies_if_taken(&self, number: RegionNo, region: &Region) -> bool
+        ensures { result
+            ≡ is_denying self.now.question (case_of self.now.inquiry.now) (number.0, region.now) }
     {
-        let value = effective(self.regions, self.subject, question.flag(), number);
-        is_deny(value) && self.is_taken(question, best, number, region)
+        let Contest {
+            inquiry,
+            question,
+            ..
+        } = self;
+        let value = effective(inquiry.regions, inquiry.subject, question.flag(), number);
+        is_deny(value) && self.is_taken(number, region)
     }
 
     // Whether the region speaks and is no ancestor of another that does.
     #[tactic(auto, unfolding(crate::specs::Query::is_taken, crate::specs::RegionGroups::is_lowest))]
-    fn is_taken(
-        &self,
-        question: Question,
-        best: Option<i32>,
-        number: RegionNo,
-        region: &Region,
-    ) -> bool
-        requires { best ≡ top (counts question (asked self.now)) self.now.regions.now.entries }
-        ensures { result ≡ is_taken question (asked self.now) (number.0, region.now) }
+    fn is_taken(&self, number: RegionNo, region: &Region) -> bool
+        ensures { result
+            ≡ is_taken self.now.question (case_of self.now.inquiry.now) (number.0, region.now) }
     {
-        self.speaks(question, best, number, region)
-            && !self.is_above_speaking(question, best, number)
+        self.speaks(number, region) && !self.is_above_speaking(number)
     }
 
     // Whether the region of the number is an ancestor of one that speaks.
-    fn is_above_speaking(&self, question: Question, best: Option<i32>, number: RegionNo) -> bool
-        requires { best ≡ top (counts question (asked self.now)) self.now.regions.now.entries }
-        ensures { result ≡ is_above_one (speaks question (asked self.now)) self.now.regions.now number.0 }
+    fn is_above_speaking(&self, number: RegionNo) -> bool
+        ensures { result ≡ is_above_one (speaks self.now.question (case_of self.now.inquiry.now))
+            self.now.inquiry.now.regions.now number.0 }
     {
-        for i in 0..self.regions.count() {
-            let (lower, region) = self.regions.nth(i);
-            if self.speaks_below(question, best, number, lower, region) {
+        for i in 0..self.inquiry.regions.count() {
+            let (lower, region) = self.inquiry.regions.nth(i);
+            if self.speaks_below(number, lower, region) {
                 return true;
             }
         }
@@ -184,43 +190,26 @@ impl Inquiry<'_> {
     }
 
     // Whether `upper` is an ancestor of the region, and this one speaks.
-    fn speaks_below(
-        &self,
-        question: Question,
-        best: Option<i32>,
-        upper: RegionNo,
-        number: RegionNo,
-        region: &Region,
-    ) -> bool
-        requires { best ≡ top (counts question (asked self.now)) self.now.regions.now.entries }
-        ensures { result ≡ (is_above self.now.regions.now upper.0 region.now && speaks question (asked self.now) (number.0, region.now)) }
+    fn speaks_below(&self, upper: RegionNo, number: RegionNo, region: &Region) -> bool
+        ensures { result ≡ (is_above self.now.inquiry.now.regions.now upper.0 region.now
+            && speaks self.now.question (case_of self.now.inquiry.now) (number.0, region.now)) }
     {
-        self.regions.is_above(upper, region) && self.speaks(question, best, number, region)
+        self.inquiry.regions.is_above(upper, region) && self.speaks(number, region)
     }
 
     // Whether the region is of highest priority and has a value.
     #[tactic(auto, unfolding(crate::specs::Query::speaks))]
-    fn speaks(
-        &self,
-        question: Question,
-        best: Option<i32>,
-        number: RegionNo,
-        region: &Region,
-    ) -> bool
-        requires { best ≡ top (counts question (asked self.now)) self.now.regions.now.entries }
-        ensures { result ≡ speaks question (asked self.now) (number.0, region.now) }
+    fn speaks(&self, number: RegionNo, region: &Region) -> bool
+        ensures { result
+            ≡ speaks self.now.question (case_of self.now.inquiry.now) (number.0, region.now) }
     {
-        self.is_top(question, best, number, region)
-            && has_value(self.regions, self.subject, question.flag(), number)
-    }
-
-    /// The value of the flag at the region of that number, 0 for the world at large, as an answer of this region.
-    #[tactic(auto, unfolding(crate::specs::Query::answer_at))]
-    pub fn answer_at(&self, flag: Flag, at: RegionNo) -> Option<Answer>
-        ensures { result ≡ answer_at (asked self.now) flag at.0 }
-    {
-        let value = effective(self.regions, self.subject, flag, at)?;
-        Some(Answer { at, value })
+        let Contest {
+            inquiry,
+            question,
+            ..
+        } = self;
+        self.is_top(number, region)
+            && has_value(inquiry.regions, inquiry.subject, question.flag(), number)
     }
 }
 

@@ -3,7 +3,8 @@ ghost use Rattle.vx_decide.specs.Query.{flag_of_question};
 
 use vx_flag::Flag;
 
-/// What the regions at a place are asked: on a flag of its own, or on building, where membership counts too.
+/// What the regions at a place are asked: on a flag of its own, or on building, where membership
+/// counts too.
 #[derive(Clone, Copy, Debug, PartialEq, Eq)]
 pub enum Question {
     OnFlag(Flag),

@@ -7,7 +7,8 @@ use vx_region::RegionNo;
 /// The rule that decides, by the numbers of regions; number 0 is the world at large, `__global__`.
 #[derive(Clone, Copy, Debug, PartialEq, Eq)]
 pub enum Rule {
-    /// The action's own flag, which decides at one region and is set in that or in one of its ancestors.
+    /// The action's own flag, which decides at one region and is set in that or in one of its
+    /// ancestors.
     Flag {
         at: RegionNo,
         from: RegionNo,
@@ -47,39 +48,5 @@ impl fmt::Display for Rule {
             }
             Rule::Default => write!(f, "default"),
         }
-    }
-}
-
-#[cfg(test)]
-mod tests {
-    use super::*;
-    use std::test::Fail;
-
-    #[test]
-    fn each_rule_has_its_words(rt: HostRuntime) -> Result<(), Fail> {
-        let (first, last) = (RegionNo(1), RegionNo(4_294_967_295));
-        for (rule, words) in [
-            (
-                Rule::Flag {
-                    at: RegionNo(2),
-                    from: first,
-                    flag: Flag::Usage,
-                },
-                "flag use at 2 from 1",
-            ),
-            (
-                Rule::Build {
-                    at: last,
-                    from: RegionNo(0),
-                },
-                "build at 4294967295 from 0",
-            ),
-            (Rule::Member { at: first }, "member at 1"),
-            (Rule::Member { at: last }, "member at 4294967295"),
-            (Rule::Default, "default"),
-        ] {
-            assert_eq!(rt; format!(in rt.alloc(); "{rule}")?.as_str(), words);
-        }
-        Ok(())
     }
 }

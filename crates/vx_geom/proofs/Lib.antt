@@ -1,3 +1,4 @@
 pub mod Divisions
+pub mod OrderLemmas
 pub mod Positions
 pub mod SectorLemmas

@@ -4,7 +4,7 @@ use Rattle.std.specs.Prelude.{ℤ, int_le, int_lt, ◌≤ℤ◌, ◌<ℤ◌, uns
 use Rattle.std.proofs.lemmas.Int.{ints}
 use Rattle.std.proofs.lemmas.Bool.{and_parts, and_from, ltb-true}
 use Rattle.vx_geom.specs.declared.pos.Pos.{Pos}
-use Rattle.vx_geom.specs.Sizes.{Sizes, AreSizes, span, height, sector_count, is_below, is_inside, sector_number, sector_of, place_in_sector}
+use Rattle.vx_geom.specs.Sizes.{Sizes, AreSizes, span, height, sector_count, is_below, is_inside, sector_number, sector_of, index_in_sector}
 use Rattle.vx_geom.specs.Sectors.{InSector}
 use Rattle.std.proofs.lemmas.Nat.{mod_below}
 use Rattle.vx_geom.proofs.Divisions.{in_part, part_is, part_below, below_parts, number_column, number_row, number_below, same_number, same_from_part}
@@ -116,11 +116,11 @@ sector_from v p k sizes low box =
     let number : sector_number v p ≡ k = omega (arith, column, ap (λ n. v.sx * n) row) in
     ap (λ b. if b then Some (sector_number v p) else None) inside ∙ ap Some number
 
--- two positions of one sector have two places
-pub same_place : (v : Sizes) (p q : Pos) (k : ℕ) → AreSizes v → Held v k p → Held v k q → place_in_sector v p ≡ place_in_sector v q
+-- two positions of one sector have two indices
+pub same_index : (v : Sizes) (p q : Pos) (k : ℕ) → AreSizes v → Held v k p → Held v k q → index_in_sector v p ≡ index_in_sector v q
     → p ≡ q
-unfolding place_in_sector
-same_place v p q k sizes held_p held_q same =
+unfolding index_in_sector
+same_index v p q k sizes held_p held_q same =
     let w = span v in
     let wide : 0 < w = omega arith in
     let px = unsigned_abs p.x in

@@ -1,4 +1,5 @@
 pub mod Neighbor
+pub mod Order
 pub mod Outline
 pub mod OutlineLaws
 pub mod Polygon

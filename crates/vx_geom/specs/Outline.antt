@@ -3,7 +3,8 @@ use Rattle.std.specs.Int.{int_min, int_max}
 use Rattle.vx_geom.specs.declared.pos.Pos.{Pos}
 use Rattle.vx_geom.specs.Polygon.{Column, in_polygon}
 
--- what a shape is: the least and the greatest corner of a cuboid, or the points of a polygon with its lowest and its highest y
+-- what a shape is: the least and the greatest corner of a cuboid, or the points of a polygon with
+-- its lowest and its highest y
 pub data Outline : Type 0 where
   Cuboid : Pos → Pos → Outline
   Polygon : List Column → ℤ → ℤ → Outline
@@ -25,9 +26,15 @@ unfoldable pub is_in : Outline → Pos → Bool
 is_in (Cuboid a b) p = in_cuboid a b p
 is_in (Polygon points low high) p = is_amid low high p.y && in_polygon points p
 
--- a polygon has 3 to 64 points
+-- how many points a polygon has
+abbrev pub fewest_points : ℕ
+fewest_points = 3
+
+abbrev pub most_points : ℕ
+most_points = 64
+
 abbrev pub is_point_count : ℕ → Bool
-is_point_count n = nat_le 3 n && nat_le n 64
+is_point_count n = nat_le fewest_points n && nat_le n most_points
 
 -- these points, lowest and highest y make a polygon
 unfoldable pub is_polygon : List Column → ℤ → ℤ → Bool

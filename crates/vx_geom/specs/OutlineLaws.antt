@@ -17,13 +17,16 @@ corner_joined a b in_yz in_x = λ i. record { y = in_yz.0 i; z = in_yz.1 i; x = 
 corner_decided : (a b : Pos) → Decides (same_corner a b) (a ≡ b)
 unfolding same_corner
 corner_decided a b =
-    Decides-like _ (λ h. corner_joined a b h.0 h.1) (λ e. ((ap (λ p. p.y) e, ap (λ p. p.z) e), ap (λ p. p.x) e))
-    (Decides-and _ _ (Decides-and _ _ (Decides-int_eq a.y b.y) (Decides-int_eq a.z b.z)) (Decides-int_eq a.x b.x))
+    Decides-like _ (λ h. corner_joined a b h.0 h.1)
+    (λ e. ((ap (λ p. p.y) e, ap (λ p. p.z) e), ap (λ p. p.x) e))
+    (Decides-and _ _ (Decides-and _ _ (Decides-int_eq a.y b.y) (Decides-int_eq a.z b.z))
+    (Decides-int_eq a.x b.x))
 
 column_decided : (a b : Column) → Decides (same_column a b) (a ≡ b)
 unfolding same_column
 column_decided a b =
-    Decides-like _ (λ h. ap (λ x. (x, a.1)) h.0 ∙ ap (λ z. (b.0, z)) h.1) (λ e. (ap (λ c. c.0) e, ap (λ c. c.1) e))
+    Decides-like _ (λ h. ap (λ x. (x, a.1)) h.0 ∙ ap (λ z. (b.0, z)) h.1)
+    (λ e. (ap (λ c. c.0) e, ap (λ c. c.1) e))
     (Decides-and _ _ (Decides-int_eq a.0 b.0) (Decides-int_eq a.1 b.1))
 
 -- the two are of one kind, part by part the same
@@ -37,7 +40,8 @@ parts_decided : (a b : Outline) → Decides (same_outline a b) (HasSameParts a b
 unfolding same_outline same_corners same_points same_ends HasSameParts
 parts_decided (Cuboid a b) (Cuboid c d) = Decides-and _ _ (corner_decided a c) (corner_decided b d)
 parts_decided (Polygon ps a b) (Polygon qs c d) =
-    Decides-and _ _ (pointwise_decides column_decided ps qs) (Decides-and _ _ (Decides-int_eq a c) (Decides-int_eq b d))
+    Decides-and _ _ (pointwise_decides column_decided ps qs)
+    (Decides-and _ _ (Decides-int_eq a c) (Decides-int_eq b d))
 parts_decided (Cuboid a b) (Polygon qs c d) = (λ e. absurd (false≢true e), λ h. absurd h)
 parts_decided (Polygon ps a b) (Cuboid c d) = (λ e. absurd (false≢true e), λ h. absurd h)
 
@@ -55,7 +59,8 @@ joined (Cuboid a b) (Polygon qs c d) h = absurd h
 joined (Polygon ps a b) (Cuboid c d) h = absurd h
 
 pub outline_decided : (a b : Outline) → Decides (same_outline a b) (a ≡ b)
-outline_decided a b = Decides-like _ (joined a b) (λ e. subst (HasSameParts a) e (own_parts a)) (parts_decided a b)
+outline_decided a b =
+    Decides-like _ (joined a b) (λ e. subst (HasSameParts a) e (own_parts a)) (parts_decided a b)
 
 pub outlines_equiv : IsEquivalence same_outline
 outlines_equiv = decided same_outline outline_decided

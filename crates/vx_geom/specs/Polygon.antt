@@ -25,8 +25,8 @@ edges_from (Some last) points = edges_after last points
 abbrev pub edges : List Column → List Edge
 edges points = edges_from (slice_get points (length points - 1)) points
 
--- the cross product of the ways from a to b and from a to the position: 0 where all three are in line, and positive where
--- the position lies west of the line, if b is the further south
+-- the cross product of the ways from a to b and from a to the position: 0 where all three are in
+-- line, and positive where the position lies west of the line, if b is the further south
 unfoldable pub cross : Column → Column → Pos → ℤ
 cross a b p = (b.0 -ℤ a.0) *ℤ (p.z -ℤ a.1) -ℤ (b.1 -ℤ a.1) *ℤ (p.x -ℤ a.0)
 
@@ -50,7 +50,8 @@ spans a b p = int_le a.1 p.z && int_lt p.z b.1
 unfoldable pub passes_east : Column → Column → Pos → Bool
 passes_east a b p = spans a b p && int_lt (pos 0) (cross a b p)
 
--- the edge has one end south of the position and the other not, and meets the ray from the position to the east
+-- the edge has one end south of the position and the other not, and meets the ray from the position
+-- to the east
 unfoldable pub meets_ray : Pos → Edge → Bool
 meets_ray p e = passes_east e.0 e.1 p || passes_east e.1 e.0 p
 

@@ -1,20 +1,28 @@
 use Rattle.std.specs.Prelude.{ℕ, ℤ, pos, ◌+◌, ◌*◌, ◌/◌, ◌%◌, ◌≤◌, Bool, ◌&&◌, if◌then◌else◌, int_le, int_lt, unsigned_abs, Option, Some, None}
 use Rattle.vx_geom.specs.declared.pos.Pos.{Pos}
 
--- how many sectors a world has from west to east and from north to south, and how many chunks a side of a sector has
+-- how many sectors a world has from west to east and from north to south, and how many chunks a
+-- side of a sector has
 pub record Sizes : Type 0 where
   pub sx : ℕ
   pub sz : ℕ
   pub s : ℕ
 
+-- how many sectors a world has each way, and how many chunks a sector has each way
+abbrev pub most_sectors_each_way : ℕ
+most_sectors_each_way = 8
+
+abbrev pub most_chunks_each_way : ℕ
+most_chunks_each_way = 2
+
 -- a world has 1 to 8 sectors each way, of 1 or 2 chunks each way
 pub record AreSizes (v : Sizes) : Type 0 where
   pub sx_least : 1 ≤ v.sx
-  pub sx_most : v.sx ≤ 8
+  pub sx_most : v.sx ≤ most_sectors_each_way
   pub sz_least : 1 ≤ v.sz
-  pub sz_most : v.sz ≤ 8
+  pub sz_most : v.sz ≤ most_sectors_each_way
   pub s_least : 1 ≤ v.s
-  pub s_most : v.s ≤ 2
+  pub s_most : v.s ≤ most_chunks_each_way
 
 -- how many columns a side of a sector has
 abbrev pub span : Sizes → ℕ
@@ -34,7 +42,8 @@ is_below c n = int_le (pos 0) c && int_lt c (pos n)
 
 -- the world has a cell there
 unfoldable pub is_inside : Sizes → Pos → Bool
-is_inside v p = is_below p.x (v.sx * span v) && (is_below p.y height && is_below p.z (v.sz * span v))
+is_inside v p =
+    is_below p.x (v.sx * span v) && (is_below p.y height && is_below p.z (v.sz * span v))
 
 -- sectors are numbered row by row, each row from west to east, the rows from north to south
 unfoldable pub sector_number : Sizes → Pos → ℕ
@@ -48,6 +57,9 @@ sector_of v p = if is_inside v p then Some (sector_number v p) else None
 abbrev pub sector_cells : Sizes → ℕ
 sector_cells v = span v * span v * height
 
--- the place of a position among the cells of its sector: row by row from the north west, layer by layer from the bottom
-unfoldable pub place_in_sector : Sizes → Pos → ℕ
-place_in_sector v p = unsigned_abs p.x % span v + span v * (unsigned_abs p.z % span v + span v * unsigned_abs p.y)
+-- the index of a position among the cells of its sector: row by row from the north west, layer by
+-- layer from the bottom
+unfoldable pub index_in_sector : Sizes → Pos → ℕ
+index_in_sector v p =
+    unsigned_abs p.x % span v
+    + span v * (unsigned_abs p.z % span v + span v * unsigned_abs p.y)

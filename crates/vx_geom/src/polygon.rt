@@ -3,7 +3,8 @@ ghost use Rattle.vx_geom.specs.Polygon.{cross, is_between, in_box, on_edge, span
 
 use crate::pos::Pos;
 
-/// Whether the position's column is on an edge of the polygon or inside by the even-odd rule. Edges may cross one another.
+/// Whether the position's column is on an edge of the polygon or inside by the even-odd rule. Edges
+/// may cross one another.
 #[tactic(auto, unfolding(crate::specs::Polygon::in_polygon, crate::specs::Polygon::is_enclosed))]
 pub(crate) fn in_polygon(points: &[(i32, i32)], p: &Pos) -> bool
     ensures { result ≡ in_polygon points.now p.now }

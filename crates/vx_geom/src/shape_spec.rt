@@ -52,27 +52,3 @@ impl ShapeSpec {
         }
     }
 }
-
-#[cfg(test)]
-mod tests {
-    use super::*;
-    use std::test::Fail;
-
-    #[test]
-    fn a_copy_makes_the_same_shape(rt: HostRuntime) -> Result<(), Fail> {
-        let cuboid = ShapeSpec::Cuboid(Pos::new(3, 1, 4), Pos::new(1, 5, 9));
-        let copy = cuboid.try_clone(rt.alloc())?.shape()?;
-        assert!(rt; copy == Shape::cuboid(Pos::new(1, 1, 4), Pos::new(3, 5, 9)));
-        assert!(rt; copy == cuboid.shape()?);
-        let polygon = ShapeSpec::Poly(
-            Vec::from_slice(rt.alloc(), &[(0, 0), (9, 0), (0, 9)])?,
-            2,
-            6,
-        );
-        assert!(rt; polygon.is_shape());
-        let copy = polygon.try_clone(rt.alloc())?.shape()?;
-        assert!(rt; copy.contains(Pos::new(1, 2, 1)));
-        assert!(rt; copy == polygon.shape()?);
-        Ok(())
-    }
-}

@@ -13,7 +13,7 @@ use Rattle.vx_decide.specs.declared.verdict.Verdict.{Verdict}
 use Rattle.vx_decide.specs.declared.verdict.Verdict.TheVariants.{Permit, Deny}
 use Rattle.vx_sector.specs.SectorData.{SectorData, SeatData}
 use Rattle.vx_sector.specs.Commands.{place_of, action_of}
-use Rattle.vx_sector.specs.Acting.{refuse_if, refuse_denied, rule_of, judged, slots_at, hindrances, first_some, ok_unless, acted, applied, effect_by}
+use Rattle.vx_sector.specs.Acting.{refuse_if, refuse_denied, rule_of, judged, slots_at, hindrances, first_some, ok_unless, rules_answer, applied, effect_by}
 use Rattle.vx_sector.specs.Windows.{leaves_trace, is_recorded, sector_after}
 use Rattle.vx_sector.specs.Laws.{OnePlaceChanges, RefusalLeavesCells, DeniedByThePolicy, ShownByLeave}
 use Rattle.vx_sector.specs.declared.cmd.Cmd.{Cmd}
@@ -88,15 +88,15 @@ judged_traced (Permit rule) os reply h = unless_traced (first_some os) reply h
 judged_traced (Deny rule) os reply h = refl
 
 -- every answer of the rules is recorded
-pub acted_recorded : (regions : Regions) (c : SectorCells) (seat : SeatData) (cmd : Cmd) → is_recorded (acted regions c seat cmd) ≡ true
-unfolding acted
-acted_recorded regions c seat (Look p) = refl
-acted_recorded regions c seat (Place p part) = judged_traced (judged regions seat Placing p) _ _ (hindrance_stands c (Place p part))
-acted_recorded regions c seat (Break p) = judged_traced (judged regions seat Breaking p) _ _ (hindrance_stands c (Break p))
-acted_recorded regions c seat (Turn p) = judged_traced (judged regions seat Turning p) _ _ (hindrance_stands c (Turn p))
-acted_recorded regions c seat (OpenChest p) = judged_traced (judged regions seat Reaching p) _ _ (hindrance_stands c (OpenChest p))
-acted_recorded regions c seat (Put p slot item count) = judged_traced (judged regions seat Reaching p) _ _ (hindrance_stands c (Put p slot item count))
-acted_recorded regions c seat (Take p slot count) = judged_traced (judged regions seat Reaching p) _ _ (hindrance_stands c (Take p slot count))
+pub answer_recorded : (regions : Regions) (c : SectorCells) (seat : SeatData) (cmd : Cmd) → is_recorded (rules_answer regions c seat cmd) ≡ true
+unfolding rules_answer
+answer_recorded regions c seat (Look p) = refl
+answer_recorded regions c seat (Place p part) = judged_traced (judged regions seat Placing p) _ _ (hindrance_stands c (Place p part))
+answer_recorded regions c seat (Break p) = judged_traced (judged regions seat Breaking p) _ _ (hindrance_stands c (Break p))
+answer_recorded regions c seat (Turn p) = judged_traced (judged regions seat Turning p) _ _ (hindrance_stands c (Turn p))
+answer_recorded regions c seat (OpenChest p) = judged_traced (judged regions seat Reaching p) _ _ (hindrance_stands c (OpenChest p))
+answer_recorded regions c seat (Put p slot item count) = judged_traced (judged regions seat Reaching p) _ _ (hindrance_stands c (Put p slot item count))
+answer_recorded regions c seat (Take p slot count) = judged_traced (judged regions seat Reaching p) _ _ (hindrance_stands c (Take p slot count))
 
 pub none_against : {X : Type 0} (o : Option Refusal) (x y : X) → Ok x ≡ ok_unless o y → o ≡ None
 none_against None x y h = refl
@@ -117,8 +117,8 @@ told P a b same = subst P (sym (cc))
 -- a command that is permitted and that nothing stands against is done, by the rule that permits it
 pub done_by : (regions : Regions) (c : SectorCells) (seat : SeatData) (cmd : Cmd) (action : Action) (rule : Rule)
     → ((p : Pos) → cmd ≢ OpenChest p) → action_of cmd ≡ Some action → Permits regions seat (place_of cmd) rule action
-    → first_some (hindrances c cmd) ≡ None → acted regions c seat cmd ≡ Ok (Done rule)
-unfolding acted
+    → first_some (hindrances c cmd) ≡ None → rules_answer regions c seat cmd ≡ Ok (Done rule)
+unfolding rules_answer
 done_by regions c seat (Look p) action rule other asks permit none = cc
 done_by regions c seat (Place p part) action rule other asks permit none = permitted_done (judged regions seat Placing p) _ rule (told (Permits regions seat p rule) _ _ asks permit) none
 done_by regions c seat (Break p) action rule other asks permit none = permitted_done (judged regions seat Breaking p) _ rule (told (Permits regions seat p rule) _ _ asks permit) none
@@ -151,7 +151,7 @@ by_policy regions seat p a os reply rule h = (
 )
 
 pub denied_by_the_policy : DeniedByThePolicy
-unfolding acted
+unfolding rules_answer
 denied_by_the_policy regions c seat (Look p) rule = (λ same. cc, λ asked. let nobody = asked.1 in cc)
 denied_by_the_policy regions c seat (Place p part) rule = by_policy regions seat p Placing _ _ rule (hindrance_stands c (Place p part))
 denied_by_the_policy regions c seat (Break p) rule = by_policy regions seat p Breaking _ _ rule (hindrance_stands c (Break p))
@@ -178,7 +178,7 @@ not_opened None rule by slots same = cc
 not_opened (Some refusal) rule by slots same = cc
 
 pub shown_by_leave : ShownByLeave
-unfolding acted
+unfolding rules_answer
 shown_by_leave regions c seat (Look p) rule slots same = cc
 shown_by_leave regions c seat (Place p part) rule slots same = absurd (not_opened _ _ _ _ same)
 shown_by_leave regions c seat (Break p) rule slots same = absurd (not_opened _ _ _ _ same)

@@ -3,7 +3,7 @@ use Rattle.std.proofs.Common.{◌≡◌, inl, inr, false, List, [], ◌∷◌, l
 use Rattle.std.proofs.lemmas.Bool.{cases_lt}
 use Rattle.std.proofs.Math.ListN.{get_or-eq_default}
 use Rattle.vx_geom.specs.declared.pos.Pos.{Pos}
-use Rattle.vx_geom.specs.Sizes.{place_in_sector}
+use Rattle.vx_geom.specs.Sizes.{index_in_sector}
 use Rattle.vx_block.specs.declared.cell.Cell.TheVariants.{Air}
 use Rattle.vx_cells.specs.SectorCells.{SectorCells, IsWhole, IsBlock, placed, is_chest, block_at, cell_at}
 use Rattle.vx_sector.specs.Acting.{slots_at}
@@ -18,8 +18,8 @@ air_is_block = record { slots = refl; each = λ k d below. absurd (omega (arith,
 -- what stands at a position is a chest with its slots, or has none
 pub is_block_at : (c : SectorCells) (p : Pos) → IsWhole c → IsBlock (block_at c p)
 unfolding block_at
-is_block_at c p whole = elim (cases_lt (place_in_sector c.bounds p) (length c.blocks)) [
-  | inl below ↦ whole.each (place_in_sector c.bounds p) (placed Air) below
+is_block_at c p whole = elim (cases_lt (index_in_sector c.bounds p) (length c.blocks)) [
+  | inl below ↦ whole.each (index_in_sector c.bounds p) (placed Air) below
   | inr above ↦ subst IsBlock (sym (get_or-eq_default c.blocks (placed Air) above)) air_is_block
 ]
 

@@ -5,14 +5,14 @@ use Rattle.vx_cells.specs.SectorCells.{SectorCells, holds}
 use Rattle.vx_region.specs.Regions.{Regions}
 use Rattle.vx_sector.specs.SectorData.{SectorData, SeatData}
 use Rattle.vx_sector.specs.Commands.{place_of}
-use Rattle.vx_sector.specs.Acting.{acted}
+use Rattle.vx_sector.specs.Acting.{rules_answer}
 use Rattle.vx_sector.specs.Windows.{answer_of, is_full, leaves_trace, is_recorded, recorded, sector_after, count_of, most_entries}
 use Rattle.vx_sector.specs.Laws.{OutsideIsRefused}
 use Rattle.vx_sector.specs.declared.cmd.Cmd.{Cmd}
 use Rattle.vx_sector.specs.declared.reply.Reply.{Reply}
 use Rattle.vx_sector.specs.declared.refusal.Refusal.{Refusal}
 use Rattle.vx_sector.specs.declared.refusal.Refusal.TheVariants.{OutOfWorld, HistoryFull}
-use Rattle.vx_sector.proofs.ActingLemmas.{acted_recorded}
+use Rattle.vx_sector.proofs.ActingLemmas.{answer_recorded}
 
 recorded_inside : (held full : Bool) (answer : Result Reply Refusal) → held ≡ true → is_recorded answer ≡ true
     → (if not held then Err OutOfWorld else if full then Err HistoryFull else answer) ≢ Err OutOfWorld
@@ -24,7 +24,7 @@ recorded_inside false full answer is_held kept same = cc
 -- a position of the sector is not out of the world
 pub inside_is_not_refused : (s : SectorData) (seat : SeatData) (cmd : Cmd) → holds s.cells (place_of cmd) ≡ true → answer_of s seat cmd ≢ Err OutOfWorld
 unfolding answer_of
-inside_is_not_refused s seat cmd held same = recorded_inside _ (is_full s) _ held (acted_recorded s.version.policy s.cells seat cmd) same
+inside_is_not_refused s seat cmd held same = recorded_inside _ (is_full s) _ held (answer_recorded s.version.policy s.cells seat cmd) same
 
 -- a position elsewhere is
 pub elsewhere_is_refused : (s : SectorData) (seat : SeatData) (cmd : Cmd) → holds s.cells (place_of cmd) ≡ false → answer_of s seat cmd ≡ Err OutOfWorld
@@ -49,20 +49,20 @@ full_is_refused s seat cmd held full = rw (held, full) refl
 
 -- and is answered by the rules where there is room
 pub answered_by_the_rules : (s : SectorData) (seat : SeatData) (cmd : Cmd) → holds s.cells (place_of cmd) ≡ true → is_full s ≡ false
-    → acted s.version.policy s.cells seat cmd ≡ answer_of s seat cmd
+    → rules_answer s.version.policy s.cells seat cmd ≡ answer_of s seat cmd
 unfolding answer_of
 answered_by_the_rules s seat cmd held free = rw (held, free) refl
 
 -- the rules answer nothing that leaves no trace
-pub not_answered : (regions : Regions) (c : SectorCells) (seat : SeatData) (cmd : Cmd) (answer : Result Reply Refusal) (refusal : Refusal) → answer ≡ acted regions c seat cmd
+pub not_answered : (regions : Regions) (c : SectorCells) (seat : SeatData) (cmd : Cmd) (answer : Result Reply Refusal) (refusal : Refusal) → answer ≡ rules_answer regions c seat cmd
     → leaves_trace refusal ≡ false → answer ≢ Err refusal
 not_answered regions c seat cmd answer refusal acts no_trace same =
-    let kept : is_recorded answer ≡ true = rw acts (acted_recorded regions c seat cmd) in
+    let kept : is_recorded answer ≡ true = rw acts (answer_recorded regions c seat cmd) in
     let lost : leaves_trace refusal ≡ true = subst (λ a. is_recorded a ≡ true) same kept in cc
 
 -- so each of its answers is recorded
-pub after_acted : (s : SectorData) (seat : SeatData) (cmd : Cmd) (answer : Result Reply Refusal) → answer ≡ acted s.version.policy s.cells seat cmd
+pub after_answer : (s : SectorData) (seat : SeatData) (cmd : Cmd) (answer : Result Reply Refusal) → answer ≡ rules_answer s.version.policy s.cells seat cmd
     → recorded s (record { seat = seat; cmd = cmd; answer = answer }) ≡ sector_after s seat cmd answer
 unfolding sector_after
-after_acted s seat cmd answer acts =
-    let kept : is_recorded answer ≡ true = rw acts (acted_recorded s.version.policy s.cells seat cmd) in rw kept refl
+after_answer s seat cmd answer acts =
+    let kept : is_recorded answer ≡ true = rw acts (answer_recorded s.version.policy s.cells seat cmd) in rw kept refl

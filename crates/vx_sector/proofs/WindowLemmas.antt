@@ -6,19 +6,19 @@ use Rattle.vx_cells.specs.SectorCells.{SectorCells, holds}
 use Rattle.vx_region.specs.Regions.{Regions}
 use Rattle.vx_sector.specs.SectorData.{SectorData, EntryData}
 use Rattle.vx_sector.specs.Commands.{place_of}
-use Rattle.vx_sector.specs.Acting.{acted, applied, effect_by, cells_by}
-use Rattle.vx_sector.specs.Windows.{after, IsWindow, IsSector, most_entries, count_of, recorded}
+use Rattle.vx_sector.specs.Acting.{rules_answer, applied, effect_by, cells_by}
+use Rattle.vx_sector.specs.Windows.{cells_after, IsWindow, IsSector, most_entries, count_of, recorded}
 
 -- the entry has the answer that the rules give on the cells
 abbrev pub IsNext : Regions → SectorCells → EntryData → Type 0
-IsNext regions c entry = (holds c (place_of entry.cmd) ≡ true) × (entry.answer ≡ acted regions c entry.seat entry.cmd)
+IsNext regions c entry = (holds c (place_of entry.cmd) ≡ true) × (entry.answer ≡ rules_answer regions c entry.seat entry.cmd)
 
-pub after_push : (c : SectorCells) (entries : List EntryData) (entry : EntryData) → after c (entries ++ entry ∷ []) ≡ cells_by (after c entries) entry.cmd entry.answer
-after_push c [] entry = refl
-after_push c (first ∷ entries) entry = after_push (cells_by c first.cmd first.answer) entries entry
+pub cells_after_push : (c : SectorCells) (entries : List EntryData) (entry : EntryData) → cells_after c (entries ++ entry ∷ []) ≡ cells_by (cells_after c entries) entry.cmd entry.answer
+cells_after_push c [] entry = refl
+cells_after_push c (first ∷ entries) entry = cells_after_push (cells_by c first.cmd first.answer) entries entry
 
 pub window_push : (regions : Regions) (c : SectorCells) (entries : List EntryData) (entry : EntryData)
-    → IsWindow regions c entries → IsNext regions (after c entries) entry → IsWindow regions c (entries ++ entry ∷ [])
+    → IsWindow regions c entries → IsNext regions (cells_after c entries) entry → IsWindow regions c (entries ++ entry ∷ [])
 window_push regions c [] entry window next = (next.0, next.1, tt)
 window_push regions c (first ∷ entries) entry window next =
     (window.0, window.1, window_push regions (cells_by c first.cmd first.answer) entries entry window.2 next)
@@ -28,7 +28,7 @@ pub sector_recorded : (s : SectorData) (entry : EntryData) → IsSector s → Is
     → IsSector (recorded s entry)
 sector_recorded s entry sector next room = record {
   window = window_push s.version.policy s.base s.entries entry sector.window (subst (λ c. IsNext s.version.policy c entry) sector.cells next);
-  cells = ap (λ c. cells_by c entry.cmd entry.answer) sector.cells ∙ sym (after_push s.base s.entries entry);
+  cells = ap (λ c. cells_by c entry.cmd entry.answer) sector.cells ∙ sym (cells_after_push s.base s.entries entry);
   most = omega (arith, length-append s.entries (entry ∷ []));
 }
 

@@ -8,7 +8,7 @@ use Rattle.vx_block.specs.declared.cell.Cell.{Cell}
 use Rattle.vx_block.specs.declared.cell.Cell.TheVariants as cell
 use Rattle.vx_block.specs.Part.{part_cell}
 use Rattle.vx_cells.specs.declared.stack.Stack.{Stack}
-use Rattle.vx_cells.specs.SectorCells.{SectorCells, IsSlot, is_chest, block_at, cell_at, with_cell, with_slot}
+use Rattle.vx_cells.specs.SectorCells.{SectorCells, IsSlot, most_count, is_chest, block_at, cell_at, with_cell, with_slot}
 use Rattle.vx_region.specs.Regions.{Regions}
 use Rattle.vx_region.specs.Subjects.{Named}
 use Rattle.vx_decide.specs.declared.rule.Rule.{Rule}
@@ -81,7 +81,9 @@ slot_at c p slot = slice_index_or (slots_at c p) slot None
 
 -- what the policy has against a command: a denial, by its rule
 abbrev pub denial : Regions → SeatData → Cmd → Option Refusal
-denial regions seat cmd = option_and_then (λ action. refuse_denied (judged regions seat action (place_of cmd))) (action_of cmd)
+denial regions seat cmd =
+    option_and_then (λ action. refuse_denied (judged regions seat action (place_of cmd)))
+    (action_of cmd)
 
 -- what stands in the way of a command that is permitted, in the order in which it is looked for
 abbrev pub hindrances : SectorCells → Cmd → List (Option Refusal)
@@ -99,7 +101,7 @@ hindrances c (Put p slot item count) =
     refuse_if (not (is_chest (cell_at c p))) NotChest
     ∷ refuse_if (nat_lt 26 slot) NoSlot
     ∷ refuse_if (holds_other item (slot_at c p slot)) OtherItem
-    ∷ refuse_if (nat_eq count 0 || nat_lt 64 (count_in (slot_at c p slot) + count)) BadCount
+    ∷ refuse_if (nat_eq count 0 || nat_lt most_count (count_in (slot_at c p slot) + count)) BadCount
     ∷ []
 hindrances c (Take p slot count) =
     refuse_if (not (is_chest (cell_at c p))) NotChest
@@ -118,13 +120,24 @@ abbrev pub ok_unless : {X : Type 0} → Option Refusal → X → Result X Refusa
 ok_unless (Some refusal) x = Err refusal
 ok_unless None x = Ok x
 
+-- the rule that permits the player of the seat the action at the place, or a denial
+abbrev pub leave : Regions → SeatData → Action → Pos → Result Rule Refusal
+leave regions seat action p =
+    ok_unless (refuse_denied (judged regions seat action p))
+    (rule_of (judged regions seat action p))
+
+-- the first that stands in the way of a command that is permitted
+abbrev pub hindrance : SectorCells → Cmd → Option Refusal
+hindrance c cmd = first_some (hindrances c cmd)
+
 -- the answer to a command that nothing stands against
 abbrev pub reply_of : Regions → SectorCells → SeatData → Cmd → Reply
 reply_of regions c seat (Look p) = Seen (cell_at c p)
 reply_of regions c seat (Place p part) = Done (rule_of (judged regions seat Placing p))
 reply_of regions c seat (Break p) = Done (rule_of (judged regions seat Breaking p))
 reply_of regions c seat (Turn p) = Done (rule_of (judged regions seat Turning p))
-reply_of regions c seat (OpenChest p) = Opened (rule_of (judged regions seat Reaching p)) (slots_at c p)
+reply_of regions c seat (OpenChest p) =
+    Opened (rule_of (judged regions seat Reaching p)) (slots_at c p)
 reply_of regions c seat (Put p slot item count) = Done (rule_of (judged regions seat Reaching p))
 reply_of regions c seat (Take p slot count) = Done (rule_of (judged regions seat Reaching p))
 
@@ -138,14 +151,22 @@ effect_of c (OpenChest p) = Same
 effect_of c (Put p slot item count) = NewSlot slot (with_more item count (slot_at c p slot))
 effect_of c (Take p slot count) = NewSlot slot (with_fewer count (slot_at c p slot))
 
--- what is done fits what stands at the position: a slot is one of a chest there, and may hold what it is to hold
+-- what a command that is permitted does, or what stands in its way
+abbrev pub permitted_effect : SectorCells → Cmd → Result Effect Refusal
+permitted_effect c cmd = ok_unless (hindrance c cmd) (effect_of c cmd)
+
+-- what is done fits what stands at the position: a slot is one of a chest there, and may hold what
+-- it is to hold
 abbrev pub Fits : SectorCells → Pos → Effect → Type 0
 Fits c p (NewSlot slot content) = (is_chest (cell_at c p) ≡ true) × (slot < 27) × IsSlot content
 Fits c p _ = Unit {0}
 
--- the answer that the rules give to a command of a seat: a denial first, then what stands in its way
-unfoldable pub acted : Regions → SectorCells → SeatData → Cmd → Result Reply Refusal
-acted regions c seat cmd = ok_unless (first_some (denial regions seat cmd ∷ hindrances c cmd)) (reply_of regions c seat cmd)
+-- the answer that the rules give to a command of a seat: a denial first, then what stands in its
+-- way
+unfoldable pub rules_answer : Regions → SectorCells → SeatData → Cmd → Result Reply Refusal
+rules_answer regions c seat cmd =
+    ok_unless (first_some (denial regions seat cmd ∷ hindrances c cmd))
+    (reply_of regions c seat cmd)
 
 -- the cells after something was done at a position
 abbrev pub applied : SectorCells → Pos → Effect → SectorCells

@@ -1,4 +1,5 @@
--- The test of two chests' slots answers yes exactly where they are the same, and so meets the laws of `==`.
+-- The test of two chests' slots answers yes exactly where they are the same, and so meets the laws
+-- of `==`.
 use Rattle.std.specs.Prelude.{Bool, List, Option}
 use Rattle.std.specs.Option.{option_eq}
 use Rattle.std.specs.Cmp.{IsEquivalence, decided}

@@ -1,4 +1,4 @@
-use Rattle.std.specs.Prelude.{ℕ, List, Result}
+use Rattle.std.specs.Prelude.{ℕ, List, Result, map}
 use Rattle.vx_cells.specs.SectorCells.{SectorCells}
 use Rattle.vx_policy.specs.declared.version.Version.{Version}
 use Rattle.vx_sector.specs.declared.cmd.Cmd.{Cmd}
@@ -23,8 +23,8 @@ pub record FreshData : Type 0 where
   pub cells : SectorCells
   pub version : Version
 
--- a sector: the cells as its window began and as they are, the version that judges the commands of the window, their record, and how
--- many were recorded in the windows before
+-- a sector: the cells as its window began and as they are, the version that judges the commands of
+-- the window, their record, and how many were recorded in the windows before
 pub record SectorData : Type 0 where
   pub base : SectorCells
   pub cells : SectorCells
@@ -39,3 +39,13 @@ seat_of seat = record { number = seat.number; name = seat.name.text.bytes }
 -- what an entry of the record says
 abbrev pub entry_of : Entry → EntryData
 entry_of entry = record { seat = seat_of entry.seat; cmd = entry.cmd; answer = entry.answer }
+
+-- a sector by its parts
+abbrev pub sector_data : SectorCells → SectorCells → Version → List Entry → ℕ → SectorData
+sector_data base cells version entries closed = record {
+  base = base;
+  cells = cells;
+  version = version;
+  entries = map entry_of entries;
+  closed = closed;
+}

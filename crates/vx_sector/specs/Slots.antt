@@ -23,4 +23,7 @@ with_more item count slot = Some (record { item = item; count = count_in slot + 
 -- a slot with so many fewer; one from which all are taken is empty
 abbrev pub with_fewer : ℕ → Option Stack → Option Stack
 with_fewer count None = None
-with_fewer count (Some stack) = if nat_eq stack.count count then None else Some (record stack { count = stack.count - count })
+with_fewer count (Some stack) =
+    if nat_eq stack.count count
+    then None
+    else Some (record stack { count = stack.count - count })

@@ -12,7 +12,9 @@ use Rattle.vx_sector.specs.declared.refusal.Refusal.TheVariants as refusal
 -- a slot as it is written, by its number, the item and how many of it; an empty one is not
 abbrev pub slot_text : ℕ → Option Stack → List ℕ
 slot_text number None = []
-slot_text number (Some stack) = codes " " ++ decimal number ++ codes "=" ++ decimal stack.item ++ codes "x" ++ decimal stack.count
+slot_text number (Some stack) =
+    codes " " ++ decimal number ++ codes "=" ++ decimal stack.item
+    ++ codes "x" ++ decimal stack.count
 
 -- slots as they are written, one after another, the first of which has this number
 abbrev pub slots_text : ℕ → List (Option Stack) → List ℕ
@@ -27,7 +29,8 @@ contents_text slots = if list_any is_filled slots then slots_text 0 slots else c
 abbrev pub reply_text : Reply → List ℕ
 reply_text (Seen cell) = codes "seen " ++ cell_text cell
 reply_text (Done rule) = codes "ok " ++ rule_text rule
-reply_text (Opened rule slots) = codes "ok " ++ rule_text rule ++ codes " holds" ++ contents_text slots
+reply_text (Opened rule slots) =
+    codes "ok " ++ rule_text rule ++ codes " holds" ++ contents_text slots
 
 -- a refusal as it is written: its number and its words; a denial's words are the rule that denies
 abbrev pub refusal_text : Refusal → List ℕ

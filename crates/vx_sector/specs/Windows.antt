@@ -1,7 +1,7 @@
 use Rattle.std.specs.Prelude.{◌≡◌, ℕ, ◌+◌, ◌≤◌, ◌^◌, Bool, true, false, not, nat_le, if◌then◌else◌, List, [], ◌∷◌, ◌++◌, length, Result, Ok, Err}
 use Rattle.vx_cells.specs.SectorCells.{SectorCells, holds}
 use Rattle.vx_region.specs.Regions.{Regions}
-use Rattle.vx_sector.specs.Acting.{acted, cells_by}
+use Rattle.vx_sector.specs.Acting.{rules_answer, cells_by}
 use Rattle.vx_sector.specs.Commands.{place_of}
 use Rattle.vx_sector.specs.SectorData.{SectorData, SeatData, EntryData, FreshData}
 use Rattle.vx_sector.specs.declared.cmd.Cmd.{Cmd}
@@ -10,17 +10,17 @@ use Rattle.vx_sector.specs.declared.refusal.Refusal.{Refusal}
 use Rattle.vx_sector.specs.declared.refusal.Refusal.TheVariants.{OutOfWorld, HistoryFull, NoMemory}
 
 -- the cells after the entries of a window
-abbrev pub after : SectorCells → List EntryData → SectorCells
-after c [] = c
-after c (entry ∷ entries) = after (cells_by c entry.cmd entry.answer) entries
+abbrev pub cells_after : SectorCells → List EntryData → SectorCells
+cells_after c [] = c
+cells_after c (entry ∷ entries) = cells_after (cells_by c entry.cmd entry.answer) entries
 
--- these entries are a window over the cells: each is of a position of the sector, and its answer is the one that the rules give on the
--- cells that the entries before it leave
+-- these entries are a window over the cells: each is of a position of the sector, and its answer is
+-- the one that the rules give on the cells that the entries before it leave
 abbrev pub IsWindow : Regions → SectorCells → List EntryData → Type 0
 IsWindow regions c [] = Unit {0}
 IsWindow regions c (entry ∷ entries) =
     (holds c (place_of entry.cmd) ≡ true)
-    × (entry.answer ≡ acted regions c entry.seat entry.cmd)
+    × (entry.answer ≡ rules_answer regions c entry.seat entry.cmd)
     × IsWindow regions (cells_by c entry.cmd entry.answer) entries
 
 -- how many entries a sector records
@@ -35,11 +35,11 @@ count_of s = length s.entries + s.closed
 unfoldable pub is_full : SectorData → Bool
 is_full s = nat_le most_entries (count_of s)
 
--- what a sector is at every moment: its entries are a window over the cells with which that began, by the version of the window, and its
--- cells are what they leave
+-- what a sector is at every moment: its entries are a window over the cells with which that began,
+-- by the version of the window, and its cells are what they leave
 pub record IsSector (s : SectorData) : Type 0 where
   pub window : IsWindow s.version.policy s.base s.entries
-  pub cells : s.cells ≡ after s.base s.entries
+  pub cells : s.cells ≡ cells_after s.base s.entries
   pub most : count_of s ≤ most_entries
 
 -- the answer of a sector to a command of a seat
@@ -47,13 +47,17 @@ unfoldable pub answer_of : SectorData → SeatData → Cmd → Result Reply Refu
 answer_of s seat cmd =
     if not (holds s.cells (place_of cmd)) then Err OutOfWorld
     else if is_full s then Err HistoryFull
-    else acted s.version.policy s.cells seat cmd
+    else rules_answer s.version.policy s.cells seat cmd
 
 -- the command with its answer at the end of the record, and what it does done
 abbrev pub recorded : SectorData → EntryData → SectorData
-recorded s entry = record s { cells = cells_by s.cells entry.cmd entry.answer; entries = s.entries ++ entry ∷ [] }
+recorded s entry = record s {
+  cells = cells_by s.cells entry.cmd entry.answer;
+  entries = s.entries ++ entry ∷ [];
+}
 
--- a refusal leaves no trace where the position is not of the sector, where the record is full, or where memory was wanting
+-- a refusal leaves no trace where the position is not of the sector, where the record is full, or
+-- where memory was wanting
 abbrev pub leaves_trace : Refusal → Bool
 leaves_trace OutOfWorld = false
 leaves_trace HistoryFull = false
@@ -67,11 +71,20 @@ is_recorded (Err refusal) = leaves_trace refusal
 
 -- the sector after a command and its answer
 unfoldable pub sector_after : SectorData → SeatData → Cmd → Result Reply Refusal → SectorData
-sector_after s seat cmd answer = if is_recorded answer then recorded s (record { seat = seat; cmd = cmd; answer = answer }) else s
+sector_after s seat cmd answer =
+    if is_recorded answer
+    then recorded s (record { seat = seat; cmd = cmd; answer = answer })
+    else s
 
 -- the sector as a window begins in it, with nothing recorded yet
 abbrev pub first_window : FreshData → SectorData
-first_window fresh = record { base = fresh.cells; cells = fresh.cells; version = fresh.version; entries = []; closed = 0 }
+first_window fresh = record {
+  base = fresh.cells;
+  cells = fresh.cells;
+  version = fresh.version;
+  entries = [];
+  closed = 0;
+}
 
 -- the sector as its next window begins
 unfoldable pub renewed : SectorData → FreshData → SectorData

@@ -3,7 +3,7 @@ ghost use Rattle.std.specs.Prelude.{◌≡◌, ◌⊎◌, true, Some, None, IfOk
 ghost use Rattle.vx_cells.specs.SectorCells.{IsWhole, holds};
 ghost use Rattle.vx_sector.specs.SectorData.{seat_of};
 ghost use Rattle.vx_sector.specs.Commands.{place_of};
-ghost use Rattle.vx_sector.specs.Acting.{judged, refuse_denied, rule_of, ok_unless, first_some, hindrances, slots_at, effect_of, effect_by, acted, Fits};
+ghost use Rattle.vx_sector.specs.Acting.{leave, hindrance, slots_at, effect_of, effect_by, permitted_effect, rules_answer, Fits};
 
 use crate::chests::{is_in_use, opening, putting, taking};
 use crate::cmd::Cmd;
@@ -21,9 +21,9 @@ use vx_flag::Action;
 use vx_geom::Pos;
 use vx_region::{RegionSet, Subject};
 
-/// The answer of the rules to a command at a position of the sector, and what the command does. It takes memory for what an opened chest
-/// holds; its only error is that there is none.
-pub fn acted(
+/// The answer of the rules to a command at a position of the sector, and what the command does. It
+/// takes memory for what an opened chest holds; its only error is that memory is wanting.
+pub fn outcome_of(
     alloc: Global,
     regions: &RegionSet,
     cells: &Cells,
@@ -32,8 +32,10 @@ pub fn acted(
 ) -> Result<Outcome, Refusal>
     requires held { holds cells.now (place_of cmd.now) ≡ true }
     requires whole { IsWhole cells.now }
-    ensures answer { IfOk result (λ outcome. outcome.answer ≡ acted regions.now cells.now (seat_of seat.now) cmd.now) }
-    ensures effect { IfOk result (λ outcome. outcome.effect ≡ effect_by cells.now cmd.now outcome.answer) }
+    ensures answer { IfOk result (λ outcome.
+        outcome.answer ≡ rules_answer regions.now cells.now (seat_of seat.now) cmd.now) }
+    ensures effect { IfOk result (λ outcome.
+        outcome.effect ≡ effect_by cells.now cmd.now outcome.answer) }
     ensures fits { IfOk result (λ outcome. Fits cells.now (place_of cmd.now) outcome.effect) }
     ensures memory { IfErr result (λ refusal. refusal ≡ Refusal.NoMemory) }
 {
@@ -51,7 +53,7 @@ pub fn acted(
 }
 
 // The reply to a command that nothing stands against, and what the command does.
-#[tactic(auto, unfolding(crate::specs::Acting::acted))]
+#[tactic(auto, unfolding(crate::specs::Acting::rules_answer))]
 fn carried_out(
     alloc: Global,
     regions: &RegionSet,
@@ -62,8 +64,9 @@ fn carried_out(
     requires held { holds cells.now (place_of cmd.now) ≡ true }
     requires whole { IsWhole cells.now }
     ensures answer { MatchResult result
-        (λ done. acted regions.now cells.now (seat_of seat.now) cmd.now ≡ Ok done.0)
-        (λ refusal. (acted regions.now cells.now (seat_of seat.now) cmd.now ≡ Err refusal) ⊎ (refusal ≡ Refusal.NoMemory)) }
+        (λ done. rules_answer regions.now cells.now (seat_of seat.now) cmd.now ≡ Ok done.0)
+        (λ refusal. (rules_answer regions.now cells.now (seat_of seat.now) cmd.now ≡ Err refusal)
+        ⊎ (refusal ≡ Refusal.NoMemory)) }
     ensures effect { IfOk result (λ done. done.1 ≡ effect_of cells.now cmd.now) }
     ensures fits { IfOk result (λ done. Fits cells.now (place_of cmd.now) done.1) }
 {
@@ -82,7 +85,7 @@ fn carried_out(
 
 // The rule that permits the player of the seat the action at the place.
 fn permitted(regions: &RegionSet, seat: &Seat, action: Action, p: Pos) -> Result<Rule, Refusal>
-    ensures { result ≡ ok_unless (refuse_denied (judged regions.now (seat_of seat.now) action p)) (rule_of (judged regions.now (seat_of seat.now) action p)) }
+    ensures { result ≡ leave regions.now (seat_of seat.now) action p }
 {
     match Plain::new(regions).decide(&Subject::Player(seat.name), action, p) {
         Verdict::Permit(rule) => Ok(rule),
@@ -94,8 +97,10 @@ fn permitted(regions: &RegionSet, seat: &Seat, action: Action, p: Pos) -> Result
 fn shown(alloc: Global, cells: &Cells, p: Pos) -> Result<Contents, Refusal>
     requires { holds cells.now p ≡ true }
     ensures { MatchResult result
-        (λ contents. (first_some (hindrances cells.now (Cmd.OpenChest p)) ≡ None) × (contents ≡ slots_at cells.now p))
-        (λ refusal. (first_some (hindrances cells.now (Cmd.OpenChest p)) ≡ Some refusal) ⊎ (refusal ≡ Refusal.NoMemory)) }
+        (λ contents. (hindrance cells.now (Cmd.OpenChest p) ≡ None)
+        × (contents ≡ slots_at cells.now p))
+        (λ refusal. (hindrance cells.now (Cmd.OpenChest p) ≡ Some refusal)
+        ⊎ (refusal ≡ Refusal.NoMemory)) }
 {
     let slots = opening(cells, p)?;
     Contents::new(alloc, slots).map_err(|_| Refusal::NoMemory)
@@ -105,9 +110,11 @@ fn shown(alloc: Global, cells: &Cells, p: Pos) -> Result<Contents, Refusal>
 fn effect(cells: &Cells, cmd: &Cmd) -> Result<Effect, Refusal>
     requires held { holds cells.now (place_of cmd.now) ≡ true }
     requires whole { IsWhole cells.now }
-    ensures effect { result ≡ ok_unless (first_some (hindrances cells.now cmd.now)) (effect_of cells.now cmd.now) }
+    ensures effect { result ≡ permitted_effect cells.now cmd.now }
     ensures fits { IfOk result (λ effect. Fits cells.now (place_of cmd.now) effect) }
 {
+    // A look and an opened chest change nothing. They stand here so that each command has its
+    // effect; `carried_out` answers both before it asks for one.
     match cmd {
         Cmd::Look(_) => Ok(Effect::Same),
         Cmd::Place(p, part) => placing(cells, *p, *part),
@@ -130,7 +137,7 @@ fn effect(cells: &Cells, cmd: &Cmd) -> Result<Effect, Refusal>
 // A part put where there is air.
 fn placing(cells: &Cells, p: Pos, part: Part) -> Result<Effect, Refusal>
     requires { holds cells.now p ≡ true }
-    ensures { result ≡ ok_unless (first_some (hindrances cells.now (Cmd.Place p part))) (effect_of cells.now (Cmd.Place p part)) }
+    ensures { result ≡ permitted_effect cells.now (Cmd.Place p part) }
 {
     let Cell::Air = cells.get(p) else {
         return Err(Refusal::Occupied);
@@ -142,7 +149,7 @@ fn placing(cells: &Cells, p: Pos, part: Part) -> Result<Effect, Refusal>
 fn breaking(cells: &Cells, p: Pos) -> Result<Effect, Refusal>
     requires held { holds cells.now p ≡ true }
     requires whole { IsWhole cells.now }
-    ensures { result ≡ ok_unless (first_some (hindrances cells.now (Cmd.Break p))) (effect_of cells.now (Cmd.Break p)) }
+    ensures { result ≡ permitted_effect cells.now (Cmd.Break p) }
 {
     match cells.get(p) {
         Cell::Air => Err(Refusal::Nothing),
@@ -156,7 +163,7 @@ fn breaking(cells: &Cells, p: Pos) -> Result<Effect, Refusal>
 // A lever switched.
 fn turning(cells: &Cells, p: Pos) -> Result<Effect, Refusal>
     requires { holds cells.now p ≡ true }
-    ensures { result ≡ ok_unless (first_some (hindrances cells.now (Cmd.Turn p))) (effect_of cells.now (Cmd.Turn p)) }
+    ensures { result ≡ permitted_effect cells.now (Cmd.Turn p) }
 {
     let Cell::Lever { facing, on } = cells.get(p) else {
         return Err(Refusal::NotLever);

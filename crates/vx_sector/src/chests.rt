@@ -3,21 +3,19 @@ ghost use Rattle.std.specs.Prelude.{◌≡◌, ◌<◌, true, not, nat_lt, [], �
 ghost use Rattle.std.specs.List.{All, list_any};
 ghost use Rattle.vx_cells.specs.SectorCells.{IsWhole, IsSlot, is_chest, holds, cell_at};
 ghost use Rattle.vx_sector.specs.Slots.{count_in, is_filled, holds_other};
-ghost use Rattle.vx_sector.specs.Acting.{refuse_if, ok_unless, first_some, hindrances, effect_of, Fits, slots_at, slot_at};
+ghost use Rattle.vx_sector.specs.Acting.{refuse_if, ok_unless, first_some, hindrance, permitted_effect, Fits, slots_at, slot_at};
 
 use crate::cmd::Cmd;
 use crate::effect::Effect;
 use crate::refusal::Refusal;
-use vx_cells::{Cells, SLOTS, Slot, Stack};
+use vx_cells::{Cells, MAX_COUNT, SLOTS, Slot, Stack};
 use vx_geom::Pos;
-
-/// How many items a slot takes.
-const STACK: u8 = 64;
 
 /// The slots of the chest to be opened.
 pub fn opening(cells: &Cells, p: Pos) -> Result<[Slot; SLOTS], Refusal>
     requires { holds cells.now p ≡ true }
-    ensures slots { result ≡ ok_unless (first_some (hindrances cells.now (Cmd.OpenChest p))) (slots_at cells.now p) }
+    ensures slots { result
+        ≡ ok_unless (hindrance cells.now (Cmd.OpenChest p)) (slots_at cells.now p) }
     ensures each { IfOk result (All IsSlot) }
 {
     cells.chest(p).ok_or(Refusal::NotChest)
@@ -26,7 +24,7 @@ pub fn opening(cells: &Cells, p: Pos) -> Result<[Slot; SLOTS], Refusal>
 /// So many of an item put into a slot of a chest.
 pub fn putting(cells: &Cells, p: Pos, slot: u8, item: u16, count: u8) -> Result<Effect, Refusal>
     requires { holds cells.now p ≡ true }
-    ensures effect { result ≡ ok_unless (first_some (hindrances cells.now (Cmd.Put p slot item count))) (effect_of cells.now (Cmd.Put p slot item count)) }
+    ensures effect { result ≡ permitted_effect cells.now (Cmd.Put p slot item count) }
     ensures fits { IfOk result (λ effect. Fits cells.now p effect) }
 {
     let content = content_of(cells, p, slot)?;
@@ -34,7 +32,7 @@ pub fn putting(cells: &Cells, p: Pos, slot: u8, item: u16, count: u8) -> Result<
         return Err(Refusal::OtherItem);
     }
     let held = count_in(content);
-    if count == 0 || count > STACK - held {
+    if count == 0 || count > MAX_COUNT - held {
         return Err(Refusal::BadCount);
     }
     let count = held + count;
@@ -44,7 +42,7 @@ pub fn putting(cells: &Cells, p: Pos, slot: u8, item: u16, count: u8) -> Result<
 /// So many taken out of a slot of a chest. One from which all are taken is empty.
 pub fn taking(cells: &Cells, p: Pos, slot: u8, count: u8) -> Result<Effect, Refusal>
     requires { holds cells.now p ≡ true }
-    ensures effect { result ≡ ok_unless (first_some (hindrances cells.now (Cmd.Take p slot count))) (effect_of cells.now (Cmd.Take p slot count)) }
+    ensures effect { result ≡ permitted_effect cells.now (Cmd.Take p slot count) }
     ensures fits { IfOk result (λ effect. Fits cells.now p effect) }
 {
     let content = content_of(cells, p, slot)?;
@@ -87,8 +85,10 @@ pub fn any_filled(slots: &[Slot]) -> bool
 fn content_of(cells: &Cells, p: Pos, slot: u8) -> Result<Slot, Refusal>
     requires { holds cells.now p ≡ true }
     ensures { MatchResult result
-        (λ content. (is_chest (cell_at cells.now p) ≡ true) × (slot < 27) × (content ≡ slot_at cells.now p slot) × IsSlot content)
-        (λ refusal. first_some (refuse_if (not (is_chest (cell_at cells.now p))) Refusal.NotChest ∷ refuse_if (nat_lt 26 slot) Refusal.NoSlot ∷ []) ≡ Some refusal) }
+        (λ content. (is_chest (cell_at cells.now p) ≡ true) × (slot < 27)
+        × (content ≡ slot_at cells.now p slot) × IsSlot content)
+        (λ refusal. first_some (refuse_if (not (is_chest (cell_at cells.now p))) Refusal.NotChest
+        ∷ refuse_if (nat_lt 26 slot) Refusal.NoSlot ∷ []) ≡ Some refusal) }
 {
     let slots = opening(cells, p)?;
     let index = usize::from(slot);

@@ -7,7 +7,8 @@ use vx_cells::Cells;
 use vx_geom::Bounds;
 use vx_policy::Version;
 
-/// All that a window of a sector begins with. It is made before the window, since making it takes memory and beginning does not.
+/// All that a window of a sector begins with. It is made before the window, since making it takes
+/// memory and beginning does not.
 #[derive(Drop)]
 pub struct Fresh {
     pub(crate) base: Cells,
@@ -28,7 +29,8 @@ impl Model for Fresh {
 }
 
 impl Fresh {
-    /// A window over a copy of these cells, judged by a copy of this version. The cells are copied twice, as bytes.
+    /// A window over a copy of these cells, judged by a copy of this version. The cells are copied
+    /// twice, as bytes.
     pub fn new(
         alloc: Global,
         bounds: Bounds,
@@ -37,7 +39,8 @@ impl Fresh {
         version: &Version,
     ) -> Result<Fresh, AllocError>
         requires { (cells.now.bounds ≡ bounds) × (cells.now.sector ≡ sector) }
-        ensures { IfOk result (λ fresh. fresh ≡ record { cells = cells.now; version = version.now }) }
+        ensures { IfOk result (λ fresh.
+            fresh ≡ record { cells = cells.now; version = version.now }) }
     {
         Ok(Fresh {
             base: cells.try_clone()?,

@@ -10,12 +10,13 @@ pub fn refusal_leaves_cells()
     ensures { RefusalLeavesCells }
 {}
 
-/// A command is out of the world just where its position is not of the sector.
+/// A command is out of the world exactly where its position is not of the sector.
 pub fn outside_is_refused()
     ensures { OutsideIsRefused }
 {}
 
-/// A command is denied just where the policy denies the action that it asks leave for, and by that rule.
+/// A command is denied exactly where the policy denies the action that it asks leave for, and by
+/// that rule.
 pub fn denied_by_the_policy()
     ensures { DeniedByThePolicy }
 {}

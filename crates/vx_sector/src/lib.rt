@@ -14,8 +14,6 @@ mod refusal;
 mod reply;
 mod seat;
 mod sector;
-#[cfg(test)]
-mod tests;
 
 pub use cmd::Cmd;
 pub use contents::Contents;

@@ -31,12 +31,14 @@ pub enum Refusal {
     NoSlot,
     /// The slot holds another item.
     OtherItem,
-    /// None were to be put or taken, more than a slot takes, or more than it holds.
+    /// The count is 0, or greater than what the slot still takes or what it holds.
     BadCount,
     /// There is no memory for the record; nothing was done and nothing recorded.
     NoMemory,
 }
 
+/// The number and the words of each refusal. A script never prints those of `HistoryFull` and
+/// `NoMemory`, since it ends by a fault there; they are for whoever else runs a sector.
 impl fmt::Display for Refusal {
     ghost use Rattle.vx_sector.specs.Texts.{refusal_text};
 

@@ -1,10 +1,10 @@
 ghost use Rattle.std.specs.Prelude.{◌≡◌, ◌≤◌, ◌<◌, ◌⊎◌, ◌↔◌, true, false, Err, IfOk, IfErr, OnOk, OnErr};
 ghost use Rattle.vx_cells.specs.SectorCells.{holds, with_cell};
-ghost use Rattle.vx_sector.specs.Acting.{acted, effect_by, Fits};
+ghost use Rattle.vx_sector.specs.Acting.{rules_answer, effect_by, Fits};
 ghost use Rattle.vx_sector.specs.Commands.{place_of};
-ghost use Rattle.vx_sector.specs.Windows.{IsWindow, after, most_entries, count_of, is_recorded, is_full};
+ghost use Rattle.vx_sector.specs.Windows.{IsWindow, cells_after, most_entries, count_of, is_recorded, is_full};
 
-use crate::acting::acted;
+use crate::acting::outcome_of;
 use crate::cmd::Cmd;
 use crate::effect::Effect;
 use crate::entry::Entry;
@@ -20,10 +20,11 @@ use vx_cells::Cells;
 use vx_geom::Pos;
 use vx_policy::Version;
 
-/// How many commands a sector records, in all its windows.
-const ENTRIES: u64 = 1_099_511_627_776;
+/// How many commands a sector records at most, in all its windows.
+const MAX_ENTRIES: u64 = 1_099_511_627_776;
 
-/// One sector of the world: its cells, the version of the policy that judges the commands of its window, and their record.
+/// One sector of the world: its cells, the version of the policy that judges the commands of its
+/// window, and their record.
 #[derive(Drop)]
 pub struct Sector {
     base: Cells,
@@ -34,15 +35,15 @@ pub struct Sector {
 }
 
 impl Model for Sector {
-    ghost use Rattle.std.specs.Prelude.{map};
-    ghost use Rattle.vx_sector.specs.SectorData.{SectorData, entry_of};
+    ghost use Rattle.vx_sector.specs.SectorData.{SectorData, sector_data};
     ghost use Rattle.vx_sector.specs.Windows.{IsSector};
 
     ghost Value = { SectorData };
 
-    ghost view = { λ a. record { base = a.base; cells = a.cells; version = a.version; entries = map entry_of a.entries.items; closed = a.closed } };
+    ghost view = { λ a. sector_data a.base a.cells a.version a.entries.items a.closed };
 
-    ghost invariant = { λ a. IsSector (record { base = a.base; cells = a.cells; version = a.version; entries = map entry_of a.entries.items; closed = a.closed }) };
+    ghost invariant = { λ a.
+        IsSector (sector_data a.base a.cells a.version a.entries.items a.closed) };
 }
 
 impl Sector {
@@ -69,10 +70,12 @@ impl Sector {
         }
     }
 
-    /// Begins the next window, and hands out the record of the one that it closes. It takes no memory.
+    /// Begins the next window, and hands out the record of the one that it closes. It takes no
+    /// memory.
     #[tactic(auto, unfolding(crate::specs::Windows::renewed))]
     pub fn renew(&mut self, fresh: Fresh) -> Vec<Entry>
-        requires { (fresh.cells.bounds ≡ self.old.cells.bounds) × (fresh.cells.sector ≡ self.old.cells.sector) }
+        requires { (fresh.cells.bounds ≡ self.old.cells.bounds)
+            × (fresh.cells.sector ≡ self.old.cells.sector) }
         ensures entries { map entry_of result.items ≡ self.old.entries }
         ensures next { self.new ≡ renewed self.old fresh }
     {
@@ -99,7 +102,7 @@ impl Sector {
     /// The cells as they are: as the window began, and then changed by its entries.
     pub fn cells(&self) -> &Cells
         ensures cells { result.now ≡ self.now.cells }
-        ensures after { self.now.cells ≡ after self.now.base self.now.entries }
+        ensures after { self.now.cells ≡ cells_after self.now.base self.now.entries }
     {
         &self.cells
     }
@@ -111,7 +114,8 @@ impl Sector {
         &self.version
     }
 
-    /// The record of this window, oldest first: each with the answer that the rules gave on the cells as they were then.
+    /// The record of this window, oldest first: each with the answer that the rules gave on the
+    /// cells as they were then.
     pub fn entries(&self) -> &[Entry]
         ensures entries { map entry_of result.now ≡ self.now.entries }
         ensures window { IsWindow self.now.version.policy self.now.base self.now.entries }
@@ -141,17 +145,19 @@ impl Sector {
         self.entries
     }
 
-    /// Carries out a command and records it with its answer, or refuses it by the first cause that stands against it.
-    /// A refusal leaves the cells as they were; one for a position outside the sector, for a full record or for want of memory is not
-    /// recorded.
+    /// Carries out a command and records it with its answer, or refuses it by the first cause that
+    /// stands against it. A refusal leaves the cells as they were; one for a position outside the
+    /// sector, for a full record or for want of memory is not recorded.
     #[tactic(auto, unfolding(crate::specs::Windows::sector_after))]
     pub fn act(&mut self, seat: Seat, cmd: Cmd) -> Result<Reply, Refusal>
-        ensures answer { (result ≡ answer_of self.old (seat_of seat) cmd) ⊎ (result ≡ Err Refusal.NoMemory) }
+        ensures answer { (result ≡ answer_of self.old (seat_of seat) cmd)
+            ⊎ (result ≡ Err Refusal.NoMemory) }
         // Memory is wanted only for a record.
         ensures memory { (result ≡ answer_of self.old (seat_of seat) cmd)
             ⊎ (is_recorded (answer_of self.old (seat_of seat) cmd) ≡ true) }
         ensures after { self.new ≡ sector_after self.old (seat_of seat) cmd result }
-        ensures outside { (result ≡ Err Refusal.OutOfWorld) ↔ (holds self.old.cells (place_of cmd) ≡ false) }
+        ensures outside { (result ≡ Err Refusal.OutOfWorld)
+            ↔ (holds self.old.cells (place_of cmd) ≡ false) }
         ensures full { (result ≡ Err Refusal.HistoryFull)
             ↔ ((holds self.old.cells (place_of cmd) ≡ true) × (is_full self.old ≡ true)) }
     {
@@ -163,7 +169,7 @@ impl Sector {
         }
         let alloc = *self.entries.allocator();
         let regions = self.version.policy.regions();
-        let outcome = acted(alloc, regions, &self.cells, &seat, &cmd)?;
+        let outcome = outcome_of(alloc, regions, &self.cells, &seat, &cmd)?;
         let answer = copied(&outcome.answer)?;
         self.record(Entry { seat, cmd, answer }, outcome.effect)?;
         outcome.answer
@@ -173,7 +179,8 @@ impl Sector {
     fn record(&mut self, entry: Entry, effect: Effect) -> Result<(), Refusal>
         requires room { count_of self.old < most_entries }
         requires held { holds self.old.cells (place_of entry.cmd) ≡ true }
-        requires answer { entry.answer ≡ acted self.old.version.policy self.old.cells (seat_of entry.seat) entry.cmd }
+        requires answer { entry.answer
+            ≡ rules_answer self.old.version.policy self.old.cells (seat_of entry.seat) entry.cmd }
         requires effect { effect ≡ effect_by self.old.cells entry.cmd entry.answer }
         requires fits { Fits self.old.cells (place_of entry.cmd) effect }
         ensures ok { OnOk result (self.new ≡ recorded self.old (entry_of entry)) }
@@ -196,7 +203,7 @@ impl Sector {
     fn is_full(&self) -> bool
         ensures { result ≡ is_full self.now }
     {
-        ENTRIES <= self.count()
+        MAX_ENTRIES <= self.count()
     }
 }
 

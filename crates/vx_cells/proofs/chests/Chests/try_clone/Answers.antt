@@ -7,6 +7,6 @@ use Rattle.vx_cells.proofs.chests.Chests.try_clone.Goals as goal
 pub returns : goal.returns
 returns c = same_from_all_zip {X = ℕ × Slots} _ _ _ c.in_ok-clone.ensures.cases
     (λ p q copied.
-    let place : q.0 ≡ p.0 = copied.0 in
+    let index : q.0 ≡ p.0 = copied.0 in
     let slots : q.1 ≡ p.1 = same_from_all_zip _ p.1 q.1 copied.1.whole (copied_slot _ (λ s t h. h) (λ s h. h) (λ s h. h)) in
-    λ i. (place i, slots i)) ∙ c.self.view_is
+    λ i. (index i, slots i)) ∙ c.self.view_is

@@ -1,5 +1,5 @@
 use Rattle.std.proofs.Common.{◌+◌, drop, ap, ◌∙◌}
-use Rattle.vx_decide.specs.Asked.{asked}
+use Rattle.vx_decide.specs.Cases.{case_of}
 use Rattle.vx_decide.specs.Query.{counts}
 use Rattle.vx_decide.specs.Tops.{top_from}
 use Rattle.vx_decide.proofs.Highest.{top_step}
@@ -7,7 +7,7 @@ use Rattle.vx_decide.proofs.inquiry.Inquiry.top.Goals as goal
 
 pub loop-i-preserved : goal.loop-i-preserved
 loop-i-preserved c =
-    let members = counts c.args.question (asked c.args.self.now) in
+    let members = counts c.args.question (case_of c.args.self.now) in
     let entries = c.args.self.now.regions.now.entries in
     ap (λ best. top_from members best (drop (c.loop-i.i + 1) entries)) c.best_with-best.ensures
     ∙ top_step members c.loop-i.best entries c.loop-i.i _ c.nth.ensures

@@ -5,8 +5,8 @@ use Rattle.vx_sector.specs.declared.seat.Seat.{Seat}
 use Rattle.vx_sector.specs.Commands.{place_of}
 use Rattle.vx_sector.specs.SectorData.{SectorData, seat_of}
 use Rattle.vx_sector.specs.Windows.{answer_of, is_full, is_recorded, sector_after}
-use Rattle.vx_sector.proofs.ActingLemmas.{acted_recorded}
-use Rattle.vx_sector.proofs.Outside.{elsewhere_is_refused, full_is_refused, answered_by_the_rules, not_answered, after_acted, room_where_not_full}
+use Rattle.vx_sector.proofs.ActingLemmas.{answer_recorded}
+use Rattle.vx_sector.proofs.Outside.{elsewhere_is_refused, full_is_refused, answered_by_the_rules, not_answered, after_answer, room_where_not_full}
 use Rattle.vx_sector.proofs.sector.Sector.act.Goals as goal
 
 pub returns-then-not-holds-clause-answer : goal.returns-then-not-holds-clause-answer
@@ -25,7 +25,7 @@ pub record-requires-clause-room : goal.record-requires-clause-room
 record-requires-clause-room c = room_where_not_full c.args.self.now (search rules)
 
 wanted : (s : SectorData) (seat : Seat) (cmd : Cmd) → holds s.cells (place_of cmd) ≡ true → is_full s ≡ false → is_recorded (answer_of s (seat_of seat) cmd) ≡ true
-wanted s seat cmd held room = subst (λ a. is_recorded a ≡ true) (answered_by_the_rules s (seat_of seat) cmd held room) (acted_recorded _ _ _ _)
+wanted s seat cmd held room = subst (λ a. is_recorded a ≡ true) (answered_by_the_rules s (seat_of seat) cmd held room) (answer_recorded _ _ _ _)
 
 pub returns-in_err-outcome-clause-memory : goal.returns-in_err-outcome-clause-memory
 returns-in_err-outcome-clause-memory c = inr (wanted c.args.self.now c.args.seat c.args.cmd (search rules) (search rules))
@@ -43,7 +43,7 @@ pub returns-clause-memory : goal.returns-clause-memory
 returns-clause-memory c = inl ((search rules) ∙ answered_by_the_rules c.args.self.now (seat_of c.args.seat) c.args.cmd (search rules) (search rules))
 
 pub returns-clause-after : goal.returns-clause-after
-returns-clause-after c = c.in_ok-record.ensures.ok ∙ after_acted c.args.self.now (seat_of c.args.seat) c.args.cmd _ (search rules)
+returns-clause-after c = c.in_ok-record.ensures.ok ∙ after_answer c.args.self.now (seat_of c.args.seat) c.args.cmd _ (search rules)
     ∙ ap (λ answer. sector_after c.args.self.now (seat_of c.args.seat) c.args.cmd answer) c.in_ok-answer.ensures.ok
 
 pub returns-clause-outside : goal.returns-clause-outside

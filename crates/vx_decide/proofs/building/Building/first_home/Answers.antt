@@ -1,0 +1,19 @@
+use Rattle.std.proofs.Common.{refl, sym, ◌∙◌}
+use Rattle.vx_decide.specs.Cases.{case_of}
+use Rattle.vx_decide.specs.Build.{is_home, first_home}
+use Rattle.vx_decide.proofs.Leasts.{least_next, least_here}
+use Rattle.vx_decide.proofs.building.Building.first_home.Goals as goal
+
+pub loop-i-init : goal.loop-i-init
+unfolding first_home
+loop-i-init c = refl
+
+pub returns-then-is_home : goal.returns-then-is_home
+returns-then-is_home c =
+    sym (least_here (is_home (case_of c.args.self.now.contest.inquiry.now)) 0 c.args.self.now.contest.inquiry.now.regions.now.entries c.loop-i.i _
+    c.count-i-end.ensures.valid.numbered.ascending c.nth.ensures (sym c.is_home.ensures ∙ c.if-is_home.true)) ∙ c.loop-i.invariant
+
+pub loop-i-preserved : goal.loop-i-preserved
+loop-i-preserved c =
+    least_next (is_home (case_of c.args.self.now.contest.inquiry.now)) c.args.self.now.contest.inquiry.now.regions.now.entries c.loop-i.i _
+    c.nth.ensures (sym c.is_home.ensures ∙ c.if-is_home.false) ∙ c.loop-i.invariant

@@ -1,9 +1,0 @@
-use Rattle.std.proofs.Common.{◌≡◌, drop}
-use Rattle.vx_decide.specs.Asked.{asked}
-use Rattle.vx_decide.specs.Build.{is_home, first_home}
-use Rattle.vx_decide.specs.RegionGroups.{least}
-use Rattle.vx_decide.proofs.inquiry.Inquiry.first_home.Given as goal
-
--- no region so far is one
-abbrev pub invariant-loop-i : goal.invariant-loop-i
-invariant-loop-i l = least (is_home (asked l.self)) (drop l.i l.self.regions.now.entries) ≡ first_home (asked l.self)

@@ -24,26 +24,38 @@ const PLACE: Pos = Pos { x: 6, y: 1, z: 5 };
 
 #[test]
 fn an_extended_piston_and_its_head_do_not_break(rt: HostRuntime) -> Result<(), Fail> {
-    let facing = Dir::East;
     for sticky in [false, true] {
-        let piston = Cell::Piston {
-            facing,
-            sticky,
-            extended: true,
-        };
-        for cell in [piston, Cell::Head { facing, sticky }] {
-            let policy = Policy::new(rt.alloc())?;
-            let mut sector = opened(&rt, rt.alloc(), cell, policy)?;
-            let bob = bob()?;
-            let calls = [
-                entry(&bob, Cmd::Look(PLACE), Ok(Reply::Seen(cell))),
-                entry(&bob, Cmd::Break(PLACE), Err(Refusal::Extended)),
-                entry(&bob, Cmd::Place(PLACE, Part::Stone), Err(Refusal::Occupied)),
-                entry(&bob, Cmd::Turn(PLACE), Err(Refusal::NotLever)),
-            ];
-            play(&rt, &mut sector, &calls);
-        }
+        stays(&rt, rt.alloc(), &extended(sticky))?;
+        stays(&rt, rt.alloc(), &head(sticky))?;
     }
+    Ok(())
+}
+
+fn extended(sticky: bool) -> Cell {
+    Cell::Piston {
+        facing: Dir::East,
+        sticky,
+        extended: true,
+    }
+}
+
+fn head(sticky: bool) -> Cell {
+    Cell::Head {
+        facing: Dir::East,
+        sticky,
+    }
+}
+
+fn stays(rt: &impl Abort, alloc: Global, cell: &Cell) -> Result<(), Fail> {
+    let mut sector = opened(rt, alloc, *cell, Policy::new(alloc)?)?;
+    let bob = bob()?;
+    let calls = [
+        entry(&bob, Cmd::Look(PLACE), Ok(Reply::Seen(*cell))),
+        entry(&bob, Cmd::Break(PLACE), Err(Refusal::Extended)),
+        entry(&bob, Cmd::Place(PLACE, Part::Stone), Err(Refusal::Occupied)),
+        entry(&bob, Cmd::Turn(PLACE), Err(Refusal::NotLever)),
+    ];
+    play(rt, &mut sector, &calls);
     Ok(())
 }
 
@@ -63,17 +75,20 @@ fn a_lamp_that_is_lit_breaks_and_is_off_again(rt: HostRuntime) -> Result<(), Fai
 }
 
 #[test]
-fn a_place_in_no_land_of_the_sector_is_out_of_it(rt: HostRuntime) -> Result<(), Fail> {
+fn a_place_out_of_the_sector_leaves_no_entry(rt: HostRuntime) -> Result<(), Fail> {
     let policy = Policy::new(rt.alloc())?;
     let mut sector = opened(&rt, rt.alloc(), Cell::Air, policy)?;
     let bob = bob()?;
     for (x, y, z) in [(16, 0, 0), (0, 64, 0), (-1, 0, 0)] {
-        let p = Pos::new(x, y, z);
-        let answer = sector.act(bob, Cmd::Place(p, Part::Chest));
-        assert_eq!(rt; answer, Err(Refusal::OutOfWorld), "at {x} {y} {z}");
+        is_outside(&rt, &mut sector, &bob, Pos::new(x, y, z));
     }
     assert_eq!(rt; (sector.entries().len(), sector.count()), (0, 0));
     Ok(())
+}
+
+fn is_outside(rt: &impl Abort, sector: &mut Sector, seat: &Seat, p: Pos) {
+    let answer = sector.act(*seat, Cmd::Place(p, Part::Chest));
+    assert_eq!(rt; answer, Err(Refusal::OutOfWorld), "at {p:?}");
 }
 
 // Bob is a stranger where the first version judges, and nobody is where the second does.

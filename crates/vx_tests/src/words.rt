@@ -156,65 +156,55 @@ fn words_of_the_policy_are_read_letter_for_letter(rt: HostRuntime) {
     assert_eq!(rt; Action::Pushing.flag().text(), "pistons");
 }
 
-fn cell(rt: &impl Abort, cell: Cell, kind: Kind, text: &str) {
+fn has_text(rt: &impl Abort, cell: &Cell, kind: Kind, text: &str) {
     assert_eq!(rt; cell.kind(), kind, "{text}");
     assert_eq!(rt; cell.text().as_str(), text);
-    assert_eq!(rt; Cell::read(text), Some(cell), "{text}");
+    assert_eq!(rt; Cell::read(text), Some(*cell), "{text}");
 }
 
 #[test]
 fn cells_that_no_part_begins_as_have_their_texts(rt: HostRuntime) {
-    cell(&rt, Cell::Air, Kind::Air, "air");
-    cell(&rt, Cell::Dust(Level::new(9)), Kind::Dust, "dust:9");
-    cell(&rt, Cell::Dust(Level::new(15)), Kind::Dust, "dust:15");
-    cell(&rt, Cell::Lamp(Lamp::Lit), Kind::Lamp, "lamp:on:0");
-    cell(&rt, Cell::Lamp(Lamp::Cooling), Kind::Lamp, "lamp:on:1");
-    let (facing, lit) = (Mount::Wall(Side::West), false);
-    cell(
-        &rt,
-        Cell::Torch { facing, lit },
-        Kind::Torch,
-        "torch:west:off",
-    );
-    let repeater = Repeater::new(Side::North, Delay::Four, true, 3);
-    cell(
-        &rt,
-        Cell::Repeater(repeater),
-        Kind::Repeater,
-        "repeater:north:4:on:3",
-    );
-    let repeater = Repeater::new(Side::West, Delay::Two, false, 1);
-    cell(
-        &rt,
-        Cell::Repeater(repeater),
-        Kind::Repeater,
-        "repeater:west:2:off:1",
-    );
-    let (facing, extended) = (Dir::North, true);
-    let plain = Cell::Piston {
+    for (cell, kind, text) in [
+        (Cell::Air, Kind::Air, "air"),
+        (Cell::Dust(Level::new(9)), Kind::Dust, "dust:9"),
+        (Cell::Dust(Level::new(15)), Kind::Dust, "dust:15"),
+        (Cell::Lamp(Lamp::Lit), Kind::Lamp, "lamp:on:0"),
+        (Cell::Lamp(Lamp::Cooling), Kind::Lamp, "lamp:on:1"),
+        (unlit(Side::West), Kind::Torch, "torch:west:off"),
+        (extended(Dir::Up, false), Kind::Piston, "piston:up:out"),
+        (
+            extended(Dir::North, true),
+            Kind::StickyPiston,
+            "sticky:north:out",
+        ),
+        (head(Dir::Down, false), Kind::Head, "head:down:plain"),
+        (head(Dir::North, true), Kind::Head, "head:north:sticky"),
+    ] {
+        has_text(&rt, &cell, kind, text);
+    }
+    let counting = Cell::Repeater(Repeater::new(Side::North, Delay::Four, true, 3));
+    has_text(&rt, &counting, Kind::Repeater, "repeater:north:4:on:3");
+    let counting = Cell::Repeater(Repeater::new(Side::West, Delay::Two, false, 1));
+    has_text(&rt, &counting, Kind::Repeater, "repeater:west:2:off:1");
+}
+
+fn unlit(side: Side) -> Cell {
+    Cell::Torch {
+        facing: Mount::Wall(side),
+        lit: false,
+    }
+}
+
+fn extended(facing: Dir, sticky: bool) -> Cell {
+    Cell::Piston {
         facing,
-        sticky: false,
-        extended,
-    };
-    let sticky = Cell::Piston {
-        facing,
-        sticky: true,
-        extended,
-    };
-    cell(&rt, plain, Kind::Piston, "piston:north:out");
-    cell(&rt, sticky, Kind::StickyPiston, "sticky:north:out");
-    let (plain, sticky) = (
-        Cell::Head {
-            facing,
-            sticky: false,
-        },
-        Cell::Head {
-            facing,
-            sticky: true,
-        },
-    );
-    cell(&rt, plain, Kind::Head, "head:north:plain");
-    cell(&rt, sticky, Kind::Head, "head:north:sticky");
+        sticky,
+        extended: true,
+    }
+}
+
+fn head(facing: Dir, sticky: bool) -> Cell {
+    Cell::Head { facing, sticky }
 }
 
 #[test]

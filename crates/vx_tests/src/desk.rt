@@ -1,0 +1,106 @@
+//! The desk, alone and shared by threads.
+use std::alloc::{AllocError, Global};
+use std::marker::Brand;
+use std::process::Abort;
+use std::sync::Wait;
+use std::test::Fail;
+use std::thread;
+use std::thread::Threads;
+use vx_board::{Desk, DeskError, DeskState, Edited};
+use vx_geom::{Pos, ShapeSpec};
+use vx_policy::{Edit, EditRefusal, Policy, Version};
+use vx_region::RegionNo;
+
+#[test]
+fn edits_are_accepted_or_refused_and_versions_fixed(rt: HostRuntime) -> Result<(), Fail> {
+    let mut desk = DeskState::<Brand>::new(rt.alloc(), Policy::new(rt.alloc())?);
+    edit_and_fix(&rt, rt.alloc(), &mut desk)
+}
+
+fn edit_and_fix(rt: &impl Abort, alloc: Global, desk: &mut DeskState<Brand>) -> Result<(), Fail> {
+    let opening = desk.fix(1)?;
+    assert_eq!(rt; desk.apply(alloc, define(alloc, "plot")?), told(1));
+    let first = desk.fix(1)?;
+    assert_eq!(rt; desk.apply(alloc, define(alloc, "farm")?), told(2));
+    let known = Err(DeskError::Refused(EditRefusal::Known));
+    assert_eq!(rt; desk.apply(alloc, define(alloc, "PLOT")?), known);
+    assert_eq!(rt; (desk.count(), seen(&desk.fix(2)?)), (2, (2, 2, 2)));
+    assert_eq!(rt; [seen(&opening), seen(&first)], [(1, 0, 0), (1, 1, 1)]);
+    Ok(())
+}
+
+#[test]
+fn a_shared_desk_shows_its_edits(rt: HostRuntime) -> Result<(), Fail> {
+    let desk = Desk::<Brand>::new(rt.alloc(), Policy::new(rt.alloc())?);
+    show(&rt, rt.alloc(), &desk)
+}
+
+fn show(rt: &(impl Abort + Wait), alloc: Global, desk: &Desk<Brand>) -> Result<(), Fail> {
+    assert_eq!(rt; seen(&desk.fix(rt, 1)?), (1, 0, 0));
+    assert_eq!(rt; desk.edit(rt, alloc, define(alloc, "plot")?), told(1));
+    assert_eq!(rt; desk.edit(rt, alloc, define(alloc, "farm")?), told(2));
+    assert_eq!(rt; seen(&desk.fix(rt, 2)?), (2, 2, 2));
+    Ok(())
+}
+
+#[test]
+fn threads_edit_one_desk(rt: HostRuntime) -> Result<(), Fail> {
+    let desk = Desk::<Brand>::new(rt.alloc(), Policy::new(rt.alloc())?);
+    let mut counts = edit_by_two(&rt, &desk);
+    counts.sort_unstable();
+    assert_eq!(rt; counts, [1, 2, 3, 4, 5, 6, 7, 8]);
+    assert_eq!(rt; seen(&desk.fix(&rt, 2)?), (2, 8, 8));
+    Ok(())
+}
+
+// The counts that two threads are told, each of four definitions.
+fn edit_by_two<R: Threads + Wait + Sync + Alloc<A = Global>>(
+    rt: &R,
+    desk: &Desk<Brand>,
+) -> [u64; 8] {
+    let (these, those) = thread::join(
+        rt,
+        || define_four(rt, desk, ["a", "b", "c", "d"]),
+        || define_four(rt, desk, ["e", "f", "g", "h"]),
+    );
+    let [a, b, c, d] = these;
+    let [e, f, g, h] = those;
+    [a, b, c, d, e, f, g, h]
+}
+
+// The count that each of these definitions is told, 0 where it is not accepted.
+fn define_four(
+    rt: &(impl Wait + Alloc<A = Global>),
+    desk: &Desk<Brand>,
+    ids: [&'static str; 4],
+) -> [u64; 4] {
+    ids.map(|id| match define(rt.alloc(), id) {
+        Ok(edit) => match desk.edit(rt, rt.alloc(), edit) {
+            Ok(edited) => edited.count,
+            Err(_) => 0,
+        },
+        Err(_) => 0,
+    })
+}
+
+fn define(alloc: Global, id: &str) -> Result<Edit, AllocError> {
+    let column = ShapeSpec::Cuboid(Pos::new(1, 0, 1), Pos::new(1, 63, 1));
+    Ok(Edit::Define(String::from_str(alloc, id)?, column))
+}
+
+// The answer to a definition on a desk where each edit is one: its count and its number are the same.
+fn told(number: u32) -> Result<Edited, DeskError> {
+    Ok(Edited {
+        count: u64::from(number),
+        region: Some(RegionNo(number)),
+    })
+}
+
+// The number of a version, how many edits it has, and how many regions there are.
+fn seen(version: &Version) -> (u64, u64, u32) {
+    (
+        version.tick,
+        version.edits,
+        version.policy.regions().count(),
+    )
+}

@@ -1,0 +1,312 @@
+//! The regions file, which no program reads yet.
+use std::alloc::Global;
+use std::process::Abort;
+use std::test::Fail;
+use vx_flag::{Association, Flag, Group, Setting, State};
+use vx_geom::Pos;
+use vx_region::{Name, Region, RegionNo, RegionSet, Subject};
+use vx_script::{Fault, regions_file, run};
+
+// The text of examples/plot.toml.
+const PLOT: &str =
+    "# The plot of plot.vx as a regions file: what its edits say, from the opening on.\nversion = 1\n\n[[region]]\nid = \"plot-7\"\ncuboid = [2, 0, 2, 9, 63, 9]\nowners = [\"Ann\"]\nmembers = [\"bob\"]\n\n[region.flags]\nblock-break = \"deny nonowners\"\n";
+
+const SPAWN: &str =
+    "version = 1\n\n[[region]]\nid = \"Spawn\"\ncuboid = [0, 0, 0, 15, 63, 15]\nowners = [\"Ann\"]\n\n[region.flags]\nuse = \"allow nonmembers\"\n";
+
+// The parent stands behind its child, and keys in no order in particular.
+const MILL: &str =
+    "global = { pistons = 'deny', build = 'deny nonowners' }\nversion = 0x1\n\n[[region]]\nparent = 'TOWN'\nmembers = ['Bob', 'eve']\ny = [-4, 70]\npolygon = [0, 0, 9, 0, 0, +9]\nid = 'mill'\npriority = -3\n\n[region.flags]\nuse = 'deny'\npassthrough = 'allow all'\nbuild = 'allow owners'\n\n[[region]]\nid = 'Town'\nowners = ['ann', 'Ann']\ncuboid = [20, 9, 20, -20, 1, -2_0]\n";
+
+#[test]
+fn a_plot_of_a_regions_file(rt: HostRuntime) -> Result<(), Fail> {
+    let script =
+        "world 1 1 1\nplayer ann\nplayer bob\nplayer cyd\nas ann place 4 1 4 planks\nas bob break 4 1 4\nas bob place 4 2 4 dirt\nas cyd place 5 1 5 stone\nregion member plot-7 drop bob\ntick\nas bob place 4 3 4 dirt\nregion define plot-8 cuboid 0 0 0 1 1 1\n";
+    let replies =
+        "ok member at 1\nrefused 2 flag block-break at 1 from 1\nok member at 1\nrefused 2 member at 1\nedit 1\ntick 1\nrefused 2 member at 1\nedit 2 region 2\ndone ticks 1 calls 5\n";
+    plays(&rt, rt.alloc(), PLOT, script, replies)
+}
+
+#[test]
+fn a_lever_at_spawn_is_free_to_all(rt: HostRuntime) -> Result<(), Fail> {
+    let script =
+        "world 2 1 1\nplayer ann\nplayer bob\nset 5 1 5 lever:down\nas bob turn 5 1 5\nas bob place 6 1 5 dirt\nas ann place 6 1 5 dirt\n";
+    let replies =
+        "ok flag use at 1 from 1\nrefused 2 member at 1\nok member at 1\ndone ticks 0 calls 3\n";
+    plays(&rt, rt.alloc(), SPAWN, script, replies)
+}
+
+// Runs a script on the policy of a regions file.
+fn plays(
+    rt: &impl Abort,
+    alloc: Global,
+    file: &str,
+    script: &str,
+    replies: &str,
+) -> Result<(), Fail> {
+    let policy = regions_file(alloc, file.as_bytes())?;
+    let mut output = Vec::new(alloc);
+    let got = run(alloc, &mut script.as_bytes(), &mut output, policy);
+    assert_eq!(rt; got, Ok(()));
+    assert_eq!(rt; output.as_slice(), replies.as_bytes());
+    Ok(())
+}
+
+#[test]
+fn a_file_of_all_that_can_be_said(rt: HostRuntime) -> Result<(), Fail> {
+    let [ann, bob] = [Name::read("ann")?, Name::read("bob")?];
+    let policy = regions_file(rt.alloc(), MILL.as_bytes())?;
+    is_mill(
+        &rt,
+        policy.regions(),
+        &Subject::Player(ann),
+        &Subject::Player(bob),
+    );
+    is_town(
+        &rt,
+        policy.regions(),
+        &Subject::Player(ann),
+        &Subject::Player(bob),
+    );
+    Ok(())
+}
+
+fn is_mill(rt: &impl Abort, regions: &RegionSet, ann: &Subject, bob: &Subject) {
+    assert_eq!(rt; [regions.count(), regions.last()], [2, 2]);
+    let mill = region(rt, regions, 1);
+    assert_eq!(rt; mill.id().as_str(), "mill");
+    assert!(rt; mill.contains(Pos::new(1, -4, 1)) && mill.contains(Pos::new(1, 70, 1)));
+    assert!(rt; !mill.contains(Pos::new(1, -5, 1)) && !mill.contains(Pos::new(8, 0, 8)));
+    assert_eq!(rt; (mill.priority(), mill.parent()), (-3, Some(RegionNo(2))));
+    assert_eq!(rt; regions.association(bob, RegionNo(1)), Association::Member);
+    // Ann is named in the parent.
+    assert_eq!(rt; regions.association(ann, RegionNo(1)), Association::Owner);
+    assert_eq!(rt;
+        mill.setting(Flag::Build),
+        setting(State::Allow, Group::Owners)
+    );
+    assert_eq!(rt; mill.setting(Flag::Usage), setting(State::Deny, Group::All));
+    assert_eq!(rt;
+        mill.setting(Flag::Passthrough),
+        setting(State::Allow, Group::All)
+    );
+    assert_eq!(rt; mill.setting(Flag::Pistons), None);
+}
+
+fn is_town(rt: &impl Abort, regions: &RegionSet, ann: &Subject, bob: &Subject) {
+    let town = region(rt, regions, 2);
+    assert_eq!(rt; town.id().as_str(), "town");
+    assert!(rt; town.contains(Pos::new(-20, 1, -20)) && town.contains(Pos::new(20, 9, 20)));
+    assert!(rt; !town.contains(Pos::new(-21, 1, -20)) && !town.contains(Pos::new(0, 10, 0)));
+    assert_eq!(rt; (town.priority(), town.parent()), (0, None));
+    assert_eq!(rt; regions.association(ann, RegionNo(2)), Association::Owner);
+    assert_eq!(rt;
+        regions.association(bob, RegionNo(2)),
+        Association::Stranger
+    );
+    let world = RegionNo(0);
+    assert_eq!(rt;
+        regions.setting(world, Flag::Build),
+        setting(State::Deny, Group::Nonowners)
+    );
+    assert_eq!(rt;
+        regions.setting(world, Flag::Pistons),
+        setting(State::Deny, Group::All)
+    );
+    assert_eq!(rt; regions.setting(world, Flag::Usage), None);
+}
+
+fn setting(state: State, group: Group) -> Option<Setting> {
+    Some(Setting { state, group })
+}
+
+fn region<'a>(rt: &impl Abort, regions: &'a RegionSet, number: u32) -> &'a Region {
+    regions.get(RegionNo(number)).expect(rt, "no such region")
+}
+
+#[test]
+fn each_beginning_of_a_file_is_read_or_is_none(rt: HostRuntime) {
+    let alloc = rt.alloc();
+    refused(&rt, alloc, b"");
+    for text in [SPAWN, MILL] {
+        for end in 0..text.len() {
+            match regions_file(alloc, &text.as_bytes()[..end]) {
+                Ok(_) => {}
+                Err(fault) => assert_eq!(rt; fault, Fault::BadRegionFile, "{end}"),
+            }
+        }
+    }
+}
+
+fn refused(rt: &impl Abort, alloc: Global, bytes: &[u8]) {
+    assert_eq!(rt;
+        regions_file(alloc, bytes).err(),
+        Some(Fault::BadRegionFile),
+        "{bytes:?}"
+    );
+}
+
+fn counts(rt: &impl Abort, alloc: Global, text: &str, regions: u32) {
+    match regions_file(alloc, text.as_bytes()) {
+        Ok(policy) => assert_eq!(rt; policy.regions().count(), regions, "{text}"),
+        Err(fault) => panic!(rt; "{fault:?} for {text}"),
+    }
+}
+
+#[test]
+fn files_with_few_regions(rt: HostRuntime) {
+    for (text, regions) in [
+        ("version = 1", 0),
+        ("version = +1\nregion = []\nglobal = {}\n", 0),
+        (
+            "version = 1\nregion = [{ id = 'a', cuboid = [0, 0, 0, 1, 1, 1] }]\n",
+            1,
+        ),
+        (
+            "version = 1\n[[region]]\nid = 'a'\ncuboid = [0, 0, 0, 1, 1, -2147483648]\nowners = []\nflags = {}\npriority = 2147483647\n",
+            1,
+        ),
+        (
+            "region = [{ id = 'a', y = [3, 3], polygon = [0, 0, 9, 0, 0, 9] }, { id = 'b', parent = 'a', cuboid = [0, 0, 0, 0, 0, 0] }]\nversion = 1",
+            2,
+        ),
+    ] {
+        counts(&rt, rt.alloc(), text, regions);
+    }
+}
+
+// A region that is whole.
+const WHOLE: &str = "version = 1\n[[region]]\nid = 'a'\ncuboid = [0, 0, 0, 1, 1, 1]\n";
+
+#[test]
+fn what_may_not_stand_in_a_region(rt: HostRuntime) -> Result<(), Fail> {
+    let alloc = rt.alloc();
+    counts(&rt, alloc, WHOLE, 1);
+    for more in [
+        "colour = 'red'",
+        "y = [0, 1]",
+        "polygon = [0, 0, 9, 0, 0, 9]",
+        "polygon = [0, 0, 9, 0, 0, 9]\ny = [0, 1]",
+        "id = 'b'",
+        "priority = 2147483648",
+        "priority = -2147483649",
+        "priority = 4294967296",
+        "priority = 1.0",
+        "priority = '1'",
+        "priority = true",
+        "priority = [1]",
+        "parent = '*'",
+        "parent = 'b'",
+        "parent = 'a'",
+        "parent = '__global__'",
+        "parent = 1",
+        "owners = 'ann'",
+        "owners = [1]",
+        "owners = ['ann', 'no-name']",
+        "members = ['']",
+        "members = ['abcdefghijklmnopq']",
+        "members = { ann = 1 }",
+        "flags = 'use'",
+        "flags = [{ use = 'deny' }]",
+        "flags = { usage = 'deny' }",
+        "flags = { use = 'deny', colour = 'deny' }",
+        "flags = { use = true }",
+        "flags = { use = '' }",
+        "flags = { use = 'Allow' }",
+        "flags = { use = 'maybe' }",
+        "flags = { use = ' allow' }",
+        "flags = { use = 'allow ' }",
+        "flags = { use = 'allow  nonmembers' }",
+        "flags = { use = 'allow nonmembers ' }",
+        "flags = { use = 'allow Members' }",
+        "flags = { use = 'allow strangers' }",
+        "flags = { use = 'allow members owners' }",
+        "flags = { use = 'members' }",
+        "[region.colours]",
+        "[[region]]\nid = 'A'\ncuboid = [0, 0, 0, 1, 1, 1]",
+        "parent = 'b'\n[[region]]\nid = 'b'\ncuboid = [0, 0, 0, 1, 1, 1]\nparent = 'a'",
+        "[global]\ncolour = 'deny'",
+        "[global]\nuse = 'deny no'",
+        "[world]",
+        "# a comment\nthis is no document",
+    ] {
+        let mut text = String::from_str(alloc, WHOLE)?;
+        text.push_str(more)?;
+        refused(&rt, alloc, text.as_bytes());
+    }
+    Ok(())
+}
+
+#[test]
+fn files_that_lack_something(rt: HostRuntime) {
+    for text in [
+        " \n# nothing\n",
+        "[[region]]\nid = 'a'\ncuboid = [0, 0, 0, 1, 1, 1]\n",
+        "version = 2",
+        "version = 0",
+        "version = -1",
+        "version = '1'",
+        "version = 1.0",
+        "version = [1]",
+        "version = 1\nname = 'a'",
+        "version = 1\nregion = 1",
+        "version = 1\nregion = [1]",
+        "version = 1\nregion = [[]]",
+        "version = 1\nglobal = 1",
+        "version = 1\n[[global]]",
+        "version = 1\n[region]\nid = 'a'\ncuboid = [0, 0, 0, 1, 1, 1]\n",
+        "version = 1\n[[region]]",
+        "version = 1\n[[region]]\nid = 'a'",
+        "version = 1\n[[region]]\nid = 'a'\ny = [0, 1]",
+        "version = 1\n[[region]]\nid = 'a'\npolygon = [0, 0, 9, 0, 0, 9]",
+        "version = 1\n[[region]]\ncuboid = [0, 0, 0, 1, 1, 1]",
+        "version = 1\n[[region]]\nid = 1\ncuboid = [0, 0, 0, 1, 1, 1]",
+        "version = 1\n[[region]]\nid = ''\ncuboid = [0, 0, 0, 1, 1, 1]",
+        "version = 1\n[[region]]\nid = 'no id'\ncuboid = [0, 0, 0, 1, 1, 1]",
+        "version = 1\n[[region]]\nid = '__global__'\ncuboid = [0, 0, 0, 1, 1, 1]",
+        "version = 1\n[[region]]\nid = 'abcdefghijklmnopqrstuvwxyzabcdefg'\ncuboid = [0, 0, 0, 1, 1, 1]",
+        "version = 1\n[[region]]\nid = 'a'\ncuboid = 1",
+        "version = 1\n[[region]]\nid = 'a'\ncuboid = [0, 0, 0, 1, 1]",
+        "version = 1\n[[region]]\nid = 'a'\ncuboid = [0, 0, 0, 1, 1, 1, 1]",
+        "version = 1\n[[region]]\nid = 'a'\ncuboid = [[0, 0, 0], [1, 1, 1]]",
+        "version = 1\n[[region]]\nid = 'a'\ncuboid = [0, 0, 0, 1, 1, 2147483648]",
+        "version = 1\n[[region]]\nid = 'a'\ncuboid = [0, 0, 0, 1, 1, 1.0]",
+        "version = 1\n[[region]]\nid = 'a'\ncuboid = [0, 0, 0, 1, 1, '1']",
+        "version = 1\n[[region]]\nid = 'a'\ny = [0, 1]\npolygon = [0, 0, 9, 0, 0, 9, 5]",
+        "version = 1\n[[region]]\nid = 'a'\ny = [0, 1]\npolygon = [0, 0, 9, 0]",
+        "version = 1\n[[region]]\nid = 'a'\ny = [0, 1]\npolygon = []",
+        "version = 1\n[[region]]\nid = 'a'\ny = [0, 1]\npolygon = [0, 0, 9, 0, 0, 4294967296]",
+        "version = 1\n[[region]]\nid = 'a'\ny = [0]\npolygon = [0, 0, 9, 0, 0, 9]",
+        "version = 1\n[[region]]\nid = 'a'\ny = [0, 1, 2]\npolygon = [0, 0, 9, 0, 0, 9]",
+        "version = 1\n[[region]]\nid = 'a'\ny = 1\npolygon = [0, 0, 9, 0, 0, 9]",
+        "version = 1\n[[region]]\nid = 'a'\ny = [1, 0]\npolygon = [0, 0, 9, 0, 0, 9]",
+    ] {
+        refused(&rt, rt.alloc(), text.as_bytes());
+    }
+    refused(&rt, rt.alloc(), b"version = 1\n# \xff\n");
+    refused(&rt, rt.alloc(), b"version = 1\n# \xe2\x82");
+}
+
+#[test]
+fn a_file_has_a_limit(rt: HostRuntime) -> Result<(), Fail> {
+    let alloc = rt.alloc();
+    let mut text = String::from_str(alloc, "version = 1\n")?;
+    for _ in 12..1_048_576 {
+        text.push(' ')?;
+    }
+    counts(&rt, alloc, text.as_str(), 0);
+    text.push(' ')?;
+    refused(&rt, alloc, text.as_bytes());
+    Ok(())
+}
+
+// Where an allocation fails, it is want of memory that is told: a run makes each fail in turn.
+#[test]
+fn want_of_memory_is_no_bad_file(rt: HostRuntime) {
+    for text in [SPAWN, MILL] {
+        match regions_file(rt.alloc(), text.as_bytes()) {
+            Ok(policy) => assert!(rt; policy.regions().count() > 0),
+            Err(fault) => assert_eq!(rt; fault, Fault::NoMemory),
+        }
+    }
+}

@@ -1,0 +1,22 @@
+//! Tests of what only a call can show. What a script shows stands in cases/, with the replies that
+//! are due.
+#![tactic(auto)]
+
+#[cfg(test)]
+mod cells;
+#[cfg(test)]
+mod desk;
+#[cfg(test)]
+mod files;
+#[cfg(test)]
+mod machines;
+#[cfg(test)]
+mod policies;
+#[cfg(test)]
+mod sectors;
+#[cfg(test)]
+mod shapes;
+#[cfg(test)]
+mod streams;
+#[cfg(test)]
+mod words;

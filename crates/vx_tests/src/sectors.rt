@@ -1,0 +1,179 @@
+//! A sector of cells that no script can set today, and its windows.
+ghost use Rattle.std.specs.Prelude.{◌≡◌, IfOk};
+
+use std::alloc::Global;
+use std::process::Abort;
+use std::test::Fail;
+use vx_block::{Cell, Lamp, Part};
+use vx_cells::Cells;
+use vx_decide::Rule;
+use vx_geom::{Bounds, Dir, Pos};
+use vx_policy::{Policy, Version};
+use vx_region::{Name, RegionNo};
+use vx_script::regions_file;
+use vx_sector::{Cmd, Entry, Fresh, Refusal, Reply, Seat, Sector};
+
+// What a command is answered.
+type Answer = Result<Reply, Refusal>;
+
+const DONE: Answer = Ok(Reply::Done(Rule::Default));
+
+const DENIED: Answer = Err(Refusal::Denied(Rule::Member { at: RegionNo(1) }));
+
+const PLACE: Pos = Pos { x: 6, y: 1, z: 5 };
+
+#[test]
+fn an_extended_piston_and_its_head_do_not_break(rt: HostRuntime) -> Result<(), Fail> {
+    for sticky in [false, true] {
+        stays(&rt, rt.alloc(), &extended(sticky))?;
+        stays(&rt, rt.alloc(), &head(sticky))?;
+    }
+    Ok(())
+}
+
+fn extended(sticky: bool) -> Cell {
+    Cell::Piston {
+        facing: Dir::East,
+        sticky,
+        extended: true,
+    }
+}
+
+fn head(sticky: bool) -> Cell {
+    Cell::Head {
+        facing: Dir::East,
+        sticky,
+    }
+}
+
+fn stays(rt: &impl Abort, alloc: Global, cell: &Cell) -> Result<(), Fail> {
+    let mut sector = opened(rt, alloc, *cell, Policy::new(alloc)?)?;
+    let bob = bob()?;
+    let calls = [
+        entry(&bob, Cmd::Look(PLACE), Ok(Reply::Seen(*cell))),
+        entry(&bob, Cmd::Break(PLACE), Err(Refusal::Extended)),
+        entry(&bob, Cmd::Place(PLACE, Part::Stone), Err(Refusal::Occupied)),
+        entry(&bob, Cmd::Turn(PLACE), Err(Refusal::NotLever)),
+    ];
+    play(rt, &mut sector, &calls);
+    Ok(())
+}
+
+#[test]
+fn a_lamp_that_is_lit_breaks_and_is_off_again(rt: HostRuntime) -> Result<(), Fail> {
+    let policy = Policy::new(rt.alloc())?;
+    let mut sector = opened(&rt, rt.alloc(), Cell::Lamp(Lamp::Cooling), policy)?;
+    let bob = bob()?;
+    let off = Cell::Lamp(Lamp::Off);
+    let calls = [
+        entry(&bob, Cmd::Break(PLACE), DONE),
+        entry(&bob, Cmd::Place(PLACE, Part::Lamp), DONE),
+        entry(&bob, Cmd::Look(PLACE), Ok(Reply::Seen(off))),
+    ];
+    play(&rt, &mut sector, &calls);
+    Ok(())
+}
+
+#[test]
+fn a_place_out_of_the_sector_leaves_no_entry(rt: HostRuntime) -> Result<(), Fail> {
+    let policy = Policy::new(rt.alloc())?;
+    let mut sector = opened(&rt, rt.alloc(), Cell::Air, policy)?;
+    let bob = bob()?;
+    for (x, y, z) in [(16, 0, 0), (0, 64, 0), (-1, 0, 0)] {
+        is_outside(&rt, &mut sector, &bob, Pos::new(x, y, z));
+    }
+    assert_eq!(rt; (sector.entries().len(), sector.count()), (0, 0));
+    Ok(())
+}
+
+fn is_outside(rt: &impl Abort, sector: &mut Sector, seat: &Seat, p: Pos) {
+    let answer = sector.act(*seat, Cmd::Place(p, Part::Chest));
+    assert_eq!(rt; answer, Err(Refusal::OutOfWorld), "at {p:?}");
+}
+
+// Bob is a stranger where the first version judges, and nobody is where the second does.
+#[test]
+fn a_window_is_judged_by_its_version(rt: HostRuntime) -> Result<(), Fail> {
+    let file = b"version = 1\n[[region]]\nid = 'home'\ncuboid = [6, 0, 5, 6, 63, 5]\n";
+    let policy = regions_file(rt.alloc(), file)?;
+    let mut sector = opened(&rt, rt.alloc(), Cell::Stone, policy)?;
+    let bob = bob()?;
+    let refused = [
+        entry(&bob, Cmd::Break(PLACE), DENIED),
+        entry(&bob, Cmd::Look(PLACE), Ok(Reply::Seen(Cell::Stone))),
+    ];
+    play(&rt, &mut sector, &refused);
+    let next = begun(
+        rt.alloc(),
+        sector.cells(),
+        version(2, Policy::new(rt.alloc())?),
+    )?;
+    let closed = sector.renew(next);
+    assert_eq!(rt; closed.as_slice(), refused.as_slice());
+    let done = [entry(&bob, Cmd::Break(PLACE), DONE)];
+    judged_anew(&rt, &mut sector, &done);
+    let left = sector.into_entries();
+    assert_eq!(rt; left.as_slice(), done.as_slice());
+    Ok(())
+}
+
+fn judged_anew(rt: &impl Abort, sector: &mut Sector, calls: &[Entry]) {
+    assert_eq!(rt;
+        (sector.closed(), sector.count(), sector.version().tick),
+        (2, 2, 2)
+    );
+    assert!(rt; sector.base().same(sector.cells()));
+    play(rt, sector, calls);
+    assert_eq!(rt;
+        (sector.closed(), sector.count(), sector.version().tick),
+        (2, 3, 2)
+    );
+    assert!(rt; !sector.base().same(sector.cells()));
+}
+
+// Gives the commands one after another, compares the answers, and finds them in the record.
+fn play(rt: &impl Abort, sector: &mut Sector, calls: &[Entry]) {
+    for call in calls {
+        let cmd = call.cmd;
+        assert_eq!(rt; sector.act(call.seat, cmd), call.answer, "{cmd:?}");
+    }
+    assert_eq!(rt; sector.entries(), calls);
+}
+
+// A sector of one chunk with this cell at one place, and air everywhere else.
+fn opened(rt: &impl Abort, alloc: Global, cell: Cell, policy: Policy) -> Result<Sector, Fail> {
+    let bounds = Bounds::new(1, 1, 1).ok_or("no bounds")?;
+    let mut start = Cells::new(alloc, bounds, 0)?;
+    assert!(rt; start.holds(PLACE));
+    start.set(PLACE, cell)?;
+    Ok(Sector::new(begun(alloc, &start, version(1, policy))?))
+}
+
+// A window over these cells.
+fn begun(alloc: Global, cells: &Cells, version: Version) -> Result<Fresh, Fail>
+    ensures { IfOk result (λ fresh. fresh.cells ≡ cells.now) }
+{
+    let fresh = Fresh::new(alloc, cells.bounds(), cells.sector(), cells, &version)?;
+    Ok(fresh)
+}
+
+fn version(tick: u64, policy: Policy) -> Version {
+    Version {
+        tick,
+        edits: 0,
+        policy,
+    }
+}
+
+fn bob() -> Result<Seat, Fail> {
+    let name = Name::read("bob")?;
+    Ok(Seat { number: 1, name })
+}
+
+fn entry(seat: &Seat, cmd: Cmd, answer: Answer) -> Entry {
+    Entry {
+        seat: *seat,
+        cmd,
+        answer,
+    }
+}

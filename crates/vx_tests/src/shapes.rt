@@ -1,0 +1,139 @@
+//! Positions, bounds and shapes where no world lies, and their copies.
+use std::alloc::Global;
+use std::test::Fail;
+use vx_geom::{Bounds, Dir, Pos, Shape, ShapeSpec};
+
+#[test]
+fn steps_lead_to_the_neighbor_and_not_past_the_ends(rt: HostRuntime) {
+    let p = Pos::new(1, 2, 3);
+    let last = Pos::new(i32::MAX, i32::MAX, i32::MAX);
+    let first = Pos::new(i32::MIN, i32::MIN, i32::MIN);
+    for (dir, x, y, z, is_up) in [
+        (Dir::East, 2, 2, 3, true),
+        (Dir::West, 0, 2, 3, false),
+        (Dir::Up, 1, 3, 3, true),
+        (Dir::Down, 1, 1, 3, false),
+        (Dir::South, 1, 2, 4, true),
+        (Dir::North, 1, 2, 2, false),
+    ] {
+        assert_eq!(rt; p.step(dir), Some(Pos::new(x, y, z)));
+        assert_eq!(rt; last.step(dir).is_none(), is_up);
+        assert_eq!(rt; first.step(dir).is_none(), !is_up);
+    }
+}
+
+#[test]
+fn sizes_out_of_range_make_no_world(rt: HostRuntime) {
+    for (sx, sz, s, is_size) in [
+        (0, 1, 1, false),
+        (9, 1, 1, false),
+        (1, 0, 1, false),
+        (1, 9, 1, false),
+        (1, 1, 0, false),
+        (1, 1, 3, false),
+        (1, 1, 1, true),
+        (8, 8, 2, true),
+    ] {
+        assert_eq!(rt;
+            Bounds::new(sx, sz, s).is_some(),
+            is_size,
+            "at {sx} {sz} {s}"
+        );
+    }
+}
+
+#[test]
+fn sectors_meet_at_a_border(rt: HostRuntime) -> Result<(), Fail> {
+    let bounds = Bounds::new(2, 1, 1).ok_or("no bounds")?;
+    assert_eq!(rt;
+        [bounds.sectors(), bounds.span(), bounds.sector_cells()],
+        [2, 16, 16_384]
+    );
+    for (x, y, z, sector) in [
+        (0, 0, 0, Some(0)),
+        (15, 63, 15, Some(0)),
+        (16, 0, 0, Some(1)),
+        (31, 63, 15, Some(1)),
+        (32, 63, 15, None),
+        (0, 64, 0, None),
+        (0, -1, 0, None),
+        (-1, 0, 0, None),
+        (0, 0, 16, None),
+        (0, 0, -1, None),
+    ] {
+        let p = Pos::new(x, y, z);
+        assert_eq!(rt; bounds.sector_of(p), sector, "at {x} {y} {z}");
+        assert_eq!(rt; bounds.inside(p), sector.is_some(), "at {x} {y} {z}");
+    }
+    Ok(())
+}
+
+#[test]
+fn sectors_count_from_the_north_west(rt: HostRuntime) -> Result<(), Fail> {
+    let bounds = Bounds::new(3, 2, 2).ok_or("no bounds")?;
+    assert_eq!(rt;
+        [bounds.sectors(), bounds.span(), bounds.sector_cells()],
+        [6, 32, 65_536]
+    );
+    for (x, z, sector) in [(0, 0, 0), (32, 31, 1), (95, 0, 2), (31, 32, 3), (95, 63, 5)] {
+        assert_eq!(rt;
+            bounds.sector_of(Pos::new(x, 9, z)),
+            Some(sector),
+            "at {x} {z}"
+        );
+    }
+    Ok(())
+}
+
+// The half of all columns whose z is not below their x. The cross product of its longest edge and
+// the way to the first position is 2^32 - 1 times 2^32 - 3, or 2^64 - 2^34 + 3. In 64 signed bits it
+// would be 3 - 2^34, the other side of the edge.
+#[test]
+fn distances_may_be_as_great_as_the_numbers(rt: HostRuntime) -> Result<(), Fail> {
+    let (first, last) = (i32::MIN, i32::MAX);
+    let corners = [(first, first), (last, last), (first, last)];
+    let half = polygon(rt.alloc(), &corners, first, last)?;
+    for (x, y, z, is_in) in [
+        (first + 1, 0, last - 1, true),
+        (0, first, 0, true),
+        (1, last, 0, false),
+        (last - 1, 0, first + 1, false),
+    ] {
+        assert_eq!(rt; half.contains(Pos::new(x, y, z)), is_in, "at {x} {y} {z}");
+    }
+    Ok(())
+}
+
+#[test]
+fn shapes_are_equal_where_their_parts_are(rt: HostRuntime) -> Result<(), Fail> {
+    let triangle = polygon(rt.alloc(), &[(2, 2), (10, 2), (2, 10)], 0, 63)?;
+    assert!(rt; triangle == triangle.try_clone(rt.alloc())?);
+    assert!(rt; triangle != polygon(rt.alloc(), &[(10, 2), (2, 10), (2, 2)], 0, 63)?);
+    assert!(rt; triangle != polygon(rt.alloc(), &[(2, 2), (10, 2), (2, 10)], 0, 62)?);
+    let cuboid = Shape::cuboid(Pos::new(2, 0, 2), Pos::new(10, 63, 10));
+    assert!(rt; cuboid == Shape::cuboid(Pos::new(10, 0, 10), Pos::new(2, 63, 2)));
+    assert!(rt; cuboid != Shape::cuboid(Pos::new(2, 0, 2), Pos::new(10, 63, 11)));
+    assert!(rt; cuboid != triangle && cuboid == cuboid.try_clone(rt.alloc())?);
+    Ok(())
+}
+
+#[test]
+fn a_copy_of_what_is_written_makes_the_same_shape(rt: HostRuntime) -> Result<(), Fail> {
+    let alloc = rt.alloc();
+    let cuboid = ShapeSpec::Cuboid(Pos::new(3, 1, 4), Pos::new(1, 5, 9));
+    let copy = cuboid.try_clone(alloc)?;
+    assert!(rt; copy.shape()? == cuboid.shape()?);
+    let points = Vec::from_slice(alloc, &[(0, 0), (9, 0), (0, 9)])?;
+    let triangle = ShapeSpec::Poly(points, 2, 6);
+    let copy = triangle.try_clone(alloc)?;
+    assert!(rt; triangle.is_shape() && copy.is_shape());
+    assert!(rt; copy.shape()? == triangle.shape()?);
+    let line = ShapeSpec::Poly(Vec::from_slice(alloc, &[(0, 0), (9, 0)])?, 2, 6);
+    assert!(rt; !line.is_shape() && line.shape().is_err());
+    Ok(())
+}
+
+fn polygon(alloc: Global, points: &[(i32, i32)], low: i32, high: i32) -> Result<Shape, Fail> {
+    let points = Vec::from_slice(alloc, points)?;
+    Ok(Shape::poly(points, low, high)?)
+}

@@ -1,0 +1,65 @@
+// Preloaded into the built program, refuses one of its calls. FAULT has the kind of call, FAULT_TURN which of them, counted from 1 (0: each of
+// them; none: no one), and FAULT_COUNT a file that gets how many there were.
+//
+//   memory            malloc, calloc, realloc and their like answer that there is no memory
+//   read, write       standard input can't be read, standard output can't be written
+//   short-read, ..    one byte is read or written
+//   stopped-read, ..  a signal came first, and nothing was read or written
+
+typedef unsigned long size;
+extern int *__errno_location(void);
+extern char *getenv(const char *);
+extern int strcmp(const char *, const char *);
+extern long strtol(const char *, char **, int);
+extern long syscall(long, ...);
+extern void *__libc_malloc(size), *__libc_calloc(size, size), *__libc_realloc(void *, size), *__libc_memalign(size, size);
+
+enum { READ = 0, WRITE = 1, OPEN = 2, CLOSE = 3, INTERRUPTED = 4, INPUT_OUTPUT = 5, NO_MEMORY = 12, INVALID = 22 };
+
+static const char *kind = "";
+static long turn = -1, count = 0;
+
+__attribute__((constructor)) static void begin(void) {
+  if (getenv("FAULT")) kind = getenv("FAULT");
+  if (getenv("FAULT_TURN")) turn = strtol(getenv("FAULT_TURN"), 0, 10);
+}
+
+__attribute__((destructor)) static void end(void) {
+  char digits[24], *first = digits + 24;
+  const char *file = getenv("FAULT_COUNT");
+  if (!file) return;
+  do *--first = '0' + count % 10; while (count /= 10);
+  int to = syscall(OPEN, file, 01101, 0600);
+  syscall(WRITE, to, first, digits + 24 - first);
+  syscall(CLOSE, to);
+}
+
+// Whether this call is one of that kind, and its turn.
+static int chosen(const char *call) {
+  if (strcmp(kind, call)) return 0;
+  count++;
+  return turn == 0 || turn == count;
+}
+
+static long refused(int cause) { *__errno_location() = cause; return -1; }
+
+#define OR_NULL(call) (chosen("memory") ? (refused(NO_MEMORY), (void *)0) : (call))
+void *malloc(size n) { return OR_NULL(__libc_malloc(n)); }
+void *calloc(size n, size each) { return OR_NULL(__libc_calloc(n, each)); }
+void *realloc(void *old, size n) { return OR_NULL(__libc_realloc(old, n)); }
+void *aligned_alloc(size align, size n) { return OR_NULL(__libc_memalign(align, n)); }
+void *memalign(size align, size n) { return OR_NULL(__libc_memalign(align, n)); }
+int posix_memalign(void **to, size align, size n) { return (*to = OR_NULL(__libc_memalign(align, n))) ? 0 : NO_MEMORY; }
+
+long read(int from, void *bytes, size n) {
+  if (from == 0 && chosen("read")) return refused(INPUT_OUTPUT);
+  if (from == 0 && chosen("stopped-read")) return refused(INTERRUPTED);
+  return syscall(READ, from, bytes, n > 1 && from == 0 && chosen("short-read") ? 1 : n);
+}
+
+long write(int to, const void *bytes, size n) {
+  if (to == 1 && chosen("write")) return refused(INPUT_OUTPUT);
+  if (to == 1 && chosen("stopped-write")) return refused(INTERRUPTED);
+  return syscall(WRITE, to, bytes, n > 1 && to == 1 && chosen("short-write") ? 1 : n);
+}
+long __write(int to, const void *bytes, size n) { return write(to, bytes, n); }

@@ -1,7 +1,8 @@
 -- What the values of a regions file mean, each by itself.
-use Rattle.std.specs.Prelude.{ℕ, ℤ, pos, neg_ℤ, ◌-◌, ◌^◌, ◌&&◌, ◌==◌, Bool, true, if◌then◌else◌, nat_lt, bytes_eq, List, [], ◌∷◌, ◌++◌, length, Option, Some, None}
+use Rattle.std.specs.Prelude.{ℕ, ℤ, pos, neg_ℤ, ◌-◌, ◌^◌, ◌&&◌, ◌==◌, Bool, true, if◌then◌else◌, nat_lt, bytes_eq, List, [], ◌∷◌, ◌++◌, length, Option, Some, None, is_some}
 use Rattle.std.specs.List.{list_any, position_or_len, before_first, after_first}
 use Rattle.toml.specs.Data.{Data, Items, no_items, item, Members, no_members, member, as_integer, as_array, as_str}
+use Rattle.vx_flag.specs.Flag.{flag_of}
 use Rattle.vx_flag.specs.Group.{group_of}
 use Rattle.vx_flag.specs.State.{state_of}
 use Rattle.vx_flag.specs.declared.group.Group.TheVariants.{All}
@@ -20,6 +21,11 @@ data_of (item d ds) = d ∷ data_of ds
 abbrev pub has_only : List (List ℕ) → Members → Bool
 has_only keys no_members = true
 has_only keys (member key d ms) = list_any (bytes_eq key) keys && has_only keys ms
+
+-- every key of the table is the text of a flag
+abbrev pub has_only_flags : Members → Bool
+has_only_flags no_members = true
+has_only_flags (member key d ms) = is_some (flag_of key) && has_only_flags ms
 
 -- what each of these gives, in order; nothing where one of them gives nothing
 abbrev pub each : {A B : Type 0} → (A → Option B) → List A → Option (List B)

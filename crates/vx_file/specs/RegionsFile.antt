@@ -5,13 +5,13 @@ use Rattle.toml.specs.Parse.{parse_document}
 use Rattle.vx_flag.specs.Flag.{flag_text, flags}
 use Rattle.vx_flag.specs.declared.flag.Flag.{Flag}
 use Rattle.vx_geom.specs.Written.{Written, Path}
-use Rattle.vx_policy.specs.Asked.{Asked, Define, Priority, Parent, SetFlag, Owner, Member}
+use Rattle.vx_policy.specs.Asked.{Asked, Define, Priority, Parent, SetFlag, Listed}
 use Rattle.vx_policy.specs.declared.listing.Listing.TheVariants.{Add}
+use Rattle.vx_region.specs.declared.role.Role.{Role}
+use Rattle.vx_region.specs.declared.role.Role.TheVariants.{Owner, Member}
 use Rattle.vx_region.specs.Regions.{global_id}
-use Rattle.vx_file.specs.FileValues.{data_of, has_only, joined, number_in, numbers_in, columns_in, corners_of, heights_of, setting_in}
+use Rattle.vx_file.specs.FileValues.{data_of, has_only, has_only_flags, joined, number_in, numbers_in, columns_in, corners_of, heights_of, setting_in}
 use Rattle.vx_base.specs.Then.{◌>>=◌}
-use Rattle.vx_file.specs.declared.tables.Role.{Role}
-use Rattle.vx_file.specs.declared.tables.Role.TheVariants.{Owners, Members}
 
 -- the text at a key
 unfoldable pub text_at : List ℕ → Table → Option (List ℕ)
@@ -70,16 +70,11 @@ parent_in id d = do
   parent ← as_str d
   Some (Parent id (Some parent) ∷ [])
 
--- one name of an owner or a member of the region of that id
-abbrev pub says : Role → List ℕ → List ℕ → Asked
-says Owners id name = Owner id Add name
-says Members id name = Member id Add name
-
--- a value that is to be such a name
+-- a value that is to be a name of that role in the region of that id
 unfoldable pub name_in : Role → List ℕ → Data → Option (List Asked)
 name_in role id d = do
   name ← as_str d
-  Some (says role id name ∷ [])
+  Some (Listed role id Add name ∷ [])
 
 -- an array of such names
 unfoldable pub names_in : Role → List ℕ → Data → Option (List Asked)
@@ -96,7 +91,7 @@ flag_in id flag d = do
 -- what a table sets the flags of the region of that id to, in the order of the list of flags
 unfoldable pub flags_in : List ℕ → Table → Option (List Asked)
 flags_in id ms =
-    if has_only (map flag_text flags) ms
+    if has_only_flags ms
     then joined (map (λ flag. if_there (flag_in id flag) (get_member (flag_text flag) ms)) flags)
     else None
 
@@ -114,7 +109,7 @@ rank_in id ms =
 -- its owners and its members
 unfoldable pub people_in : List ℕ → Table → Option (List Asked)
 people_in id ms =
-    joined (if_there (names_in Owners id) (get_member (codes "owners") ms) ∷ if_there (names_in Members id) (get_member (codes "members") ms) ∷ [])
+    joined (if_there (names_in Owner id) (get_member (codes "owners") ms) ∷ if_there (names_in Member id) (get_member (codes "members") ms) ∷ [])
 
 -- what is said of a region beside its definition
 unfoldable pub changes_in : Table → Option (List Asked)

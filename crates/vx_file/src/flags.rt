@@ -9,35 +9,13 @@ ghost use Rattle.vx_file.specs.FileValues.{joined};
 ghost use Rattle.vx_file.specs.RegionsFile.{if_there, flag_in, flags_in, flags_at};
 
 use crate::edits::add;
-use crate::keys::{has_only, value_at};
+use crate::keys::{has_only_flags, value_at};
 use crate::values::setting;
 use vx_base::Unread;
 use std::alloc::Global;
 use toml::{Table, Value};
 use vx_flag::Flag;
 use vx_policy::Edit;
-
-/// Every flag, in the order in which they are set.
-const FLAGS: [Flag; 7] = [
-    Flag::Build,
-    Flag::BlockBreak,
-    Flag::BlockPlace,
-    Flag::Usage,
-    Flag::ChestAccess,
-    Flag::Passthrough,
-    Flag::Pistons,
-];
-
-/// The keys that a table of flags may have.
-const FLAG_KEYS: [&str; 7] = [
-    "build",
-    "block-break",
-    "block-place",
-    "use",
-    "chest-access",
-    "passthrough",
-    "pistons",
-];
 
 /// Adds what a value, where it is there, sets the flags of the region of that id to.
 #[tactic(auto, unfolding(crate::specs::RegionsFile::flags_at))]
@@ -62,10 +40,10 @@ pub fn flags(
 fn flags_of(alloc: Global, id: &str, table: &Table, edits: &mut Vec<Edit>) -> Result<(), Unread>
     ensures { Adds result edits.old.items edits.new.items (flags_in id.now (table_view table.now)) }
 {
-    if !has_only(table, &FLAG_KEYS) {
+    if !has_only_flags(table) {
         return Err(Unread::Faulty);
     }
-    each_flag(alloc, id, table, &FLAGS, edits)
+    each_flag(alloc, id, table, &Flag::ALL, edits)
 }
 
 fn each_flag(

@@ -3,10 +3,11 @@ ghost use Rattle.std.specs.Prelude.{◌≡◌, map, bytes_eq, option_map, option
 ghost use Rattle.std.specs.List.{list_any};
 ghost use Rattle.toml.specs.Data.{get_member};
 ghost use Rattle.toml.specs.View.{view, table_view};
-ghost use Rattle.vx_file.specs.FileValues.{has_only};
+ghost use Rattle.vx_file.specs.FileValues.{has_only, has_only_flags};
 ghost use Rattle.vx_file.specs.RegionsFile.{text_at};
 
 use toml::{Table, Value};
+use vx_flag::Flag;
 
 /// Whether the table has no keys but these.
 pub fn has_only(table: &Table, keys: &[&str]) -> bool
@@ -14,6 +15,18 @@ pub fn has_only(table: &Table, keys: &[&str]) -> bool
 {
     'keys: for (key, _) in table.iter() {
         if !is_among(key, keys) {
+            return false;
+        }
+    }
+    true
+}
+
+/// Whether each key of the table is the text of a flag.
+pub fn has_only_flags(table: &Table) -> bool
+    ensures { result ≡ has_only_flags (table_view table.now) }
+{
+    'keys: for (key, _) in table.iter() {
+        if Flag::read(key).is_none() {
             return false;
         }
     }

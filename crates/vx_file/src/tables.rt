@@ -1,10 +1,10 @@
 //! What the table of a region means.
-ghost use Rattle.std.specs.Prelude.{◌≡◌, [], ◌∷◌, map, Some, None, option_map, option_copied, string_bytes};
+ghost use Rattle.std.specs.Prelude.{◌≡◌, [], ◌∷◌, map, Some, None, option_map, option_copied};
 ghost use Rattle.toml.specs.Data.{get_member};
 ghost use Rattle.toml.specs.View.{view, table_view};
 ghost use Rattle.vx_policy.specs.Asked.{asked};
 ghost use Rattle.vx_file.specs.FileReads.{Adds};
-ghost use Rattle.vx_file.specs.RegionsFile.{if_there, in_turn, text_at, says, definition_in, definition_at, priority_in, parent_in, name_in, names_in, rank_in, people_in, changes_in, changes_at};
+ghost use Rattle.vx_file.specs.RegionsFile.{if_there, in_turn, text_at, definition_in, definition_at, priority_in, parent_in, name_in, names_in, rank_in, people_in, changes_in, changes_at};
 ghost use Rattle.vx_base.specs.Unread.{Gives};
 
 use crate::edits::add;
@@ -16,18 +16,12 @@ use vx_base::Unread;
 use std::alloc::Global;
 use toml::{Table, Value};
 use vx_policy::{Edit, Listing};
+use vx_region::Role;
 
 /// The keys that a region may have.
 const REGION_KEYS: [&str; 9] = [
     "id", "cuboid", "polygon", "y", "priority", "parent", "owners", "members", "flags",
 ];
-
-/// What a name in a region's table is of.
-#[derive(Clone, Copy, Debug)]
-enum Role {
-    Owners,
-    Members,
-}
 
 /// Adds the definition of a region.
 #[tactic(auto, unfolding(crate::specs::RegionsFile::definition_at))]
@@ -90,8 +84,8 @@ fn rank(alloc: Global, id: &str, table: &Table, edits: &mut Vec<Edit>) -> Result
 fn people(alloc: Global, id: &str, table: &Table, edits: &mut Vec<Edit>) -> Result<(), Unread>
     ensures { Adds result edits.old.items edits.new.items (people_in id.now (table_view table.now)) }
 {
-    names(alloc, Role::Owners, id, value_at(table, "owners"), edits)?;
-    names(alloc, Role::Members, id, value_at(table, "members"), edits)
+    names(alloc, Role::Owner, id, value_at(table, "owners"), edits)?;
+    names(alloc, Role::Member, id, value_at(table, "members"), edits)
 }
 
 #[tactic(auto, unfolding(crate::specs::RegionsFile::priority_in))]
@@ -182,14 +176,5 @@ fn name(
     };
     let id = String::from_str(alloc, id)?;
     let name = String::from_str(alloc, name)?;
-    add(edits, listed(role, id, name))
-}
-
-fn listed(role: Role, id: String, name: String) -> Edit
-    ensures { asked result ≡ says role (string_bytes id) (string_bytes name) }
-{
-    match role {
-        Role::Owners => Edit::Owner(id, Listing::Add, name),
-        Role::Members => Edit::Member(id, Listing::Add, name),
-    }
+    add(edits, Edit::listed(role, id, Listing::Add, name))
 }

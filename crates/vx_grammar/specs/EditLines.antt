@@ -8,7 +8,9 @@ use Rattle.vx_flag.specs.declared.group.Group.TheVariants.{All}
 use Rattle.vx_flag.specs.declared.state.State.{State}
 use Rattle.vx_geom.specs.Polygon.{Column}
 use Rattle.vx_geom.specs.Written.{Written, Corners, Path}
-use Rattle.vx_policy.specs.Asked.{Asked, Define, Reshape, Remove, Priority, Parent, SetFlag, ClearFlag, Owner, Member}
+use Rattle.vx_policy.specs.Asked.{Asked, Define, Reshape, Remove, Priority, Parent, SetFlag, ClearFlag, Listed}
+use Rattle.vx_region.specs.declared.role.Role.{Role}
+use Rattle.vx_region.specs.declared.role.Role.TheVariants.{Owner, Member}
 use Rattle.vx_policy.specs.declared.listing.Listing.{Listing}
 use Rattle.vx_policy.specs.declared.listing.Listing.TheVariants.{Add, Drop}
 use Rattle.vx_grammar.specs.Numbers.{i32_of}
@@ -145,7 +147,10 @@ clear_flag_of words = do
 
 -- `add` or `drop`
 unfoldable pub listing_of : List ℕ → Option Listing
-listing_of word = if bytes_eq word (codes "add") then Some Add else if bytes_eq word (codes "drop") then Some Drop else None
+listing_of word =
+    if bytes_eq word (codes "add") then Some Add
+    else if bytes_eq word (codes "drop") then Some Drop
+    else None
 
 -- `add` or `drop`, the next word
 unfoldable pub listing_at : Rest → Option (Listing × Rest)
@@ -154,23 +159,14 @@ listing_at words = do
   listing ← listing_of word.0
   Some (listing, word.1)
 
--- `owner ID add NAME` or `owner ID drop NAME`
-unfoldable pub owner_of : Rest → Option Asked
-owner_of words = do
+-- `ID add NAME` or `ID drop NAME`, behind the word of the role
+unfoldable pub listed_of : Role → Rest → Option Asked
+listed_of role words = do
   id ← next_of words
   listing ← listing_at id.1
   name ← next_of listing.1
   end ← end_of name.1
-  Some (Owner id.0 listing.0 name.0)
-
--- `member ID add NAME` or `member ID drop NAME`
-unfoldable pub member_of : Rest → Option Asked
-member_of words = do
-  id ← next_of words
-  listing ← listing_at id.1
-  name ← next_of listing.1
-  end ← end_of name.1
-  Some (Member id.0 listing.0 name.0)
+  Some (Listed role id.0 listing.0 name.0)
 
 -- an edit by its first word
 unfoldable pub edit_by : List ℕ → Rest → Option Asked
@@ -182,8 +178,8 @@ edit_by verb words =
     else if bytes_eq verb (codes "parent") then parent_of words
     else if bytes_eq verb (codes "flag") then set_flag_of words
     else if bytes_eq verb (codes "clear") then clear_flag_of words
-    else if bytes_eq verb (codes "owner") then owner_of words
-    else if bytes_eq verb (codes "member") then member_of words
+    else if bytes_eq verb (codes "owner") then listed_of Owner words
+    else if bytes_eq verb (codes "member") then listed_of Member words
     else None
 
 -- the words of an edit

@@ -67,38 +67,38 @@ set_line words = do
   Some (Set placed.0 placed.1)
 
 -- `look X Y Z`
-unfoldable pub look_of : Rest → Option Cmd
-look_of words = do
+unfoldable pub look_command : Rest → Option Cmd
+look_command words = do
   p ← position_at words
   at_end p.1 (Look p.0)
 
 -- `place X Y Z PART`
-unfoldable pub place_of : Rest → Option Cmd
-place_of words = do
+unfoldable pub place_command : Rest → Option Cmd
+place_command words = do
   placed ← placed_part words
   Some (Place placed.0 placed.1)
 
 -- `break X Y Z`
-unfoldable pub break_of : Rest → Option Cmd
-break_of words = do
+unfoldable pub break_command : Rest → Option Cmd
+break_command words = do
   p ← position_at words
   at_end p.1 (Break p.0)
 
 -- `turn X Y Z`
-unfoldable pub turn_of : Rest → Option Cmd
-turn_of words = do
+unfoldable pub turn_command : Rest → Option Cmd
+turn_command words = do
   p ← position_at words
   at_end p.1 (Turn p.0)
 
 -- `open X Y Z`
-unfoldable pub open_of : Rest → Option Cmd
-open_of words = do
+unfoldable pub open_command : Rest → Option Cmd
+open_command words = do
   p ← position_at words
   at_end p.1 (OpenChest p.0)
 
 -- `put X Y Z SLOT ITEM COUNT`
-unfoldable pub put_of : Rest → Option Cmd
-put_of words = do
+unfoldable pub put_command : Rest → Option Cmd
+put_command words = do
   p ← position_at words
   slot ← byte_at p.1
   item ← item_at slot.1
@@ -106,8 +106,8 @@ put_of words = do
   at_end count.1 (Put p.0 slot.0 item.0 count.0)
 
 -- `take X Y Z SLOT COUNT`
-unfoldable pub take_of : Rest → Option Cmd
-take_of words = do
+unfoldable pub take_command : Rest → Option Cmd
+take_command words = do
   p ← position_at words
   slot ← byte_at p.1
   count ← byte_at slot.1
@@ -116,13 +116,13 @@ take_of words = do
 -- a command by its first word
 unfoldable pub command_of : List ℕ → Rest → Option Cmd
 command_of verb words =
-    if bytes_eq verb (codes "look") then look_of words
-    else if bytes_eq verb (codes "place") then place_of words
-    else if bytes_eq verb (codes "break") then break_of words
-    else if bytes_eq verb (codes "turn") then turn_of words
-    else if bytes_eq verb (codes "open") then open_of words
-    else if bytes_eq verb (codes "put") then put_of words
-    else if bytes_eq verb (codes "take") then take_of words
+    if bytes_eq verb (codes "look") then look_command words
+    else if bytes_eq verb (codes "place") then place_command words
+    else if bytes_eq verb (codes "break") then break_command words
+    else if bytes_eq verb (codes "turn") then turn_command words
+    else if bytes_eq verb (codes "open") then open_command words
+    else if bytes_eq verb (codes "put") then put_command words
+    else if bytes_eq verb (codes "take") then take_command words
     else None
 
 -- `as NAME` and a command

@@ -2,7 +2,7 @@
 ghost use Rattle.std.specs.Prelude.{◌≡◌, string_bytes, IfOk, IfErr};
 ghost use Rattle.vx_geom.specs.Written.{written};
 ghost use Rattle.vx_policy.specs.Asked.{asked};
-ghost use Rattle.vx_grammar.specs.EditLines.{Ended, end_of, corners_of, points_of, path_of, shape_by, shape_of, define_of, reshape_of, remove_of, priority_of, parent_of, flag_at, state_at, group_at_end, set_flag_of, clear_flag_of, listing_of, listing_at, owner_of, member_of, edit_by, edit_of};
+ghost use Rattle.vx_grammar.specs.EditLines.{Ended, end_of, corners_of, points_of, path_of, shape_by, shape_of, define_of, reshape_of, remove_of, priority_of, parent_of, flag_at, state_at, group_at_end, set_flag_of, clear_flag_of, listing_of, listing_at, listed_of, edit_by, edit_of};
 ghost use Rattle.vx_grammar.specs.Readings.{next_of, coordinate_at, position_at};
 ghost use Rattle.vx_base.specs.Unread.{Gives, GivesWith};
 
@@ -14,6 +14,7 @@ use std::alloc::Global;
 use vx_flag::{Flag, Group, Setting, State};
 use vx_geom::{Pos, ShapeSpec};
 use vx_policy::{Edit, Listing};
+use vx_region::Role;
 
 /// Reads the words of an edit, those after `region`.
 #[tactic(auto, unfolding(crate::specs::EditLines::edit_of))]
@@ -36,8 +37,8 @@ fn edit_by(alloc: Global, verb: &str, words: &mut Words) -> Result<Edit, Unread>
         "parent" => parent(alloc, words),
         "flag" => set_flag(alloc, words),
         "clear" => clear_flag(alloc, words),
-        "owner" => owner(alloc, words),
-        "member" => member(alloc, words),
+        "owner" => listed(alloc, Role::Owner, words),
+        "member" => listed(alloc, Role::Member, words),
         _ => Err(Unread::Faulty),
     }
 }
@@ -114,28 +115,17 @@ fn clear_flag(alloc: Global, words: &mut Words) -> Result<Edit, Unread>
     Ok(Edit::ClearFlag(text(alloc, id)?, flag))
 }
 
-#[tactic(auto, unfolding(crate::specs::EditLines::owner_of))]
-fn owner(alloc: Global, words: &mut Words) -> Result<Edit, Unread>
-    ensures { Gives asked result (owner_of words.old) }
+// Reads an id, and a name that is added to those of the role there, or dropped from them.
+#[tactic(auto, unfolding(crate::specs::EditLines::listed_of))]
+fn listed(alloc: Global, role: Role, words: &mut Words) -> Result<Edit, Unread>
+    ensures { Gives asked result (listed_of role words.old) }
 {
     let id = word(words)?;
     let listing = listing(words)?;
     let name = word(words)?;
     end(words)?;
     let id = text(alloc, id)?;
-    Ok(Edit::Owner(id, listing, text(alloc, name)?))
-}
-
-#[tactic(auto, unfolding(crate::specs::EditLines::member_of))]
-fn member(alloc: Global, words: &mut Words) -> Result<Edit, Unread>
-    ensures { Gives asked result (member_of words.old) }
-{
-    let id = word(words)?;
-    let listing = listing(words)?;
-    let name = word(words)?;
-    end(words)?;
-    let id = text(alloc, id)?;
-    Ok(Edit::Member(id, listing, text(alloc, name)?))
+    Ok(Edit::listed(role, id, listing, text(alloc, name)?))
 }
 
 #[tactic(auto, unfolding(crate::specs::EditLines::shape_of))]

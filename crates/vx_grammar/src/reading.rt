@@ -1,6 +1,6 @@
 ghost use Rattle.std.specs.Prelude.{◌≡◌, ◌==◌, option_map};
 ghost use Rattle.std.specs.List.{list_all};
-ghost use Rattle.vx_grammar.specs.ScriptLines.{said, is_printable, is_comment, world_line, player_line, set_line, placed_part, look_of, place_of, break_of, turn_of, open_of, put_of, take_of, command_of, as_line, region_line, tick_line, line_by, line_in, line_of, sizes_of};
+ghost use Rattle.vx_grammar.specs.ScriptLines.{said, is_printable, is_comment, world_line, player_line, set_line, placed_part, look_command, place_command, break_command, turn_command, open_command, put_command, take_command, command_of, as_line, region_line, tick_line, line_by, line_in, line_of, sizes_of};
 ghost use Rattle.vx_base.specs.Unread.{Gives};
 
 use crate::arguments::{at_end, byte, item, name, part, position};
@@ -138,60 +138,60 @@ fn command_of(verb: &str, words: &mut Words) -> Option<Cmd>
     ensures { result ≡ command_of verb.now words.old }
 {
     match verb {
-        "look" => look_of(words),
-        "place" => place_of(words),
-        "break" => break_of(words),
-        "turn" => turn_of(words),
-        "open" => open_of(words),
-        "put" => put_of(words),
-        "take" => take_of(words),
+        "look" => look_command(words),
+        "place" => place_command(words),
+        "break" => break_command(words),
+        "turn" => turn_command(words),
+        "open" => open_command(words),
+        "put" => put_command(words),
+        "take" => take_command(words),
         _ => None,
     }
 }
 
-#[tactic(auto, unfolding(crate::specs::ScriptLines::look_of))]
-fn look_of(words: &mut Words) -> Option<Cmd>
-    ensures { result ≡ look_of words.old }
+#[tactic(auto, unfolding(crate::specs::ScriptLines::look_command))]
+fn look_command(words: &mut Words) -> Option<Cmd>
+    ensures { result ≡ look_command words.old }
 {
     let p = position(words)?;
     at_end(words, Cmd::Look(p))
 }
 
-#[tactic(auto, unfolding(crate::specs::ScriptLines::place_of))]
-fn place_of(words: &mut Words) -> Option<Cmd>
-    ensures { result ≡ place_of words.old }
+#[tactic(auto, unfolding(crate::specs::ScriptLines::place_command))]
+fn place_command(words: &mut Words) -> Option<Cmd>
+    ensures { result ≡ place_command words.old }
 {
     let (p, part) = placed_part(words)?;
     Some(Cmd::Place(p, part))
 }
 
-#[tactic(auto, unfolding(crate::specs::ScriptLines::break_of))]
-fn break_of(words: &mut Words) -> Option<Cmd>
-    ensures { result ≡ break_of words.old }
+#[tactic(auto, unfolding(crate::specs::ScriptLines::break_command))]
+fn break_command(words: &mut Words) -> Option<Cmd>
+    ensures { result ≡ break_command words.old }
 {
     let p = position(words)?;
     at_end(words, Cmd::Break(p))
 }
 
-#[tactic(auto, unfolding(crate::specs::ScriptLines::turn_of))]
-fn turn_of(words: &mut Words) -> Option<Cmd>
-    ensures { result ≡ turn_of words.old }
+#[tactic(auto, unfolding(crate::specs::ScriptLines::turn_command))]
+fn turn_command(words: &mut Words) -> Option<Cmd>
+    ensures { result ≡ turn_command words.old }
 {
     let p = position(words)?;
     at_end(words, Cmd::Turn(p))
 }
 
-#[tactic(auto, unfolding(crate::specs::ScriptLines::open_of))]
-fn open_of(words: &mut Words) -> Option<Cmd>
-    ensures { result ≡ open_of words.old }
+#[tactic(auto, unfolding(crate::specs::ScriptLines::open_command))]
+fn open_command(words: &mut Words) -> Option<Cmd>
+    ensures { result ≡ open_command words.old }
 {
     let p = position(words)?;
     at_end(words, Cmd::OpenChest(p))
 }
 
-#[tactic(auto, unfolding(crate::specs::ScriptLines::put_of))]
-fn put_of(words: &mut Words) -> Option<Cmd>
-    ensures { result ≡ put_of words.old }
+#[tactic(auto, unfolding(crate::specs::ScriptLines::put_command))]
+fn put_command(words: &mut Words) -> Option<Cmd>
+    ensures { result ≡ put_command words.old }
 {
     let at = position(words)?;
     let slot = byte(words)?;
@@ -208,9 +208,9 @@ fn put_of(words: &mut Words) -> Option<Cmd>
     )
 }
 
-#[tactic(auto, unfolding(crate::specs::ScriptLines::take_of))]
-fn take_of(words: &mut Words) -> Option<Cmd>
-    ensures { result ≡ take_of words.old }
+#[tactic(auto, unfolding(crate::specs::ScriptLines::take_command))]
+fn take_command(words: &mut Words) -> Option<Cmd>
+    ensures { result ≡ take_command words.old }
 {
     let at = position(words)?;
     let slot = byte(words)?;

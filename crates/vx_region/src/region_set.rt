@@ -136,6 +136,7 @@ impl RegionSet {
                 None => return false,
             }
         }
+        // No walk comes here: no chain of parents is longer than the numbers that were given.
         false
     }
 
@@ -190,6 +191,7 @@ impl RegionSet {
                 None => return false,
             }
         }
+        // No walk comes here: no chain of parents is longer than the numbers that were given.
         false
     }
 

@@ -12,7 +12,7 @@ use Rattle.vx_decide.specs.declared.rule.Rule.{Rule}
 use Rattle.vx_decide.specs.declared.verdict.Verdict.{Verdict}
 use Rattle.vx_decide.specs.declared.verdict.Verdict.TheVariants.{Permit, Deny}
 use Rattle.vx_sector.specs.SectorData.{SectorData, SeatData}
-use Rattle.vx_sector.specs.Commands.{place_of, action_of}
+use Rattle.vx_sector.specs.Commands.{place_of}
 use Rattle.vx_sector.specs.Acting.{refuse_if, refuse_denied, rule_of, judged, slots_at, hindrances, first_some, ok_unless, rules_answer, applied, effect_by}
 use Rattle.vx_sector.specs.Windows.{leaves_trace, is_recorded, sector_after}
 use Rattle.vx_sector.specs.Laws.{OnePlaceChanges, RefusalLeavesCells, DeniedByThePolicy, ShownByLeave}
@@ -98,34 +98,13 @@ answer_recorded regions c seat (OpenChest p) = judged_traced (judged regions sea
 answer_recorded regions c seat (Put p slot item count) = judged_traced (judged regions seat Reaching p) _ _ (hindrance_stands c (Put p slot item count))
 answer_recorded regions c seat (Take p slot count) = judged_traced (judged regions seat Reaching p) _ _ (hindrance_stands c (Take p slot count))
 
-pub none_against : {X : Type 0} (o : Option Refusal) (x y : X) → Ok x ≡ ok_unless o y → o ≡ None
-none_against None x y h = refl
-none_against (Some refusal) x y h = cc
-
-permitted_done : (v : Verdict) (os : List (Option Refusal)) (rule : Rule) → Ok rule ≡ ok_unless (refuse_denied v) (rule_of v) → first_some os ≡ None
-    → ok_unless (first_some (refuse_denied v ∷ os)) (Done (rule_of v)) ≡ Ok (Done rule)
-permitted_done (Permit by) os rule permit none = rw none cc
-permitted_done (Deny by) os rule permit none = cc
-
--- the rule permits the action
-abbrev pub Permits : Regions → SeatData → Pos → Rule → Action → Type 0
-Permits regions seat p rule action = Ok rule ≡ ok_unless (refuse_denied (judged regions seat action p)) (rule_of (judged regions seat action p))
+-- what is given where nothing stands against it
+pub given : {X : Type 0} (o : Option Refusal) (x y : X) → Ok x ≡ ok_unless o y → x ≡ y
+given None x y same = cc
+given (Some refusal) x y same = cc
 
 told : (P : Action → Type 0) (a b : Action) → Some a ≡ Some b → P b → P a
 told P a b same = subst P (sym (cc))
-
--- a command that is permitted and that nothing stands against is done, by the rule that permits it
-pub done_by : (regions : Regions) (c : SectorCells) (seat : SeatData) (cmd : Cmd) (action : Action) (rule : Rule)
-    → ((p : Pos) → cmd ≢ OpenChest p) → action_of cmd ≡ Some action → Permits regions seat (place_of cmd) rule action
-    → first_some (hindrances c cmd) ≡ None → rules_answer regions c seat cmd ≡ Ok (Done rule)
-unfolding rules_answer
-done_by regions c seat (Look p) action rule other asks permit none = cc
-done_by regions c seat (Place p part) action rule other asks permit none = permitted_done (judged regions seat Placing p) _ rule (told (Permits regions seat p rule) _ _ asks permit) none
-done_by regions c seat (Break p) action rule other asks permit none = permitted_done (judged regions seat Breaking p) _ rule (told (Permits regions seat p rule) _ _ asks permit) none
-done_by regions c seat (Turn p) action rule other asks permit none = permitted_done (judged regions seat Turning p) _ rule (told (Permits regions seat p rule) _ _ asks permit) none
-done_by regions c seat (OpenChest p) action rule other asks permit none = absurd (other p refl)
-done_by regions c seat (Put p slot item count) action rule other asks permit none = permitted_done (judged regions seat Reaching p) _ rule (told (Permits regions seat p rule) _ _ asks permit) none
-done_by regions c seat (Take p slot count) action rule other asks permit none = permitted_done (judged regions seat Reaching p) _ rule (told (Permits regions seat p rule) _ _ asks permit) none
 
 no_denial : (o : Option Refusal) (reply : Reply) (rule : Rule) → Stands o → ok_unless o reply ≢ Err (Denied rule)
 no_denial None reply rule h same = cc

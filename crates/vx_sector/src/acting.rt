@@ -70,17 +70,41 @@ fn carried_out(
     ensures effect { IfOk result (λ done. done.1 ≡ effect_of cells.now cmd.now) }
     ensures fits { IfOk result (λ done. Fits cells.now (place_of cmd.now) done.1) }
 {
-    let p = cmd.place();
-    let Some(action) = cmd.action() else {
-        return Ok((Reply::Seen(cells.get(p)), Effect::Same));
-    };
-    let rule = permitted(regions, seat, action, p)?;
-    if matches!(cmd, Cmd::OpenChest(_)) {
-        let contents = shown(alloc, cells, p)?;
-        return Ok((Reply::Opened(rule, contents), Effect::Same));
+    match cmd {
+        Cmd::Look(p) => Ok((Reply::Seen(cells.get(*p)), Effect::Same)),
+        Cmd::Place(p, part) => {
+            let rule = permitted(regions, seat, Action::Placing, *p)?;
+            Ok((Reply::Done(rule), placing(cells, *p, *part)?))
+        }
+        Cmd::Break(p) => {
+            let rule = permitted(regions, seat, Action::Breaking, *p)?;
+            Ok((Reply::Done(rule), breaking(cells, *p)?))
+        }
+        Cmd::Turn(p) => {
+            let rule = permitted(regions, seat, Action::Turning, *p)?;
+            Ok((Reply::Done(rule), turning(cells, *p)?))
+        }
+        Cmd::OpenChest(p) => {
+            let rule = permitted(regions, seat, Action::Reaching, *p)?;
+            Ok((Reply::Opened(rule, shown(alloc, cells, *p)?), Effect::Same))
+        }
+        Cmd::Put {
+            at,
+            slot,
+            item,
+            count,
+        } => {
+            let rule = permitted(regions, seat, Action::Reaching, *at)?;
+            Ok((
+                Reply::Done(rule),
+                putting(cells, *at, *slot, *item, *count)?,
+            ))
+        }
+        Cmd::Take { at, slot, count } => {
+            let rule = permitted(regions, seat, Action::Reaching, *at)?;
+            Ok((Reply::Done(rule), taking(cells, *at, *slot, *count)?))
+        }
     }
-    let effect = effect(cells, cmd)?;
-    Ok((Reply::Done(rule), effect))
 }
 
 // The rule that permits the player of the seat the action at the place.
@@ -104,34 +128,6 @@ fn shown(alloc: Global, cells: &Cells, p: Pos) -> Result<Contents, Refusal>
 {
     let slots = opening(cells, p)?;
     Contents::new(alloc, slots).map_err(|_| Refusal::NoMemory)
-}
-
-// What a permitted command does, or what stands in its way.
-fn effect(cells: &Cells, cmd: &Cmd) -> Result<Effect, Refusal>
-    requires held { holds cells.now (place_of cmd.now) ≡ true }
-    requires whole { IsWhole cells.now }
-    ensures effect { result ≡ permitted_effect cells.now cmd.now }
-    ensures fits { IfOk result (λ effect. Fits cells.now (place_of cmd.now) effect) }
-{
-    // A look and an opened chest change nothing. They stand here so that each command has its
-    // effect; `carried_out` answers both before it asks for one.
-    match cmd {
-        Cmd::Look(_) => Ok(Effect::Same),
-        Cmd::Place(p, part) => placing(cells, *p, *part),
-        Cmd::Break(p) => breaking(cells, *p),
-        Cmd::Turn(p) => turning(cells, *p),
-        Cmd::OpenChest(p) => {
-            opening(cells, *p)?;
-            Ok(Effect::Same)
-        }
-        Cmd::Put {
-            at,
-            slot,
-            item,
-            count,
-        } => putting(cells, *at, *slot, *item, *count),
-        Cmd::Take { at, slot, count } => taking(cells, *at, *slot, *count),
-    }
 }
 
 // A part put where there is air.

@@ -172,26 +172,6 @@ fn put_all(rt: &impl Abort, cells: &mut Cells, all: &[Cell]) {
 }
 
 #[test]
-fn slots_are_set_and_read(rt: HostRuntime) -> Result<(), Fail> {
-    let (mut cells, p) = (sector(rt.alloc(), 1)?, Pos::new(31, 63, 15));
-    put(&rt, &mut cells, p, Cell::Chest)?;
-    set_some(&rt, &mut cells, p);
-    Ok(())
-}
-
-fn set_some(rt: &impl Abort, cells: &mut Cells, p: Pos) {
-    let mut slots = [None; SLOTS];
-    for (slot, count) in [(0, 1), (26, 64), (13, 5), (26, 9)] {
-        fill(rt, cells, p, slot, count);
-        slots[usize::from(slot)] = stack(count);
-        assert!(rt; cells.holds(p));
-        assert_eq!(rt; cells.chest(p), Some(slots));
-    }
-    assert!(rt; cells.holds(Pos::new(16, 0, 0)));
-    assert_eq!(rt; cells.chest(Pos::new(16, 0, 0)), None);
-}
-
-#[test]
 fn a_copy_is_the_same_until_one_changes(rt: HostRuntime) -> Result<(), Fail> {
     let mut cells = sector(rt.alloc(), 0)?;
     put(&rt, &mut cells, Pos::new(3, 4, 5), Cell::Chest)?;

@@ -4,7 +4,7 @@ ghost use Rattle.std.specs.Prelude.{◌≡◌, IfOk};
 use std::alloc::Global;
 use std::process::Abort;
 use std::test::Fail;
-use vx_block::{Cell, Lamp, Part};
+use vx_block::{Cell, Part};
 use vx_cells::Cells;
 use vx_decide::Rule;
 use vx_geom::{Bounds, Dir, Pos};
@@ -57,38 +57,6 @@ fn stays(rt: &impl Abort, alloc: Global, cell: &Cell) -> Result<(), Fail> {
     ];
     play(rt, &mut sector, &calls);
     Ok(())
-}
-
-#[test]
-fn a_lamp_that_is_lit_breaks_and_is_off_again(rt: HostRuntime) -> Result<(), Fail> {
-    let policy = Policy::new(rt.alloc())?;
-    let mut sector = opened(&rt, rt.alloc(), Cell::Lamp(Lamp::Cooling), policy)?;
-    let bob = bob()?;
-    let off = Cell::Lamp(Lamp::Off);
-    let calls = [
-        entry(&bob, Cmd::Break(PLACE), DONE),
-        entry(&bob, Cmd::Place(PLACE, Part::Lamp), DONE),
-        entry(&bob, Cmd::Look(PLACE), Ok(Reply::Seen(off))),
-    ];
-    play(&rt, &mut sector, &calls);
-    Ok(())
-}
-
-#[test]
-fn a_place_out_of_the_sector_leaves_no_entry(rt: HostRuntime) -> Result<(), Fail> {
-    let policy = Policy::new(rt.alloc())?;
-    let mut sector = opened(&rt, rt.alloc(), Cell::Air, policy)?;
-    let bob = bob()?;
-    for (x, y, z) in [(16, 0, 0), (0, 64, 0), (-1, 0, 0)] {
-        is_outside(&rt, &mut sector, &bob, Pos::new(x, y, z));
-    }
-    assert_eq!(rt; (sector.entries().len(), sector.count()), (0, 0));
-    Ok(())
-}
-
-fn is_outside(rt: &impl Abort, sector: &mut Sector, seat: &Seat, p: Pos) {
-    let answer = sector.act(*seat, Cmd::Place(p, Part::Chest));
-    assert_eq!(rt; answer, Err(Refusal::OutOfWorld), "at {p:?}");
 }
 
 // Bob is a stranger where the first version judges, and nobody is where the second does.

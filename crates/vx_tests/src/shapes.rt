@@ -23,26 +23,6 @@ fn steps_lead_to_the_neighbor_and_not_past_the_ends(rt: HostRuntime) {
 }
 
 #[test]
-fn sizes_out_of_range_make_no_world(rt: HostRuntime) {
-    for (sx, sz, s, is_size) in [
-        (0, 1, 1, false),
-        (9, 1, 1, false),
-        (1, 0, 1, false),
-        (1, 9, 1, false),
-        (1, 1, 0, false),
-        (1, 1, 3, false),
-        (1, 1, 1, true),
-        (8, 8, 2, true),
-    ] {
-        assert_eq!(rt;
-            Bounds::new(sx, sz, s).is_some(),
-            is_size,
-            "at {sx} {sz} {s}"
-        );
-    }
-}
-
-#[test]
 fn sectors_meet_at_a_border(rt: HostRuntime) -> Result<(), Fail> {
     let bounds = Bounds::new(2, 1, 1).ok_or("no bounds")?;
     assert_eq!(rt;

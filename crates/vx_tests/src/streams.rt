@@ -149,17 +149,6 @@ fn a_line_without_end_ends(rt: HostRuntime) {
 }
 
 #[test]
-fn a_script_may_come_in_pieces_of_any_size(rt: HostRuntime) {
-    let alloc = rt.alloc();
-    for piece in 1..GAME.len() {
-        let mut output = paper(alloc);
-        let got = play(alloc, &mut pieces(GAME, piece), &mut output);
-        assert_eq!(rt; got, Ok(()), "{piece}");
-        assert_eq!(rt; output.text.as_slice(), REPLIES.as_bytes(), "{piece}");
-    }
-}
-
-#[test]
 fn an_interrupted_read_is_made_again(rt: HostRuntime) {
     let alloc = rt.alloc();
     let mut input = pieces(GAME, 3);
@@ -223,18 +212,6 @@ fn a_failed_flush_is_told(rt: HostRuntime) {
         let got = play(alloc, &mut pieces(GAME, 64), &mut output);
         assert_eq!(rt; got, Err(Fault::WriteFailed), "at flush {failing}");
         is_beginning(&rt, &output);
-    }
-}
-
-#[test]
-fn a_writer_may_take_little_at_a_time(rt: HostRuntime) {
-    let alloc = rt.alloc();
-    for most in [1, 2, 7] {
-        let mut output = paper(alloc);
-        output.most = most;
-        let got = play(alloc, &mut pieces(GAME, 64), &mut output);
-        assert_eq!(rt; got, Ok(()), "{most}");
-        assert_eq!(rt; output.text.as_slice(), REPLIES.as_bytes(), "{most}");
     }
 }
 

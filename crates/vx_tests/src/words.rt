@@ -1,10 +1,10 @@
 //! Words that no script reads or writes, or not all of them.
 use std::process::Abort;
 use std::test::Fail;
-use vx_block::{Cell, Delay, Kind, Lamp, Level, Mount, Part, Repeater, Side};
+use vx_block::{Cell, Delay, Kind, Lamp, Level, Mount, Repeater, Side};
 use vx_board::{DeskError, Edited};
 use vx_decide::Rule;
-use vx_flag::{Action, Flag, Group, State};
+use vx_flag::Flag;
 use vx_geom::{BadShape, Dir};
 use vx_policy::{EditError, EditRefusal};
 use vx_region::{BadId, BadName, Id, Name, RegionNo};
@@ -29,51 +29,20 @@ fn each_fault_has_its_words_and_its_status(rt: HostRuntime) -> Result<(), Fail> 
 }
 
 #[test]
-fn each_refusal_has_its_number_and_words(rt: HostRuntime) -> Result<(), Fail> {
-    let denied = Refusal::Denied(Rule::Member { at: RegionNo(0) });
-    for (refusal, words) in [
-        (Refusal::OutOfWorld, "refused 1 out of world"),
-        (denied, "refused 2 member at 0"),
-        (Refusal::Occupied, "refused 3 occupied"),
-        (Refusal::Nothing, "refused 4 nothing"),
-        (Refusal::NotLever, "refused 5 not lever"),
-        (Refusal::NotChest, "refused 6 not chest"),
-        (Refusal::NotEmpty, "refused 7 not empty"),
-        (Refusal::Extended, "refused 8 extended"),
-        (Refusal::Unbreakable, "refused 9 unbreakable"),
-        (Refusal::NoSlot, "refused 10 no slot"),
-        (Refusal::OtherItem, "refused 11 other item"),
-        (Refusal::BadCount, "refused 12 bad count"),
-    ] {
-        assert_eq!(rt; format!(in rt.alloc(); "{refusal}")?.as_str(), words);
-    }
-    Ok(())
-}
-
-#[test]
-fn each_refusal_of_an_edit_has_its_number_and_words(rt: HostRuntime) -> Result<(), Fail> {
-    for (refusal, words) in [
-        (EditRefusal::BadId, "refused 20 bad id"),
-        (EditRefusal::Known, "refused 21 known"),
-        (EditRefusal::Unknown, "refused 22 unknown"),
-        (EditRefusal::HasChildren, "refused 23 has children"),
-        (EditRefusal::Cycle, "refused 24 cycle"),
-        (EditRefusal::BadShape, "refused 25 bad shape"),
-        (EditRefusal::BadName, "refused 26 bad name"),
-        (EditRefusal::GlobalHasNone, "refused 27 global has none"),
-        (EditRefusal::TooManyRegions, "refused 28 too many regions"),
-    ] {
-        let (error, desk) = (EditError::Refused(refusal), DeskError::Refused(refusal));
-        let line = format!(in rt.alloc(); "{refusal}, {error}, {desk}")?;
-        let want = format!(in rt.alloc(); "{words}, {words}, {words}")?;
-        assert_eq!(rt; line.as_str(), want.as_str());
-    }
-    let full = DeskError::HistoryFull;
-    let (error, desk) = (EditError::NoMemory, DeskError::NoMemory);
-    let line = format!(in rt.alloc(); "{full}, {error}, {desk}")?;
+fn refusals_that_no_script_meets_have_their_words(rt: HostRuntime) -> Result<(), Fail> {
+    let (extended, full) = (Refusal::Extended, DeskError::HistoryFull);
+    let (edit, desk) = (EditError::NoMemory, DeskError::NoMemory);
+    let line = format!(in rt.alloc(); "{extended}, {full}, {edit}, {desk}")?;
     assert_eq!(rt;
         line.as_str(),
-        "refused 13 history, refused 14 memory, refused 14 memory"
+        "refused 8 extended, refused 13 history, refused 14 memory, refused 14 memory"
+    );
+    let known = EditRefusal::Known;
+    let (edit, desk) = (EditError::Refused(known), DeskError::Refused(known));
+    let line = format!(in rt.alloc(); "{known}, {edit}, {desk}")?;
+    assert_eq!(rt;
+        line.as_str(),
+        "refused 21 known, refused 21 known, refused 21 known"
     );
     Ok(())
 }
@@ -118,42 +87,6 @@ fn ids_and_names_are_shown_in_lower_case(rt: HostRuntime) -> Result<(), Fail> {
         assert_eq!(rt; Name::read(text), Err(BadName), "at {text:?}");
     }
     Ok(())
-}
-
-#[test]
-fn words_of_the_policy_are_read_letter_for_letter(rt: HostRuntime) {
-    for (flag, text) in [
-        (Flag::Build, "build"),
-        (Flag::BlockBreak, "block-break"),
-        (Flag::BlockPlace, "block-place"),
-        (Flag::Usage, "use"),
-        (Flag::ChestAccess, "chest-access"),
-        (Flag::Passthrough, "passthrough"),
-        (Flag::Pistons, "pistons"),
-    ] {
-        assert_eq!(rt; (flag.text(), Flag::read(text)), (text, Some(flag)));
-    }
-    for (group, text) in [
-        (Group::All, "all"),
-        (Group::Members, "members"),
-        (Group::Owners, "owners"),
-        (Group::Nonmembers, "nonmembers"),
-        (Group::Nonowners, "nonowners"),
-    ] {
-        assert_eq!(rt; (group.text(), Group::read(text)), (text, Some(group)));
-    }
-    for (state, text) in [(State::Allow, "allow"), (State::Deny, "deny")] {
-        assert_eq!(rt; (state.text(), State::read(text)), (text, Some(state)));
-    }
-    for text in ["", "Build", "use ", " deny", "members owners"] {
-        assert_eq!(rt; Flag::read(text), None, "{text}");
-        assert_eq!(rt;
-            (Group::read(text), State::read(text)),
-            (None, None),
-            "{text}"
-        );
-    }
-    assert_eq!(rt; Action::Pushing.flag().text(), "pistons");
 }
 
 fn has_text(rt: &impl Abort, cell: &Cell, kind: Kind, text: &str) {
@@ -205,42 +138,4 @@ fn extended(facing: Dir, sticky: bool) -> Cell {
 
 fn head(facing: Dir, sticky: bool) -> Cell {
     Cell::Head { facing, sticky }
-}
-
-#[test]
-fn no_other_text_is_a_cell(rt: HostRuntime) {
-    for text in [
-        "",
-        "Stone",
-        "stone ",
-        "stone:on",
-        "stone\u{0}",
-        "air:0",
-        "dust",
-        "dust:05",
-        "dust:16",
-        "dust:-1",
-        "dust:+1",
-        "dust:1:0",
-        "torch:up:on",
-        "torch:down",
-        "torch:down:lit",
-        "lever:on",
-        "repeater:up:1:on:0",
-        "repeater:east:0:on:0",
-        "repeater:east:5:on:0",
-        "repeater:east:1:on:1",
-        "repeater:east:04:on:0",
-        "repeater:east:4:on:03",
-        "lamp",
-        "lamp:off:1",
-        "lamp:on:2",
-        "piston:east",
-        "piston:east:on",
-        "head:east",
-        "head:east:in",
-    ] {
-        assert_eq!(rt; Cell::read(text), None, "{text}");
-    }
-    assert_eq!(rt; (Kind::read("Stone"), Part::read("air")), (None, None));
 }

@@ -15,7 +15,8 @@ behind before None = None
 behind before (Some more) = Some (before ++ more)
 
 -- the edits that were added are those that are meant; the file is malformed only where none are
-abbrev pub Adds : {X : Type 0} → Result X Unread → List Edit → List Edit → Option (List Asked) → Type 0
+abbrev pub Adds : {X : Type 0} → Result X Unread → List Edit → List Edit → Option (List Asked)
+    → Type 0
 Adds (Ok x) old new meant = behind (map asked old) meant ≡ Some (map asked new)
 Adds (Err e) old new meant = e ≡ Faulty → meant ≡ None
 

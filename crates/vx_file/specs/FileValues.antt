@@ -79,7 +79,8 @@ columns_in d = do
 
 -- the cuboid whose two corners six numbers name
 unfoldable pub corners_of : List ℤ → Option Written
-corners_of (x ∷ y ∷ z ∷ to_x ∷ to_y ∷ to_z ∷ []) = Some (Corners (record { y = y; z = z; x = x }) (record { y = to_y; z = to_z; x = to_x }))
+corners_of (x ∷ y ∷ z ∷ to_x ∷ to_y ∷ to_z ∷ []) =
+    Some (Corners (record { y = y; z = z; x = x }) (record { y = to_y; z = to_z; x = to_x }))
 corners_of numbers = None
 
 -- the lowest and the highest y, which two numbers name
@@ -99,7 +100,8 @@ has_space text = nat_lt (position_or_len is_space text) (length text)
 unfoldable pub setting_of_text : List ℕ → Option Setting
 setting_of_text text =
     if has_space text
-    then state_of (before_first is_space text) >>= (λ state. group_of (after_first is_space text) >>= (λ group. Some (record { state = state; group = group })))
+    then state_of (before_first is_space text) >>= (λ state. group_of (after_first is_space text)
+    >>= (λ group. Some (record { state = state; group = group })))
     else state_of text >>= (λ state. Some (record { state = state; group = All }))
 
 -- what a value sets a flag to

@@ -44,12 +44,15 @@ shape_of cuboid polygon y = None
 
 -- the shape of a region
 unfoldable pub shape_in : Table → Option Written
-shape_in ms = shape_of (get_member (codes "cuboid") ms) (get_member (codes "polygon") ms) (get_member (codes "y") ms)
+shape_in ms =
+    shape_of (get_member (codes "cuboid") ms) (get_member (codes "polygon") ms)
+    (get_member (codes "y") ms)
 
 -- the keys that a region may have
 abbrev pub region_keys : List (List ℕ)
 region_keys =
-    codes "id" ∷ codes "cuboid" ∷ codes "polygon" ∷ codes "y" ∷ codes "priority" ∷ codes "parent" ∷ codes "owners" ∷ codes "members" ∷ codes "flags" ∷ []
+    codes "id" ∷ codes "cuboid" ∷ codes "polygon" ∷ codes "y" ∷ codes "priority" ∷ codes "parent"
+    ∷ codes "owners" ∷ codes "members" ∷ codes "flags" ∷ []
 
 -- the definition of a region, with its id and its shape
 unfoldable pub definition_in : Table → Option Asked
@@ -104,18 +107,21 @@ flags_at id d = do
 -- the priority and the parent of the region of that id
 unfoldable pub rank_in : List ℕ → Table → Option (List Asked)
 rank_in id ms =
-    joined (if_there (priority_in id) (get_member (codes "priority") ms) ∷ if_there (parent_in id) (get_member (codes "parent") ms) ∷ [])
+    joined (if_there (priority_in id) (get_member (codes "priority") ms)
+    ∷ if_there (parent_in id) (get_member (codes "parent") ms) ∷ [])
 
 -- its owners and its members
 unfoldable pub people_in : List ℕ → Table → Option (List Asked)
 people_in id ms =
-    joined (if_there (names_in Owner id) (get_member (codes "owners") ms) ∷ if_there (names_in Member id) (get_member (codes "members") ms) ∷ [])
+    joined (if_there (names_in Owner id) (get_member (codes "owners") ms)
+    ∷ if_there (names_in Member id) (get_member (codes "members") ms) ∷ [])
 
 -- what is said of a region beside its definition
 unfoldable pub changes_in : Table → Option (List Asked)
 changes_in ms = do
   id ← text_at (codes "id") ms
-  joined (rank_in id ms ∷ people_in id ms ∷ if_there (flags_at id) (get_member (codes "flags") ms) ∷ [])
+  joined (rank_in id ms ∷ people_in id ms
+      ∷ if_there (flags_at id) (get_member (codes "flags") ms) ∷ [])
 
 -- the definition in a value that is to be a region's table
 unfoldable pub definition_at : Data → Option (List Asked)
@@ -152,11 +158,15 @@ is_one d = false
 -- the regions of a document, then the flags of the world at large
 unfoldable pub contents_in : Table → Option (List Asked)
 contents_in ms =
-    joined (if_there regions_in (get_member (codes "region") ms) ∷ if_there (flags_at global_id) (get_member (codes "global") ms) ∷ [])
+    joined (if_there regions_in (get_member (codes "region") ms)
+    ∷ if_there (flags_at global_id) (get_member (codes "global") ms) ∷ [])
 
 -- the edits that a document of version 1 means
 unfoldable pub edits_in_table : Table → Option (List Asked)
-edits_in_table ms = if has_only file_keys ms && is_one (get_member (codes "version") ms) then contents_in ms else None
+edits_in_table ms =
+    if has_only file_keys ms && is_one (get_member (codes "version") ms)
+    then contents_in ms
+    else None
 
 -- how many bytes a regions file may have
 abbrev pub most_bytes : ℕ
@@ -164,7 +174,8 @@ most_bytes = 1048576
 
 -- the edits that the bytes of a regions file mean
 unfoldable pub edits_in : List ℕ → Option (List Asked)
-edits_in bytes = if nat_le (length bytes) most_bytes then parse_document bytes >>= edits_in_table else None
+edits_in bytes =
+    if nat_le (length bytes) most_bytes then parse_document bytes >>= edits_in_table else None
 
 -- the bytes are text, and a regions file that means these edits
 abbrev pub FileSays : List ℕ → List Asked → Type 0

@@ -50,7 +50,8 @@ fn contents(alloc: Global, table: &Table, edits: &mut Vec<Edit>) -> Result<(), U
 
 #[tactic(auto, unfolding(crate::specs::RegionsFile::regions_in), using(crate::proofs::FileLists::data_of_view))]
 fn regions(alloc: Global, value: Option<&Value>, edits: &mut Vec<Edit>) -> Result<(), Unread>
-    ensures { Adds result edits.old.items edits.new.items (if_there regions_in (option_map (λ v. view v.now) value.entry)) }
+    ensures { Adds result edits.old.items edits.new.items
+        (if_there regions_in (option_map (λ v. view v.now) value.entry)) }
 {
     let Some(value) = value else {
         return Ok(());
@@ -61,7 +62,8 @@ fn regions(alloc: Global, value: Option<&Value>, edits: &mut Vec<Edit>) -> Resul
     each_region(alloc, values, edits)
 }
 
-// All regions are defined before anything else is said of them, so a parent may stand after its child.
+// All regions are defined before anything else is said of them, so a parent may stand after its
+// child.
 #[tactic(auto, unfolding(crate::specs::RegionsFile::regions_of))]
 fn each_region(alloc: Global, values: &[Value], edits: &mut Vec<Edit>) -> Result<(), Unread>
     ensures { Adds result edits.old.items edits.new.items (regions_of (map view values.now)) }
@@ -71,7 +73,8 @@ fn each_region(alloc: Global, values: &[Value], edits: &mut Vec<Edit>) -> Result
 }
 
 fn each_definition(alloc: Global, values: &[Value], edits: &mut Vec<Edit>) -> Result<(), Unread>
-    ensures { Adds result edits.old.items edits.new.items (in_turn definition_at (map view values.now)) }
+    ensures { Adds result edits.old.items edits.new.items
+        (in_turn definition_at (map view values.now)) }
 {
     for value in values {
         definition(alloc, value, edits)?;
@@ -80,7 +83,8 @@ fn each_definition(alloc: Global, values: &[Value], edits: &mut Vec<Edit>) -> Re
 }
 
 fn each_change(alloc: Global, values: &[Value], edits: &mut Vec<Edit>) -> Result<(), Unread>
-    ensures { Adds result edits.old.items edits.new.items (in_turn changes_at (map view values.now)) }
+    ensures { Adds result edits.old.items edits.new.items
+        (in_turn changes_at (map view values.now)) }
 {
     for value in values {
         changes(alloc, value, edits)?;

@@ -25,7 +25,8 @@ pub fn flags(
     value: Option<&Value>,
     edits: &mut Vec<Edit>,
 ) -> Result<(), Unread>
-    ensures { Adds result edits.old.items edits.new.items (if_there (flags_at id.now) (option_map (λ v. view v.now) value.entry)) }
+    ensures { Adds result edits.old.items edits.new.items
+        (if_there (flags_at id.now) (option_map (λ v. view v.now) value.entry)) }
 {
     let Some(value) = value else {
         return Ok(());
@@ -54,7 +55,8 @@ fn each_flag(
     edits: &mut Vec<Edit>,
 ) -> Result<(), Unread>
     ensures { Adds result edits.old.items edits.new.items
-        (joined (map (λ flag. if_there (flag_in id.now flag) (get_member (flag_text flag) (table_view table.now))) flags.now)) }
+        (joined (map (λ flag. if_there (flag_in id.now flag)
+        (get_member (flag_text flag) (table_view table.now))) flags.now)) }
 {
     for flag in flags {
         one_flag(alloc, id, *flag, value_at(table, flag.text()), edits)?;
@@ -70,7 +72,8 @@ fn one_flag(
     value: Option<&Value>,
     edits: &mut Vec<Edit>,
 ) -> Result<(), Unread>
-    ensures { Adds result edits.old.items edits.new.items (if_there (flag_in id.now flag) (option_map (λ v. view v.now) value.entry)) }
+    ensures { Adds result edits.old.items edits.new.items
+        (if_there (flag_in id.now flag) (option_map (λ v. view v.now) value.entry)) }
 {
     let Some(value) = value else {
         return Ok(());

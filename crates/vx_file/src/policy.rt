@@ -19,8 +19,8 @@ use vx_policy::{Edit, Policy};
 /// How many bytes a regions file may have.
 const MAX_BYTES: usize = 1_048_576;
 
-/// The policy that a regions file describes: the edits that it means, applied to the policy without regions. It is faulty
-/// where it means no edits, or one of them is refused.
+/// The policy that a regions file describes: the edits that it means, applied to the policy without
+/// regions. It is faulty where it means no edits, or one of them is refused.
 pub fn read_policy(alloc: Global, bytes: &[u8]) -> Result<Policy, Unread>
     ensures ok { IfOk result (λ policy. (edits : List Asked) × FileSays bytes.now edits
         × AreAccepted no_regions edits × (policy ≡ after no_regions edits)) }
@@ -35,8 +35,10 @@ pub fn read_policy(alloc: Global, bytes: &[u8]) -> Result<Policy, Unread>
 
 fn policy_of(alloc: Global, bytes: &[u8]) -> Result<Policy, Unread>
     ensures text { IfOk result (λ _. IsUtf8 bytes.now) }
-    ensures ok { IfOk result (λ policy. option_and_then (applied no_regions) (edits_in bytes.now) ≡ Some policy) }
-    ensures refused { result ≡ Err Unread.Faulty → IsUtf8 bytes.now → option_and_then (applied no_regions) (edits_in bytes.now) ≡ None }
+    ensures ok { IfOk result (λ policy.
+        option_and_then (applied no_regions) (edits_in bytes.now) ≡ Some policy) }
+    ensures refused { result ≡ Err Unread.Faulty → IsUtf8 bytes.now
+        → option_and_then (applied no_regions) (edits_in bytes.now) ≡ None }
 {
     let edits = edits_of(alloc, bytes)?;
     apply(alloc, edits)
@@ -56,7 +58,8 @@ fn edits_of(alloc: Global, bytes: &[u8]) -> Result<Vec<Edit>, Unread>
 #[tactic(auto, unfolding(crate::specs::RegionsFile::edits_in))]
 fn read(alloc: Global, bytes: &[u8], edits: &mut Vec<Edit>) -> Result<(), Unread>
     ensures text { IfOk result (λ _. IsUtf8 bytes.now) }
-    ensures ok { OnOk result (behind (map asked edits.old.items) (edits_in bytes.now) ≡ Some (map asked edits.new.items)) }
+    ensures ok { OnOk result (behind (map asked edits.old.items) (edits_in bytes.now)
+        ≡ Some (map asked edits.new.items)) }
     ensures refused { result ≡ Err Unread.Faulty → IsUtf8 bytes.now → edits_in bytes.now ≡ None }
 {
     if MAX_BYTES < bytes.len() {
@@ -70,7 +73,8 @@ fn read(alloc: Global, bytes: &[u8], edits: &mut Vec<Edit>) -> Result<(), Unread
 fn table_of(alloc: Global, bytes: &[u8]) -> Result<Table, Unread>
     ensures text { IfOk result (λ _. IsUtf8 bytes.now) }
     ensures ok { IfOk result (λ table. parse_document bytes.now ≡ Some (table_view table)) }
-    ensures refused { result ≡ Err Unread.Faulty → IsUtf8 bytes.now → parse_document bytes.now ≡ None }
+    ensures refused { result ≡ Err Unread.Faulty → IsUtf8 bytes.now
+        → parse_document bytes.now ≡ None }
 {
     match toml::table_from_slice(alloc, bytes) {
         Ok(table) => Ok(table),

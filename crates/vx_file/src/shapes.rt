@@ -32,7 +32,8 @@ fn shape_of(
     y: Option<&Value>,
 ) -> Result<ShapeSpec, Unread>
     ensures { Gives written result
-        (shape_of (option_map (λ v. view v.now) cuboid.entry) (option_map (λ v. view v.now) polygon.entry) (option_map (λ v. view v.now) y.entry)) }
+        (shape_of (option_map (λ v. view v.now) cuboid.entry)
+        (option_map (λ v. view v.now) polygon.entry) (option_map (λ v. view v.now) y.entry)) }
 {
     match (cuboid, polygon, y) {
         (Some(corners), None, None) => cuboid_of(&numbers(alloc, corners)?),

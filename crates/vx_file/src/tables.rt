@@ -82,7 +82,8 @@ fn rank(alloc: Global, id: &str, table: &Table, edits: &mut Vec<Edit>) -> Result
 
 #[tactic(auto, unfolding(crate::specs::RegionsFile::people_in))]
 fn people(alloc: Global, id: &str, table: &Table, edits: &mut Vec<Edit>) -> Result<(), Unread>
-    ensures { Adds result edits.old.items edits.new.items (people_in id.now (table_view table.now)) }
+    ensures { Adds result edits.old.items edits.new.items
+        (people_in id.now (table_view table.now)) }
 {
     names(alloc, Role::Owner, id, value_at(table, "owners"), edits)?;
     names(alloc, Role::Member, id, value_at(table, "members"), edits)
@@ -95,7 +96,8 @@ fn priority(
     value: Option<&Value>,
     edits: &mut Vec<Edit>,
 ) -> Result<(), Unread>
-    ensures { Adds result edits.old.items edits.new.items (if_there (priority_in id.now) (option_map (λ v. view v.now) value.entry)) }
+    ensures { Adds result edits.old.items edits.new.items
+        (if_there (priority_in id.now) (option_map (λ v. view v.now) value.entry)) }
 {
     let Some(value) = value else {
         return Ok(());
@@ -114,7 +116,8 @@ fn parent(
     value: Option<&Value>,
     edits: &mut Vec<Edit>,
 ) -> Result<(), Unread>
-    ensures { Adds result edits.old.items edits.new.items (if_there (parent_in id.now) (option_map (λ v. view v.now) value.entry)) }
+    ensures { Adds result edits.old.items edits.new.items
+        (if_there (parent_in id.now) (option_map (λ v. view v.now) value.entry)) }
 {
     let Some(value) = value else {
         return Ok(());
@@ -135,7 +138,8 @@ fn names(
     value: Option<&Value>,
     edits: &mut Vec<Edit>,
 ) -> Result<(), Unread>
-    ensures { Adds result edits.old.items edits.new.items (if_there (names_in role id.now) (option_map (λ v. view v.now) value.entry)) }
+    ensures { Adds result edits.old.items edits.new.items
+        (if_there (names_in role id.now) (option_map (λ v. view v.now) value.entry)) }
 {
     let Some(value) = value else {
         return Ok(());
@@ -153,7 +157,8 @@ fn each_name(
     values: &[Value],
     edits: &mut Vec<Edit>,
 ) -> Result<(), Unread>
-    ensures { Adds result edits.old.items edits.new.items (in_turn (name_in role id.now) (map view values.now)) }
+    ensures { Adds result edits.old.items edits.new.items
+        (in_turn (name_in role id.now) (map view values.now)) }
 {
     for value in values {
         name(alloc, role, id, value, edits)?;

@@ -5,11 +5,15 @@ use Rattle.vx_base.specs.Ranges.{within}
 
 -- the value of a text of decimal digits
 abbrev pub digits_of : List ℕ → Option ℕ
-digits_of text = if not (length text == 0) && all_ascii_digits text then Some (digits_value 10 text) else None
+digits_of text =
+    if not (length text == 0) && all_ascii_digits text then Some (digits_value 10 text) else None
 
 -- the whole number that a text spells: decimal digits, with a `-` before them for one below zero
 unfoldable pub number_of : List ℕ → Option ℤ
-number_of text = if slice_index text 0 == 45 then option_map (λ n. neg_ℤ (pos n)) (digits_of (drop 1 text)) else option_map pos (digits_of text)
+number_of text =
+    if slice_index text 0 == 45
+    then option_map (λ n. neg_ℤ (pos n)) (digits_of (drop 1 text))
+    else option_map pos (digits_of text)
 
 -- a number of 32 bits with a sign
 unfoldable pub i32_of : List ℕ → Option ℤ

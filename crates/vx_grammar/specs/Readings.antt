@@ -10,7 +10,8 @@ use Rattle.vx_grammar.specs.Numbers.{i32_of, u8_of, u16_of}
 abbrev pub Rest : Type 0
 Rest = List (List ℕ)
 
--- what a function read from the words, which are now new, is what reading gives: a value and the words after it
+-- what a function read from the words, which are now new, is what reading gives: a value and the
+-- words after it
 abbrev pub Reads : {X : Type 0} → Option X → Rest → Option (X × Rest) → Type 0
 Reads None new read = read ≡ None
 Reads (Some x) new read = read ≡ Some (x, new)

@@ -14,7 +14,8 @@ use Rattle.vx_base.specs.Then.{◌>>=◌}
 use Rattle.vx_grammar.specs.declared.line.Line.{Line}
 use Rattle.vx_grammar.specs.declared.line.Line.TheVariants as line
 
--- what a line says: nothing, the size of the world, a player, a cell of the opening, a player's command, an edit, or a tick
+-- what a line says: nothing, the size of the world, a player, a cell of the opening, a player's
+-- command, an edit, or a tick
 pub data Said : Type 0 where
   Nothing : Said
   World : Sizes → Said
@@ -36,7 +37,10 @@ said line.Tick = Tick
 
 -- the sizes of a world: 1 to 8 sectors each way, of 1 or 2 chunks each way
 abbrev pub sizes_of : ℕ → ℕ → ℕ → Option Sizes
-sizes_of sx sz s = if (is_amid 1 sx 8 && is_amid 1 sz 8) && is_amid 1 s 2 then Some (record { sx = sx; sz = sz; s = s }) else None
+sizes_of sx sz s =
+    if (is_amid 1 sx 8 && is_amid 1 sz 8) && is_amid 1 s 2
+    then Some (record { sx = sx; sz = sz; s = s })
+    else None
 
 -- `world SX SZ S`
 unfoldable pub world_line : Rest → Option Said
@@ -170,4 +174,7 @@ is_comment (b ∷ bs) = b == 35
 
 -- what a line says; none where it is none of the lines of a script
 unfoldable pub line_of : List ℕ → Option Said
-line_of text = if not (list_all is_printable text) then None else if is_comment text then Some Nothing else line_in (words_of text)
+line_of text =
+    if not (list_all is_printable text) then None
+    else if is_comment text then Some Nothing
+    else line_in (words_of text)

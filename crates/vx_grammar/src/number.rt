@@ -1,7 +1,8 @@
 ghost use Rattle.std.specs.Prelude.{◌≡◌};
 ghost use Rattle.vx_grammar.specs.Numbers.{i32_of, u8_of, u16_of};
 
-/// The number of 32 bits that a word spells: decimal digits, leading zeros among them, with an optional `-`.
+/// The number of 32 bits that a word spells: decimal digits, leading zeros among them, with an
+/// optional `-`.
 pub fn read_i32(word: &str) -> Option<i32>
     ensures { result ≡ i32_of word.now }
 {

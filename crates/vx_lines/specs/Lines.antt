@@ -27,4 +27,5 @@ TakesLine (Some bytes) (Some rest) line = lines_of bytes ≡ line ∷ lines_of r
 
 -- the next line is longer than it may be
 abbrev pub IsNextLong : ℕ → List ℕ → Type 0
-IsNextLong most bytes = (line : List ℕ) × (rest : List (List ℕ)) × (lines_of bytes ≡ line ∷ rest) × (most < length line)
+IsNextLong most bytes =
+    (line : List ℕ) × (rest : List (List ℕ)) × (lines_of bytes ≡ line ∷ rest) × (most < length line)

@@ -1,7 +1,7 @@
 use Rattle.std.specs.Prelude.{ℕ, List, [], ◌++◌}
 
--- how far a script was read: the front of a line that has not ended, the bytes behind it, the last whole line, how many lines were
--- taken, and how many bytes were read
+-- how far a script was read: the front of a line that has not ended, the bytes behind it, the last
+-- whole line, how many lines were taken, and how many bytes were read
 pub record Reading : Type 0 where
   pub front : List ℕ
   pub rest : List ℕ

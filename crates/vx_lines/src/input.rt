@@ -56,7 +56,8 @@ impl Input {
         })
     }
 
-    /// Reads on, once all that was read is taken. `Ok(false)` at the end of the script. An interrupted read is made again.
+    /// Reads on, once all that was read is taken. `Ok(false)` at the end of the script. An
+    /// interrupted read is made again.
     pub fn fill<R: Read>(&mut self, reader: &mut R) -> Result<bool, ReadFailed>
         requires { self.old.rest ≡ [] }
         ensures read { OnOk result
@@ -79,11 +80,13 @@ impl Input {
         Ok(count != 0)
     }
 
-    /// Moves the bytes up to the next line feed to the end of the line and drops the feed; all of them, and `Ok(false)`,
-    /// where no line feed was read yet. Want of memory leaves both as they were.
+    /// Moves the bytes up to the next line feed to the end of the line and drops the feed; all of
+    /// them, and `Ok(false)`, where no line feed was read yet. Want of memory leaves both as they
+    /// were.
     pub fn take_line(&mut self, line: &mut Vec<u8>) -> Result<bool, AllocError>
         ensures ok { IfOk result (λ found. (piece : List ℕ)
-            × TakesPiece found self.old.rest piece self.new.rest × (line.new.items ≡ line.old.items ++ piece)) }
+            × TakesPiece found self.old.rest piece self.new.rest
+            × (line.new.items ≡ line.old.items ++ piece)) }
         ensures bytes { self.new.bytes ≡ self.old.bytes }
         ensures err { OnErr result ((self.new ≡ self.old) × (line.new.items ≡ line.old.items)) }
     {
@@ -110,7 +113,8 @@ fn feed_in(bytes: &[u8]) -> Option<usize>
     bytes.iter().position(|b| *b == b'\n')
 }
 
-// Reads once into the front of the buffer, and again where a read was interrupted, as long as reads are left.
+// Reads once into the front of the buffer, and again where a read was interrupted, as long as reads
+// are left.
 fn read_some<R: Read>(
     reader: &mut R,
     buffer: &mut [u8],
@@ -120,7 +124,8 @@ fn read_some<R: Read>(
     requires some { 0 < room }
     requires within { room ≤ length buffer.old }
     ensures count { IfOk result (λ n. n ≤ room) }
-    ensures bytes { IfOk result (λ n. Consumes (R.remaining reader.old) (R.remaining reader.new) (take n buffer.new)) }
+    ensures bytes { IfOk result (λ n.
+        Consumes (R.remaining reader.old) (R.remaining reader.new) (take n buffer.new)) }
     ensures end { IfOk result (λ n. n ≡ 0 → IsAtEnd (R.remaining reader.new)) }
 {
     while *reads < MAX_READS {

@@ -1,4 +1,5 @@
-//! The lines of a script, cut from the bytes of a reader. Nothing is known here of what a line means, and nothing is written.
+//! The lines of a script, cut from the bytes of a reader. Nothing is known here of what a line
+//! means, and nothing is written.
 #![tactic(auto)]
 
 mod input;

@@ -76,11 +76,12 @@ impl Lines {
         self.number
     }
 
-    /// Takes the next line. `Ok(false)` where its end was not read yet: then all that was read is taken, and [`Lines::fill`]
-    /// reads on. After an error nothing is said of the lines.
+    /// Takes the next line. `Ok(false)` where its end was not read yet: then all that was read is
+    /// taken, and [`Lines::fill`] reads on. After an error nothing is said of the lines.
     pub fn take(&mut self) -> Result<bool, LineError>
         ensures line { result ≡ Ok true → (more : List ℕ)
-            → lines_of (pending self.old ++ more) ≡ self.new.line ∷ lines_of (pending self.new ++ more) }
+            → lines_of (pending self.old ++ more)
+            ≡ self.new.line ∷ lines_of (pending self.new ++ more) }
         ensures number { result ≡ Ok true → self.new.number ≡ self.old.number + 1 }
         ensures wanting { result ≡ Ok false → (pending self.new ≡ pending self.old)
             × (self.new.rest ≡ []) × (self.new.number ≡ self.old.number) }
@@ -101,10 +102,12 @@ impl Lines {
         Ok(found)
     }
 
-    /// Reads on, once all that was read is taken. `Ok(false)` at the end of the script. After an error nothing is said of the lines.
+    /// Reads on, once all that was read is taken. `Ok(false)` at the end of the script. After an
+    /// error nothing is said of the lines.
     pub fn fill<R: Read>(&mut self, reader: &mut R) -> Result<bool, ReadFailed>
         requires { self.old.rest ≡ [] }
-        ensures read { OnOk result ((bytes : List ℕ) × Consumes (R.remaining reader.old) (R.remaining reader.new) bytes
+        ensures read { OnOk result ((bytes : List ℕ)
+            × Consumes (R.remaining reader.old) (R.remaining reader.new) bytes
             × (pending self.new ≡ pending self.old ++ bytes)) }
         ensures number { self.new.number ≡ self.old.number }
         ensures end { result ≡ Ok false → (self.new.rest ≡ []) × IsAtEnd (R.remaining reader.new) }
@@ -112,12 +115,14 @@ impl Lines {
         self.input.fill(reader)
     }
 
-    /// At the end of the script: whether a last line without a line feed was read, which is then taken.
+    /// At the end of the script: whether a last line without a line feed was read, which is then
+    /// taken.
     pub fn finish(&mut self) -> bool
         requires { self.old.rest ≡ [] }
         ensures line { result ≡ true → (lines_of (pending self.old) ≡ self.new.line ∷ [])
             × (self.new.number ≡ self.old.number + 1) }
-        ensures end { result ≡ false → (pending self.old ≡ []) × (self.new.number ≡ self.old.number) }
+        ensures end { result ≡ false
+            → (pending self.old ≡ []) × (self.new.number ≡ self.old.number) }
         ensures within { self.new.number ≤ MAX_SCRIPT_BYTES }
         ensures all { result ≡ true → pending self.new ≡ [] }
     {

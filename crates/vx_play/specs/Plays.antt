@@ -15,8 +15,8 @@ use Rattle.vx_sector.specs.declared.refusal.Refusal.{Refusal}
 use Rattle.vx_sector.specs.declared.refusal.Refusal.TheVariants.{OutOfWorld}
 use Rattle.vx_play.specs.Grounds.{GroundData, AreSectors}
 
--- a world at play: its size and its sectors, its players' names in order of their seats, the policy that it opened with, the edits
--- accepted since, and how many ticks there were
+-- a world at play: its size and its sectors, its players' names in order of their seats, the policy
+-- that it opened with, the edits accepted since, and how many ticks there were
 pub record PlayData : Type 0 where
   pub sizes : Sizes
   pub sectors : List SectorData

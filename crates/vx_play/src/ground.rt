@@ -36,7 +36,8 @@ impl Ground {
         })
     }
 
-    /// Sets a part at a position, in place of what was set there before. `Ok(false)` outside the world.
+    /// Sets a part at a position, in place of what was set there before. `Ok(false)` outside the
+    /// world.
     #[tactic(auto, unfolding(crate::specs::Grounds::with_part))]
     pub fn set(&mut self, p: Pos, part: Part) -> Result<bool, AllocError>
         ensures set { result ≡ Ok true → with_part self.old p part ≡ Some self.new }

@@ -1,5 +1,5 @@
-//! The world at play on one thread: its sectors in their places, its players, and the desk of its policy. It knows no script and
-//! no writer.
+//! The world at play on one thread: its sectors in their places, its players, and the desk of its
+//! policy. It knows no script and no writer.
 #![tactic(auto)]
 
 mod ground;

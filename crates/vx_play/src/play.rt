@@ -19,7 +19,8 @@ pub const MAX_PLAYERS: usize = 16;
 /// How many ticks a world may have.
 const MAX_TICKS: u64 = 1_099_511_627_776;
 
-/// A world at play: its sectors in their places, its players in order of their seats, and the desk where its policy is edited.
+/// A world at play: its sectors in their places, its players in order of their seats, and the desk
+/// where its policy is edited.
 #[derive(Drop)]
 pub struct Play<J: Naming> {
     bounds: Bounds,
@@ -96,7 +97,8 @@ impl<J: Naming> Play<J> {
         })
     }
 
-    /// Carries out a command in the sector of its position, by the rules of docs/RULES.md; refused where it is outside the world.
+    /// Carries out a command in the sector of its position, by the rules of docs/RULES.md; refused
+    /// where it is outside the world.
     #[tactic(auto, unfolding(crate::specs::Plays::answered, crate::specs::Plays::sector_asked))]
     pub fn act(&mut self, seat: Seat, cmd: Cmd) -> Result<Reply, Refusal>
         ensures answer { (result ≡ (answered self.old (seat_of seat) cmd).0)
@@ -113,9 +115,11 @@ impl<J: Naming> Play<J> {
         sector.act(seat, cmd)
     }
 
-    /// Accepts an edit, which counts from the next tick on, or refuses it. A refusal, for want of memory too, leaves all as it was.
+    /// Accepts an edit, which counts from the next tick on, or refuses it. A refusal, for want of
+    /// memory too, leaves all as it was.
     pub fn edit(&mut self, alloc: Global, edit: Edit) -> Result<Edited, DeskError>
-        ensures answer { IsAnswer (policy_of self.old) (length self.old.accepted) (asked edit) result }
+        ensures answer {
+            IsAnswer (policy_of self.old) (length self.old.accepted) (asked edit) result }
         ensures ok { OnOk result
             (self.new ≡ record self.old { accepted = self.old.accepted ++ asked edit ∷ [] }) }
         ensures err { OnErr result (self.new ≡ self.old) }
@@ -123,8 +127,9 @@ impl<J: Naming> Play<J> {
         self.desk.apply(alloc, edit)
     }
 
-    /// Begins the next window of each sector, by the policy after the edits so far, and answers how many ticks there were. For want
-    /// of memory some sectors may be in their next window, and others not.
+    /// Begins the next window of each sector, by the policy after the edits so far, and answers how
+    /// many ticks there were. For want of memory some sectors may be in their next window, and
+    /// others not.
     pub fn tick(&mut self, alloc: Global) -> Result<u64, TickError>
         ensures ok { OnOk result (self.new ≡ ticked self.old) }
         ensures count { IfOk result (λ ticks. ticks ≡ self.new.ticks) }

@@ -32,7 +32,8 @@ abbrev pub Tells : {X : Type 0} → Option (List ℕ) → Option (List ℕ) → 
 Tells old new result told = OnOk result (Appends old new told.text × (told.fault ≡ None))
 
 -- a call that answered a fault of the script's own wrote what is told, and that fault is told
-abbrev pub Faults : {X : Type 0} → Option (List ℕ) → Option (List ℕ) → Result X Fault → Told → Type 0
+abbrev pub Faults : {X : Type 0} → Option (List ℕ) → Option (List ℕ) → Result X Fault → Told
+    → Type 0
 Faults old new result told = (fault : Fault) → result ≡ Err fault → IsOwn fault
     → Appends old new told.text × (told.fault ≡ Some fault)
 
@@ -42,7 +43,8 @@ abbrev pub Replies : {X S : Type 0} → Option (List ℕ) → Option (List ℕ) 
 Replies {S = S} old new result step state = OnOk result ((text : List ℕ) × Appends old new text
     × ((go : S → Told) → step go ≡ prepend text (go state)))
 
--- a step that answered a fault of the script's own wrote nothing, and the run ends there by that fault
+-- a step that answered a fault of the script's own wrote nothing, and the run ends there by that
+-- fault
 abbrev pub Stops : {X S : Type 0} → Option (List ℕ) → Option (List ℕ) → Result X Fault
     → ((S → Told) → Told) → Type 0
 Stops {S = S} old new result step = (fault : Fault) → result ≡ Err fault → IsOwn fault

@@ -57,7 +57,8 @@ with_player o name =
 -- a cell is set after the size was said, inside the world
 unfoldable pub with_cell_set : Opening → Pos → Part → Option Opening
 with_cell_set o p part =
-    option_map (λ g. record o { ground = Some g }) (option_and_then (λ g. with_part g p part) o.ground)
+    option_map (λ g. record o { ground = Some g })
+    (option_and_then (λ g. with_part g p part) o.ground)
 
 -- the opening after a line of the header; none where the line may not stand there
 unfoldable pub header_after : Opening → Said → Option Opening
@@ -73,7 +74,9 @@ header_after o Tick = None
 abbrev pub begun_on : Regions → Opening → ℕ → (PlayData → Told) → Option GroundData → Told
 begun_on rs o n body None = faulted (Syntax n)
 begun_on rs o n body (Some ground) =
-    if nat_lt most_players (length o.names) then faulted TooManyPlayers else body (opened rs ground o.names)
+    if nat_lt most_players (length o.names)
+    then faulted TooManyPlayers
+    else body (opened rs ground o.names)
 
 unfoldable pub begun : Regions → Opening → ℕ → (PlayData → Told) → Told
 begun rs o n body = begun_on rs o n body o.ground
@@ -103,7 +106,8 @@ is_history (Err refused.HistoryFull) = true
 is_history _ = false
 
 -- what is told for an answer, the sectors being these after it, and then the rest
-abbrev pub answer_told : PlayData → (PlayData → Told) → Result Reply Refusal × List SectorData → Told
+abbrev pub answer_told : PlayData → (PlayData → Told) → Result Reply Refusal × List SectorData
+    → Told
 answer_told play go a =
     if is_history a.0
     then faulted HistoryFull
@@ -137,7 +141,8 @@ tick_told play go =
 -- what is told for a line of the body, and then the rest
 unfoldable pub body_told : PlayData → ℕ → Option Said → (PlayData → Told) → Told
 body_told play n (Some Nothing) go = go play
-body_told play n (Some (Act name cmd)) go = or_syntax n (seat_named play name) (command_told play cmd go)
+body_told play n (Some (Act name cmd)) go =
+    or_syntax n (seat_named play name) (command_told play cmd go)
 body_told play n (Some (Region e)) go = edit_told play e go
 body_told play n (Some Tick) go = tick_told play go
 body_told play n (Some (World sizes)) go = faulted (Syntax n)
@@ -148,7 +153,8 @@ body_told play n None go = faulted (Syntax n)
 -- what is told for the lines of the body, the first of which has number n
 abbrev pub body_run : PlayData → ℕ → List (List ℕ) → Told
 body_run play n [] = only (done_text play)
-body_run play n (line ∷ lines) = body_told play n (read_of line) (λ next. body_run next (n + 1) lines)
+body_run play n (line ∷ lines) =
+    body_told play n (read_of line) (λ next. body_run next (n + 1) lines)
 
 -- there is a world with a player in it
 abbrev pub is_peopled : Opening → Bool
@@ -158,7 +164,8 @@ is_peopled o = is_some o.ground && not (length o.names == 0)
 abbrev pub first_line : Regions → Opening → ℕ → Bool → (PlayData → Told) → Told
 first_line rs o n may_stand body = if may_stand then begun rs o n body else faulted (Syntax n)
 
--- what is told for a line of the header, and then the rest; a command needs its player, another line of the body any
+-- what is told for a line of the header, and then the rest; a command needs its player, another
+-- line of the body any
 unfoldable pub header_told : Regions → Opening → ℕ → Option Said → (Opening → Told)
     → (PlayData → Told) → Told
 header_told rs o n (Some (Act name cmd)) go body = first_line rs o n (is_named o.names name) body
@@ -181,7 +188,8 @@ header_run rs o n (line ∷ lines) =
     header_told rs o n (read_of line)
     (λ next. header_run rs next (n + 1) lines) (λ play. body_run play n (line ∷ lines))
 
--- what is told from the first line of the body on, which stands at line n with these lines behind it
+-- what is told from the first line of the body on, which stands at line n with these lines behind
+-- it
 abbrev pub run_from : Regions → Opening → ℕ → Said → List (List ℕ) → Told
 run_from rs o n first lines =
     begun rs o n (λ play. body_told play n (Some first) (λ next. body_run next (n + 1) lines))

@@ -49,9 +49,11 @@ fn command<J: Naming, W: Write>(
     writer: &mut W,
 ) -> Result<(), Fault>
     ensures ok { Replies (W.contents writer.old) (W.contents writer.new) result
-        (λ go. or_syntax number (seat_named play.old name.now.text.bytes) (command_told play.old cmd go)) play.new }
+        (λ go. or_syntax number (seat_named play.old name.now.text.bytes)
+        (command_told play.old cmd go)) play.new }
     ensures err { Stops (W.contents writer.old) (W.contents writer.new) result
-        (λ go. or_syntax number (seat_named play.old name.now.text.bytes) (command_told play.old cmd go)) }
+        (λ go. or_syntax number (seat_named play.old name.now.text.bytes)
+        (command_told play.old cmd go)) }
 {
     let Some(seat) = play.seat(name) else {
         return Err(Fault::Syntax(number));
@@ -96,7 +98,8 @@ fn tick<J: Naming, W: Write>(
 ) -> Result<(), Fault>
     ensures ok { Replies (W.contents writer.old) (W.contents writer.new) result
         (tick_told play.old) play.new }
-    ensures err { Stops (W.contents writer.old) (W.contents writer.new) result (tick_told play.old) }
+    ensures err { Stops (W.contents writer.old) (W.contents writer.new) result
+        (tick_told play.old) }
 {
     match play.tick(alloc) {
         Ok(tick) => writeln!(writer, "tick {tick}").map_err(|_| Fault::WriteFailed),
@@ -107,7 +110,8 @@ fn tick<J: Naming, W: Write>(
 
 /// Writes the last line.
 pub fn finish<J: Naming, W: Write>(play: &Play<J>, writer: &mut W) -> Result<(), Fault>
-    ensures ok { OnOk result (Appends (W.contents writer.old) (W.contents writer.new) (done_text play.now)) }
+    ensures ok { OnOk result
+        (Appends (W.contents writer.old) (W.contents writer.new) (done_text play.now)) }
     ensures err { IfErr result (λ fault. fault ≡ Fault.WriteFailed) }
 {
     let ticks = play.ticks();

@@ -5,7 +5,8 @@ use std::alloc::AllocError;
 use thiserror::Error;
 use vx_lines::ReadFailed;
 
-/// Why a run ended before its script did. docs/FORMATS.md has the table of numbers, words and statuses.
+/// Why a run ended before its script did. docs/FORMATS.md has the table of numbers, words and
+/// statuses.
 #[derive(Clone, Copy, Debug, PartialEq, Eq, Error)]
 pub enum Fault {
     /// A record is as long as it may be.

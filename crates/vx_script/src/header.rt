@@ -45,8 +45,8 @@ impl Header {
         }
     }
 
-    /// Takes the next line of a script in its header. Answers the line where it is one of the body that may stand there; then the
-    /// world is to be made.
+    /// Takes the next line of a script in its header. Answers the line where it is one of the body
+    /// that may stand there; then the world is to be made.
     #[tactic(auto, unfolding(crate::specs::Transcript::header_told))]
     pub fn take_line(
         &mut self,
@@ -60,7 +60,8 @@ impl Header {
         ensures first { IfOk result (λ first. IfSome first (λ command. (self.new ≡ self.old)
             × (option_map said line ≡ Some (said command))
             × ((rs : Regions) (go : Opening → Told) (body : PlayData → Told)
-            → header_told rs self.old number (option_map said line) go body ≡ begun rs self.old number body))) }
+            → header_told rs self.old number (option_map said line) go body
+            ≡ begun rs self.old number body))) }
         ensures err { (fault : Fault) → result ≡ Err fault → IsOwn fault
             → (rs : Regions) (go : Opening → Told) (body : PlayData → Told)
             → header_told rs self.old number (option_map said line) go body ≡ faulted fault }
@@ -148,7 +149,8 @@ impl Header {
     }
 
     fn take_size(&mut self, alloc: Global, bounds: Bounds) -> Result<bool, AllocError>
-        ensures taken { result ≡ Ok true → with_size self.old bounds self.old.ground ≡ Some self.new }
+        ensures taken { result ≡ Ok true
+            → with_size self.old bounds self.old.ground ≡ Some self.new }
         ensures refused { result ≡ Ok false → with_size self.old bounds self.old.ground ≡ None }
     {
         if self.ground.is_some() {
@@ -159,7 +161,8 @@ impl Header {
     }
 
     fn take_player(&mut self, name: &Name) -> Result<bool, AllocError>
-        ensures taken { result ≡ Ok true → with_player self.old name.now.text.bytes ≡ Some self.new }
+        ensures taken { result ≡ Ok true
+            → with_player self.old name.now.text.bytes ≡ Some self.new }
         ensures refused { result ≡ Ok false → with_player self.old name.now.text.bytes ≡ None }
     {
         if self.ground.is_none() || number_of(&self.names, name).is_some() {

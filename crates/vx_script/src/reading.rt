@@ -16,7 +16,8 @@ use vx_base::Unread;
 use vx_grammar::{Line, read_line};
 use vx_lines::{LineError, Lines, MAX_LINE_BYTES};
 
-/// Takes the next line; `Ok(false)` where there is none. All that was written goes out before more input is asked for.
+/// Takes the next line; `Ok(false)` where there is none. All that was written goes out before more
+/// input is asked for.
 pub fn next_line<R: Read, W: Write>(
     lines: &mut Lines,
     reader: &mut R,
@@ -34,7 +35,8 @@ pub fn next_line<R: Read, W: Write>(
     ensures long { (fault : Fault) → result ≡ Err fault → IsOwn fault
         → (fault ≡ Fault.Syntax (lines.old.number + 1))
         × Keeps (W.contents writer.old) (W.contents writer.new)
-        × IfSome (prepend_known (pending lines.old) (R.remaining reader.old)) (IsNextLong MAX_LINE_BYTES) }
+        × IfSome (prepend_known (pending lines.old) (R.remaining reader.old))
+        (IsNextLong MAX_LINE_BYTES) }
 {
     'pieces: for _ in 0..u64::MAX {
         match lines.take() {

@@ -10,7 +10,8 @@ use vx_base::Unread;
 use vx_file::read_policy;
 use vx_policy::Policy;
 
-/// The policy that a regions file describes: the edits that it means, applied to the policy without regions.
+/// The policy that a regions file describes: the edits that it means, applied to the policy without
+/// regions.
 pub fn regions_file(alloc: Global, bytes: &[u8]) -> Result<Policy, Fault>
     ensures ok { IfOk result (λ policy. (edits : List Asked) × FileSays bytes.now edits
         × AreAccepted no_regions edits × (policy ≡ after no_regions edits)) }

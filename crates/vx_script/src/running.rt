@@ -21,8 +21,8 @@ use vx_lines::Lines;
 use vx_play::Play;
 use vx_policy::Policy;
 
-/// Runs a script: reads it to its end and writes the reply to each of its lines as it is read, then the last line. A fault
-/// ends the run; what was replied before it has been written out.
+/// Runs a script: reads it to its end and writes the reply to each of its lines as it is read, then
+/// the last line. A fault ends the run; what was replied before it has been written out.
 pub fn run<R: Read, W: Write>(
     alloc: Global,
     reader: &mut R,
@@ -70,18 +70,21 @@ fn read_header<R: Read, W: Write>(
     writer: &mut W,
 ) -> Result<Option<Line>, Fault>
     ensures ended { result ≡ Ok None
-        → IfSome (prepend_known (pending lines.old) (R.remaining reader.old)) (λ bytes. (rs : Regions)
+        → IfSome (prepend_known (pending lines.old) (R.remaining reader.old))
+        (λ bytes. (rs : Regions)
         → header_run rs header.old (lines.old.number + 1) (lines_of bytes)
         ≡ header_end rs header.new (lines.new.number + 1)) }
     ensures first { IfOk result (λ first. IfSome first (λ command. Goes
         (prepend_known (pending lines.old) (R.remaining reader.old))
         (prepend_known (pending lines.new) (R.remaining reader.new))
-        (λ bytes rest. (rs : Regions) → header_run rs header.old (lines.old.number + 1) (lines_of bytes)
+        (λ bytes rest. (rs : Regions)
+        → header_run rs header.old (lines.old.number + 1) (lines_of bytes)
         ≡ run_from rs header.new lines.new.number (said command) (lines_of rest)))) }
     ensures written { IfOk result (λ _. Keeps (W.contents writer.old) (W.contents writer.new)) }
     ensures err { (fault : Fault) → result ≡ Err fault → IsOwn fault
         → Keeps (W.contents writer.old) (W.contents writer.new)
-        × IfSome (prepend_known (pending lines.old) (R.remaining reader.old)) (λ bytes. (rs : Regions)
+        × IfSome (prepend_known (pending lines.old) (R.remaining reader.old))
+        (λ bytes. (rs : Regions)
         → header_run rs header.old (lines.old.number + 1) (lines_of bytes) ≡ faulted fault) }
 {
     'header_lines: while next_line(lines, reader, writer)? {

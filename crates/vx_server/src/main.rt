@@ -1,4 +1,5 @@
-//! The server: runs the script that comes on standard input, and writes the replies to standard output.
+//! The server: runs the script that comes on standard input, and writes the replies to standard
+//! output.
 #![tactic(auto)]
 
 use std::io;

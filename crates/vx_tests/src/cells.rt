@@ -1,4 +1,5 @@
-//! The cells of a sector as a value: every cell there is, also those that no part begins as, and copies.
+//! The cells of a sector as a value: every cell there is, also those that no part begins as, and
+//! copies.
 ghost use Rattle.std.specs.Prelude.{◌<◌, ◌≤◌};
 ghost use Rattle.vx_cells.specs.SectorCells.{IsSlot};
 

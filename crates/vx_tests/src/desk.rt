@@ -88,7 +88,8 @@ fn define(alloc: Global, id: &str) -> Result<Edit, AllocError> {
     Ok(Edit::Define(String::from_str(alloc, id)?, column))
 }
 
-// The answer to a definition on a desk where each edit is one: its count and its number are the same.
+// The answer to a definition on a desk where each edit is one: its count and its number are the
+// same.
 fn told(number: u32) -> Result<Edited, DeskError> {
     Ok(Edited {
         count: u64::from(number),

@@ -25,7 +25,8 @@ fn without_regions_everything_is_permitted(rt: HostRuntime) -> Result<(), Fail> 
     Ok(())
 }
 
-// Ann's land, number 1, begins east of the piston, or at it, in a country of hers around both, which is its parent or not.
+// Ann's land, number 1, begins east of the piston, or at it, in a country of hers around both,
+// which is its parent or not.
 #[test]
 fn a_machine_owns_what_it_stands_on(rt: HostRuntime) -> Result<(), Fail> {
     for (file, verdict) in [

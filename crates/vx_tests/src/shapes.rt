@@ -66,8 +66,8 @@ fn sectors_count_from_the_north_west(rt: HostRuntime) -> Result<(), Fail> {
 }
 
 // The half of all columns whose z is not below their x. The cross product of its longest edge and
-// the way to the first position is 2^32 - 1 times 2^32 - 3, or 2^64 - 2^34 + 3. In 64 signed bits it
-// would be 3 - 2^34, the other side of the edge.
+// the way to the first position is 2^32 - 1 times 2^32 - 3, or 2^64 - 2^34 + 3. In 64 signed bits
+// it would be 3 - 2^34, the other side of the edge.
 #[test]
 fn distances_may_be_as_great_as_the_numbers(rt: HostRuntime) -> Result<(), Fail> {
     let (first, last) = (i32::MIN, i32::MAX);

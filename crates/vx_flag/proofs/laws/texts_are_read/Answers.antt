@@ -1,4 +1,4 @@
-use Rattle.vx_flag.proofs.Named.{found_exactly}
+use Rattle.vx_base.proofs.Named.{found_exactly}
 use Rattle.vx_flag.proofs.Own.{own_flag, own_group, own_state}
 use Rattle.vx_flag.specs.Flag.{flag_text, flags, flag_of}
 use Rattle.vx_flag.specs.Group.{group_text, groups, group_of}

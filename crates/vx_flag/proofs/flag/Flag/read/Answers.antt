@@ -1,5 +1,5 @@
 use Rattle.std.proofs.Common.{◌≡◌, rules}
-use Rattle.vx_flag.proofs.Named.{none_named}
+use Rattle.vx_base.proofs.Named.{none_named}
 use Rattle.vx_flag.specs.Flag.{flag_text, flags, flag_of}
 use Rattle.vx_flag.specs.declared.flag.Flag.{Flag}
 use Rattle.vx_flag.proofs.flag.Flag.read.Goals as goal

@@ -1,5 +1,5 @@
 use Rattle.std.proofs.Common.{◌≡◌, rules}
-use Rattle.vx_flag.proofs.Named.{none_named}
+use Rattle.vx_base.proofs.Named.{none_named}
 use Rattle.vx_flag.specs.Group.{group_text, groups, group_of}
 use Rattle.vx_flag.specs.declared.group.Group.{Group}
 use Rattle.vx_flag.proofs.group.Group.read.Goals as goal

@@ -9,9 +9,9 @@ ghost use Rattle.vx_file.specs.RegionsFile.{if_there, in_turn, definition_at, ch
 use crate::flags::flags;
 use crate::keys::{has_only, value_at};
 use crate::tables::{changes, definition};
-use vx_base::Unread;
 use std::alloc::Global;
 use toml::{Table, Value};
+use vx_base::Unread;
 use vx_policy::Edit;
 
 /// The keys that the file may have.

@@ -5,8 +5,8 @@ ghost use Rattle.vx_region.specs.Regions.{no_regions};
 ghost use Rattle.vx_file.specs.FileReads.{Adds, accepted, applied};
 ghost use Rattle.vx_base.specs.Unread.{Gives};
 
-use vx_base::Unread;
 use std::alloc::Global;
+use vx_base::Unread;
 use vx_policy::{Edit, EditError, Policy};
 
 /// Adds one edit.

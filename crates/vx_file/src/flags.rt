@@ -11,9 +11,9 @@ ghost use Rattle.vx_file.specs.RegionsFile.{if_there, flag_in, flags_in, flags_a
 use crate::edits::add;
 use crate::keys::{has_only_flags, value_at};
 use crate::values::setting;
-use vx_base::Unread;
 use std::alloc::Global;
 use toml::{Table, Value};
+use vx_base::Unread;
 use vx_flag::Flag;
 use vx_policy::Edit;
 

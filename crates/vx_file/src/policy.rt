@@ -11,9 +11,9 @@ ghost use Rattle.vx_file.specs.RegionsFile.{edits_in, FileSays};
 
 use crate::document::document;
 use crate::edits::apply;
-use vx_base::Unread;
 use std::alloc::Global;
 use toml::Table;
+use vx_base::Unread;
 use vx_policy::{Edit, Policy};
 
 /// How many bytes a regions file may have.

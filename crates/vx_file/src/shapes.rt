@@ -8,9 +8,9 @@ ghost use Rattle.vx_file.specs.RegionsFile.{polygon_of, shape_of, shape_in};
 
 use crate::keys::value_at;
 use crate::values::{columns, heights, numbers};
-use vx_base::Unread;
 use std::alloc::Global;
 use toml::{Table, Value};
+use vx_base::Unread;
 use vx_geom::{Pos, ShapeSpec};
 
 /// The shape of a region: `cuboid`, or `polygon` with `y`.

@@ -12,9 +12,9 @@ use crate::flags::flags;
 use crate::keys::{has_only, text_at, value_at};
 use crate::shapes::shape;
 use crate::values::number;
-use vx_base::Unread;
 use std::alloc::Global;
 use toml::{Table, Value};
+use vx_base::Unread;
 use vx_policy::{Edit, Listing};
 use vx_region::Role;
 

@@ -4,9 +4,9 @@ ghost use Rattle.toml.specs.View.{view};
 ghost use Rattle.vx_base.specs.Unread.{Gives};
 ghost use Rattle.vx_file.specs.FileValues.{each, number_in, numbers_in, column_in, columns_of, columns_in, heights_of, setting_of_text, setting_in};
 
-use vx_base::Unread;
 use std::alloc::Global;
 use toml::Value;
+use vx_base::Unread;
 use vx_flag::{Group, Setting, State};
 
 /// The number of 32 bits that the value is.

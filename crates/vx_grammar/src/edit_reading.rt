@@ -8,9 +8,9 @@ ghost use Rattle.vx_base.specs.Unread.{Gives, GivesWith};
 
 use crate::arguments::{coordinate, position};
 use crate::number::read_i32;
-use vx_base::Unread;
 use crate::words::Words;
 use std::alloc::Global;
+use vx_base::Unread;
 use vx_flag::{Flag, Group, Setting, State};
 use vx_geom::{Pos, ShapeSpec};
 use vx_policy::{Edit, Listing};

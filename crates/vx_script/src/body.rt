@@ -91,11 +91,7 @@ fn edit<J: Naming, W: Write>(
 
 // Makes a tick, and writes its number.
 #[tactic(auto, unfolding(crate::specs::Transcript::tick_told))]
-fn tick<J: Naming, W: Write>(
-    play: &mut Play<J>,
-    alloc: Global,
-    writer: &mut W,
-) -> Result<(), Fault>
+fn tick<J: Naming, W: Write>(play: &mut Play<J>, alloc: Global, writer: &mut W) -> Result<(), Fault>
     ensures ok { Replies (W.contents writer.old) (W.contents writer.new) result
         (tick_told play.old) play.new }
     ensures err { Stops (W.contents writer.old) (W.contents writer.new) result

@@ -57,7 +57,9 @@ fn run_script<J: Naming, R: Read, W: Write>(
     let mut header = Header::new(alloc);
     match read_header(alloc, &mut header, &mut lines, reader, writer)? {
         None => end_header::<J, W>(alloc, header, policy, lines.number() + 1, writer),
-        Some(first) => run_body::<J, R, W>(alloc, header, policy, first, &mut lines, reader, writer),
+        Some(first) => run_body::<J, R, W>(
+            alloc, header, policy, first, &mut lines, reader, writer,
+        ),
     }
 }
 

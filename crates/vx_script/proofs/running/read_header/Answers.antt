@@ -53,8 +53,8 @@ returns-then-is_some-clause-first g c =
     let n = c.next_line.new.lines.number in
     let next = c.in_ok-next_line.ensures in
     let Begins : Line → Type 0 = λ command. Goes (prepend_known (pending c.args.lines.now) (g.R.Read.remaining c.args.reader.now))
-        (prepend_known (pending c.next_line.new.lines) (g.R.Read.remaining c.next_line.new.reader))
-        (λ bytes rest. (rs : Regions) → header_run rs c.args.header.now (c.args.lines.now.number + 1) (lines_of bytes) ≡ run_from rs c.take_line.new.self n (said command) (lines_of rest))
+    (prepend_known (pending c.next_line.new.lines) (g.R.Read.remaining c.next_line.new.reader))
+    (λ bytes rest. (rs : Regions) → header_run rs c.args.header.now (c.args.lines.now.number + 1) (lines_of bytes) ≡ run_from rs c.take_line.new.self n (said command) (lines_of rest))
     in
     if_known _ _ Begins c.in_ok-first.ensures.first
     (λ command facts. goes_on _ _ _ _ _ _ c.header_lines.invariant.same (next.line (ap Ok c.if-branch.true))

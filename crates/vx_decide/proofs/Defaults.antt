@@ -2,9 +2,10 @@
 use Rattle.std.proofs.Common.{◌≡◌, ℕ, nat_eq, List, [], ◌∷◌, find, None, Contains, option_map, refl, ap, ◌∙◌, subst}
 use Rattle.std.specs.Option.{option_or, option_and_then}
 use Rattle.vx_flag.specs.declared.flag.Flag.{Flag}
-use Rattle.vx_flag.specs.declared.flag.Flag.TheVariants.{Build, BlockBreak, BlockPlace, Usage, ChestAccess, Passthrough, Pistons}
+use Rattle.vx_flag.specs.declared.flag.Flag.TheVariants.{Build, Passthrough}
 use Rattle.vx_flag.specs.Action.{flag_of_action}
 use Rattle.vx_flag.specs.Settings.{no_settings, setting_of}
+use Rattle.vx_flag.proofs.SettingLemmas.{nothing_set}
 use Rattle.vx_region.specs.Ancestry.{chain, from_parent, ancestors}
 use Rattle.vx_region.specs.Association.{association}
 use Rattle.vx_region.specs.Regions.{RegionData, Regions, Entry, parent_of, region_at, setting_at}
@@ -38,17 +39,7 @@ no_parent rs n none =
     let at = λ (es : List Entry). option_map (λ (e : Entry). e.1) (find (λ (e : Entry). nat_eq n e.0) es) in
     ap (λ es. option_and_then (λ (r : RegionData). r.parent) (at es)) none
 
--- no flag is set where none is
-nothing_set : (f : Flag) → setting_of no_settings f ≡ None
-nothing_set Build = refl
-nothing_set BlockBreak = refl
-nothing_set BlockPlace = refl
-nothing_set Usage = refl
-nothing_set ChestAccess = refl
-nothing_set Passthrough = refl
-nothing_set Pistons = refl
-
--- nor a value at large where nothing is set
+-- no value at large where nothing is set
 unset_everywhere : (rs : Regions) (s : Actor) (f : Flag) → rs.entries ≡ [] → rs.global ≡ no_settings → effective rs s f 0 ≡ None
 unfolding effective value_at setting_at ancestors
 unset_everywhere rs s f none unset =

@@ -1,5 +1,5 @@
 -- What a world at play does keeps each of its sectors in its place.
-use Rattle.std.proofs.Common.{◌≡◌, ◌≢◌, ℕ, zero, suc, Bool, true, false, List, [], ◌∷◌, ◌++◌, length, map, set, slice_get, Option, Some, None, option_map, Result, Ok, Err, if◌then◌else◌, refl, sym, ap, ◌∙◌, subst, inl, inr, arith}
+use Rattle.std.proofs.Common.{◌≡◌, ◌≢◌, ℕ, zero, suc, Bool, true, false, List, [], ◌∷◌, map, set, slice_get, Option, Some, None, option_map, Result, Err, if◌then◌else◌, refl, sym, ap, ◌∙◌, subst, inl, inr, arith}
 use Rattle.std.specs.Option.{option_and_then}
 use Rattle.std.proofs.lemmas.Bool.{cases_Bool}
 use Rattle.std.proofs.lemmas.List.{map-set, length-set, length-map}
@@ -11,7 +11,6 @@ use Rattle.vx_geom.specs.Sizes.{Sizes, AreSizes, sector_count, sector_of, is_ins
 use Rattle.vx_geom.proofs.SectorLemmas.{held_at, in_sector}
 use Rattle.vx_cells.specs.SectorCells.{SectorCells, holds, with_block, with_cell}
 use Rattle.vx_policy.specs.declared.version.Version.{Version}
-use Rattle.vx_region.specs.Regions.{Regions}
 use Rattle.vx_sector.specs.Acting.{applied, effect_by}
 use Rattle.vx_sector.specs.Commands.{place_of}
 use Rattle.vx_sector.specs.Windows.{answer_of, is_recorded, sector_after, renewed}
@@ -23,8 +22,8 @@ use Rattle.vx_sector.specs.declared.reply.Reply.{Reply}
 use Rattle.vx_sector.specs.declared.refusal.Refusal.{Refusal}
 use Rattle.vx_sector.specs.declared.refusal.Refusal.TheVariants.{OutOfWorld}
 use Rattle.vx_sector.proofs.Outside.{inside_is_not_refused}
-use Rattle.vx_play.specs.Grounds.{GroundData, airs, bare, set_in, with_part, AreSectors, IsGround}
-use Rattle.vx_play.specs.Plays.{PlayData, cells_of, IsWorld, opened, opened_by, opened_with, sector_asked, answered, answered_at, answer_in, left_in, renewed_by, next_version}
+use Rattle.vx_play.specs.Grounds.{GroundData, bare, set_in, with_part, AreSectors, IsGround}
+use Rattle.vx_play.specs.Plays.{PlayData, cells_of, IsWorld, opened_by, sector_asked, answered, answered_at, answer_in, left_in, renewed_by, next_version}
 use Rattle.vx_play.specs.Laws.{WorldsBeginWhole, CommandsKeepWorlds, TicksKeepWorlds, OutOfWorldIsOutside}
 use Rattle.vx_play.proofs.Placed.{placed_at, placed_again, airs_count, airs_placed, holds_found, found_within}
 use Rattle.vx_play.proofs.Renewals.{changed_up_to}

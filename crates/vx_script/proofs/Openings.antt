@@ -1,14 +1,14 @@
 -- What a header says keeps each sector of its world in its place.
-use Rattle.std.proofs.Common.{◌≡◌, ℕ, Bool, true, false, List, [], ◌∷◌, ◌++◌, Option, Some, None, option_map, if◌then◌else◌, not, ◌&&◌, ◌≤◌, is_some, refl, subst}
+use Rattle.std.proofs.Common.{◌≡◌, ℕ, Bool, true, false, [], ◌∷◌, ◌++◌, Option, Some, None, option_map, if◌then◌else◌, not, ◌&&◌, ◌≤◌, is_some, refl, subst}
 use Rattle.std.specs.Option.{option_and_then, MatchOption}
 use Rattle.std.proofs.lemmas.Bool.{and_parts, leb-true}
-use Rattle.vx_geom.specs.Sizes.{Sizes, AreSizes}
+use Rattle.vx_geom.specs.Sizes.{AreSizes}
 use Rattle.vx_grammar.specs.ScriptLines.{Nothing, World, Player, Set, Act, Region, Tick}
 use Rattle.vx_play.specs.Grounds.{GroundData, bare, with_part, IsGround}
 use Rattle.vx_play.specs.Plays.{is_named}
 use Rattle.vx_play.proofs.Whole.{air_is_ground, part_keeps_ground}
 use Rattle.vx_region.specs.Words.{is_amid}
-use Rattle.vx_script.specs.Transcript.{Opening, with_size, with_cell_set, header_after}
+use Rattle.vx_script.specs.Transcript.{with_size, with_cell_set, header_after}
 use Rattle.vx_script.specs.Openings.{IsOpening, SizesAreSound, HeadersKeepGround}
 
 -- the sizes that a line can say

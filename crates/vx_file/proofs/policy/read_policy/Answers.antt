@@ -1,4 +1,4 @@
-use Rattle.std.proofs.Common.{refl, ap, Err, ◌∙◌}
+use Rattle.std.proofs.Common.{refl}
 use Rattle.vx_file.proofs.FileApplied.{file_gave, file_refused}
 use Rattle.vx_file.proofs.policy.read_policy.Goals as goal
 

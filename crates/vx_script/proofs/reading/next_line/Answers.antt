@@ -1,4 +1,4 @@
-use Rattle.std.proofs.Common.{◌≡◌, ◌+◌, Err, ap, sym, ◌∙◌}
+use Rattle.std.proofs.Common.{◌≡◌, ◌+◌, Err, ap, ◌∙◌}
 use Rattle.vx_lines.specs.declared.line_error.LineError.TheVariants.{TooLong}
 use Rattle.vx_lines.specs.declared.lines.TheConstants.{MAX_LINE_BYTES}
 use Rattle.vx_script.specs.declared.fault.Fault.TheVariants.{Syntax}

@@ -1,4 +1,4 @@
-use Rattle.std.proofs.Common.{◌≡◌, ◌<◌, ◌++◌, ◌∷◌, List, ℕ, true, if◌then◌else◌, [], length, ap, sym, ◌∙◌, subst, arith}
+use Rattle.std.proofs.Common.{◌≡◌, ◌<◌, ◌++◌, ◌∷◌, List, ℕ, if◌then◌else◌, [], length, ap, sym, ◌∙◌, subst, arith}
 use Rattle.vx_lines.specs.Lines.{TakesPiece, lines_of}
 use Rattle.vx_lines.specs.declared.lines.TheConstants.{MAX_LINE_BYTES}
 use Rattle.vx_lines.proofs.Taking.{line_taken, line_long}

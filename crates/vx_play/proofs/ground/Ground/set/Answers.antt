@@ -1,9 +1,8 @@
-use Rattle.std.proofs.Common.{◌≡◌, Some, length, set, slice_get, refl, sym, ap, ◌∙◌, subst, arith}
+use Rattle.std.proofs.Common.{◌≡◌, Some, length, set, refl, sym, ap, ◌∙◌, arith}
 use Rattle.std.proofs.lemmas.Option.{slice_get_read}
 use Rattle.std.specs.Vec.{vec_len}
-use Rattle.vx_block.specs.Part.{part_cell}
 use Rattle.vx_cells.specs.SectorCells.{with_cell}
-use Rattle.vx_play.specs.Grounds.{GroundData, with_part, IsGround}
+use Rattle.vx_play.specs.Grounds.{GroundData, with_part}
 use Rattle.vx_play.proofs.Whole.{part_is_set, part_keeps_ground}
 use Rattle.vx_play.proofs.ground.Ground.set.Goals as goal
 

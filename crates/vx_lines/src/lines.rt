@@ -19,7 +19,7 @@ pub struct Lines {
     input: Input,
     line: Vec<u8>,
     // Whether the line has not ended.
-    open: bool,
+    unfinished: bool,
     number: u32,
 }
 
@@ -32,7 +32,7 @@ impl Model for Lines {
     ghost Value = { Reading };
 
     ghost view = { λ a. record {
-      front = if a.open then a.line.items else [];
+      front = if a.unfinished then a.line.items else [];
       rest = a.input.rest;
       line = a.line.items;
       number = a.number;
@@ -40,7 +40,7 @@ impl Model for Lines {
     } };
 
     // Each line that was taken took a byte at least, and so does a front.
-    ghost invariant = { λ a. let front = if a.open then a.line.items else [] in
+    ghost invariant = { λ a. let front = if a.unfinished then a.line.items else [] in
         IsPiece front × (a.number + length front + length a.input.rest ≤ a.input.bytes)
         × (a.input.bytes ≤ MAX_SCRIPT_BYTES) };
 }
@@ -56,7 +56,7 @@ impl Lines {
         Ok(Lines {
             input: Input::new(alloc)?,
             line: Vec::new(alloc),
-            open: false,
+            unfinished: false,
             number: 0,
         })
     }
@@ -90,14 +90,14 @@ impl Lines {
             × ((more : List ℕ) → IsNextLong MAX_LINE_BYTES (pending self.old ++ more)) }
         ensures within { IfOk result (λ _. self.new.number ≤ MAX_SCRIPT_BYTES) }
     {
-        begin(&mut self.line, &mut self.open);
+        begin(&mut self.line, &mut self.unfinished);
         let found = self.input.take_line(&mut self.line)?;
         if MAX_LINE_BYTES < self.line.len() {
             return Err(LineError::TooLong);
         }
         if found {
             self.number += 1;
-            self.open = false;
+            self.unfinished = false;
         }
         Ok(found)
     }
@@ -126,22 +126,22 @@ impl Lines {
         ensures within { self.new.number ≤ MAX_SCRIPT_BYTES }
         ensures all { result ≡ true → pending self.new ≡ [] }
     {
-        if !self.open || self.line.is_empty() {
+        if !self.unfinished || self.line.is_empty() {
             return false;
         }
         self.number += 1;
-        self.open = false;
+        self.unfinished = false;
         true
     }
 }
 
 // Begins another line where the last one has ended.
-fn begin(line: &mut Vec<u8>, open: &mut bool)
-    ensures open { open.new ≡ true }
-    ensures line { line.new.items ≡ (if open.old then line.old.items else []) }
+fn begin(line: &mut Vec<u8>, unfinished: &mut bool)
+    ensures unfinished { unfinished.new ≡ true }
+    ensures line { line.new.items ≡ (if unfinished.old then line.old.items else []) }
 {
-    if !*open {
+    if !*unfinished {
         line.clear();
-        *open = true;
+        *unfinished = true;
     }
 }

@@ -5,7 +5,7 @@ use Rattle.std.proofs.lemmas.List.{length-append}
 use Rattle.vx_geom.specs.declared.pos.Pos.{Pos}
 use Rattle.vx_geom.specs.Sizes.{Sizes, sector_of}
 use Rattle.vx_cells.specs.SectorCells.{SectorCells, only_air, holds}
-use Rattle.vx_play.specs.Grounds.{airs, AreFrom}
+use Rattle.vx_play.specs.Terrains.{airs, AreFrom}
 
 pub from_push : (sizes : Sizes) (k : ℕ) (cs : List SectorCells) (c : SectorCells) → AreFrom sizes k cs → c.bounds ≡ sizes → c.sector ≡ k + length cs
     → AreFrom sizes k (cs ++ c ∷ [])

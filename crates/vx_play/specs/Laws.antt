@@ -5,13 +5,13 @@ use Rattle.vx_sector.specs.Commands.{place_of}
 use Rattle.vx_sector.specs.SectorData.{SeatData}
 use Rattle.vx_sector.specs.declared.cmd.Cmd.{Cmd}
 use Rattle.vx_sector.specs.declared.refusal.Refusal.TheVariants.{OutOfWorld}
-use Rattle.vx_play.specs.Grounds.{GroundData, IsGround}
+use Rattle.vx_play.specs.Terrains.{TerrainData, IsTerrain}
 use Rattle.vx_play.specs.Plays.{PlayData, IsWorld, opened, answered, ticked}
 
--- the world that is made of a ground has each sector in its place
+-- the world that is made of a terrain has each sector in its place
 abbrev pub WorldsBeginWhole : Type 0
-WorldsBeginWhole = (rs : Regions) (ground : GroundData) (names : List (List ℕ))
-    → IsGround ground → IsWorld (opened rs ground names)
+WorldsBeginWhole = (rs : Regions) (terrain : TerrainData) (names : List (List ℕ))
+    → IsTerrain terrain → IsWorld (opened rs terrain names)
 
 -- a command keeps each sector in its place
 abbrev pub CommandsKeepWorlds : Type 0

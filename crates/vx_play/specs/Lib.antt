@@ -1,3 +1,3 @@
-pub mod Grounds
+pub mod Terrains
 pub mod Laws
 pub mod Plays

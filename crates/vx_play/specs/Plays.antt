@@ -13,7 +13,7 @@ use Rattle.vx_sector.specs.declared.cmd.Cmd.{Cmd}
 use Rattle.vx_sector.specs.declared.reply.Reply.{Reply}
 use Rattle.vx_sector.specs.declared.refusal.Refusal.{Refusal}
 use Rattle.vx_sector.specs.declared.refusal.Refusal.TheVariants.{OutOfWorld}
-use Rattle.vx_play.specs.Grounds.{GroundData, AreSectors}
+use Rattle.vx_play.specs.Terrains.{TerrainData, AreSectors}
 
 -- a world at play: its size and its sectors, its players' names in order of their seats, the policy
 -- that it opened with, the edits accepted since, and how many ticks there were
@@ -67,11 +67,11 @@ opened_by version cells = first_window (window_over version cells)
 abbrev pub opened_with : Regions → SectorCells → SectorData
 opened_with rs = opened_by (record { tick = 1; edits = 0; policy = rs })
 
--- the world of this ground and these players under this policy, with nothing done yet
-abbrev pub opened : Regions → GroundData → List (List ℕ) → PlayData
-opened rs ground names = record {
-  sizes = ground.sizes;
-  sectors = map (opened_with rs) ground.sectors;
+-- the world of this terrain and these players under this policy, with nothing done yet
+abbrev pub opened : Regions → TerrainData → List (List ℕ) → PlayData
+opened rs terrain names = record {
+  sizes = terrain.sizes;
+  sectors = map (opened_with rs) terrain.sectors;
   names = names;
   first = rs;
   accepted = [];

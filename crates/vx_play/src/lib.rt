@@ -2,13 +2,13 @@
 //! policy. It knows no script and no writer.
 #![tactic(auto)]
 
-mod ground;
 pub mod laws;
 mod names;
 mod play;
+mod terrain;
 mod tick_error;
 
-pub use ground::Ground;
 pub use names::number_of;
 pub use play::{MAX_PLAYERS, Play};
+pub use terrain::Terrain;
 pub use tick_error::TickError;

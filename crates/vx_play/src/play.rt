@@ -1,8 +1,8 @@
 ghost use Rattle.std.specs.Prelude.{◌≡◌, map, vec_len, IfOk, OnOk};
 ghost use Rattle.vx_play.specs.Plays.{cells_of, window_over, opened_by, renewed_by};
 
-use crate::ground::Ground;
 use crate::names::number_of;
+use crate::terrain::Terrain;
 use crate::tick_error::TickError;
 use std::alloc::{AllocError, Global};
 use std::marker::Model;
@@ -33,7 +33,7 @@ pub struct Play<J: Naming> {
 impl<J: Naming> Model for Play<J> {
     ghost use Rattle.std.specs.Prelude.{◌≤◌, vec_len, map};
     ghost use Rattle.vx_region.specs.Texts.{texts};
-    ghost use Rattle.vx_play.specs.Grounds.{AreSectors};
+    ghost use Rattle.vx_play.specs.Terrains.{AreSectors};
     ghost use Rattle.vx_play.specs.Plays.{PlayData, cells_of, most_ticks};
     ghost use Rattle.vx_play.specs.declared.play.TheConstants.{MAX_PLAYERS};
 
@@ -61,18 +61,18 @@ impl<J: Naming> Play<J> {
     ghost use Rattle.vx_play.specs.declared.tick_error.TickError.TheVariants.{HistoryFull};
     ghost use Rattle.vx_play.specs.Plays.{IsWorld, answered, calls, opened, policy_of, seat_named, ticked, most_ticks};
 
-    /// The world of this ground under this policy, with nothing done yet.
+    /// The world of this terrain under this policy, with nothing done yet.
     pub fn open(
         alloc: Global,
-        ground: Ground,
+        terrain: Terrain,
         names: Vec<Name>,
         policy: Policy,
     ) -> Result<Play<J>, AllocError>
         requires named { policy ≡ J.first }
         requires seats { vec_len names ≤ MAX_PLAYERS }
-        ensures { IfOk result (λ play. play ≡ opened J.first ground (texts names.items)) }
+        ensures { IfOk result (λ play. play ≡ opened J.first terrain (texts names.items)) }
     {
-        let (bounds, cells) = ground.into_parts();
+        let (bounds, cells) = terrain.into_parts();
         let desk = DeskState::new(alloc, policy);
         let version = desk.fix(1)?;
         let sectors = open_sectors(alloc, cells, &version)?;

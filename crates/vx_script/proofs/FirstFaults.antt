@@ -5,7 +5,7 @@ use Rattle.vx_board.specs.Accepted.{most_edits}
 use Rattle.vx_board.specs.Texts.{edit_text}
 use Rattle.vx_grammar.specs.ScriptLines.{Said, Nothing, World, Player, Set, Act, Region, Tick}
 use Rattle.vx_lines.specs.Lines.{lines_of}
-use Rattle.vx_play.specs.Grounds.{GroundData}
+use Rattle.vx_play.specs.Terrains.{TerrainData}
 use Rattle.vx_play.specs.Plays.{PlayData, most_players, most_ticks, is_named, opened, seat_named, answered, policy_of, ticked}
 use Rattle.vx_policy.specs.Asked.{Asked}
 use Rattle.vx_policy.specs.Edits.{number_given}
@@ -127,12 +127,12 @@ body_fault play n [] k fault = cc
 body_fault play n (line ∷ lines) k fault = body_line play n line lines k (read_of line) refl (λ next at. body_fault next (n + 1) lines k at) fault
 
 -- a world that is made faults only as its play does
-begun_sound : (rs : Regions) (o : Opening) (n : ℕ) (ground : Option GroundData) (body : PlayData → Told) (k : ℕ)
-    → is_some ground ≡ true → ((play : PlayData) → (body play).fault ≢ Some (Syntax k)) → (begun_on rs o n body ground).fault ≢ Some (Syntax k)
+begun_sound : (rs : Regions) (o : Opening) (n : ℕ) (terrain : Option TerrainData) (body : PlayData → Told) (k : ℕ)
+    → is_some terrain ≡ true → ((play : PlayData) → (body play).fault ≢ Some (Syntax k)) → (begun_on rs o n body terrain).fault ≢ Some (Syntax k)
 begun_sound rs o n None body k some sound fault = cc
-begun_sound rs o n (Some ground) body k some sound fault = by (nat_lt most_players (length o.names)) fault
+begun_sound rs o n (Some terrain) body k some sound fault = by (nat_lt most_players (length o.names)) fault
   where
-    by : (b : Bool) → (if b then faulted TooManyPlayers else body (opened rs ground o.names)).fault ≡ Some (Syntax k) → ⊥
+    by : (b : Bool) → (if b then faulted TooManyPlayers else body (opened rs terrain o.names)).fault ≡ Some (Syntax k) → ⊥
     by true at = cc
     by false at = sound _ at
 
@@ -141,8 +141,8 @@ end_sound : (rs : Regions) (o : Opening) (n k : ℕ) → (header_end rs o n).fau
 unfolding header_end begun
 end_sound rs o n k fault = by (is_peopled o) refl fault
   where
-    by : (b : Bool) → is_peopled o ≡ b → (if b then begun_on rs o n (λ play. only (done_text play)) o.ground else only []).fault ≡ Some (Syntax k) → ⊥
-    by true peopled at = begun_sound rs o n o.ground (λ play. only (done_text play)) k (and_parts _ _ peopled).0 (λ play wrong. cc) at
+    by : (b : Bool) → is_peopled o ≡ b → (if b then begun_on rs o n (λ play. only (done_text play)) o.terrain else only []).fault ≡ Some (Syntax k) → ⊥
+    by true peopled at = begun_sound rs o n o.terrain (λ play. only (done_text play)) k (and_parts _ _ peopled).0 (λ play wrong. cc) at
     by false empty at = cc
 
 module _ (rs : Regions) (o : Opening) (n : ℕ) (line : List ℕ) (lines : List (List ℕ)) (k : ℕ) where
@@ -187,24 +187,24 @@ module _ (rs : Regions) (o : Opening) (n : ℕ) (line : List ℕ) (lines : List 
       → (first_line rs o n may_stand (λ play. body_run play n (line ∷ lines))).fault ≡ Some (Syntax k) → IsFirstFault (header_run rs o n) n (line ∷ lines) k
   unfolding begun
   header_last said false reads steps fault = at_once _ n k line lines (cc) (λ j. end_sound rs o n j)
-  header_last said true reads steps fault = by o.ground refl fault
+  header_last said true reads steps fault = by o.terrain refl fault
     where
-      by : (ground : Option GroundData) → o.ground ≡ ground → (begun_on rs o n (λ play. body_run play n (line ∷ lines)) ground).fault ≡ Some (Syntax k)
+      by : (terrain : Option TerrainData) → o.terrain ≡ terrain → (begun_on rs o n (λ play. body_run play n (line ∷ lines)) terrain).fault ≡ Some (Syntax k)
           → IsFirstFault (header_run rs o n) n (line ∷ lines) k
       by None none at = at_once _ n k line lines (cc) (λ j. end_sound rs o n j)
-      by (Some ground) there at = seated (nat_lt most_players (length o.names)) refl at
+      by (Some terrain) there at = seated (nat_lt most_players (length o.names)) refl at
         where
           seated : (many : Bool) → nat_lt most_players (length o.names) ≡ many
-              → (if many then faulted TooManyPlayers else body_run (opened rs ground o.names) n (line ∷ lines)).fault ≡ Some (Syntax k)
+              → (if many then faulted TooManyPlayers else body_run (opened rs terrain o.names) n (line ∷ lines)).fault ≡ Some (Syntax k)
               → IsFirstFault (header_run rs o n) n (line ∷ lines) k
           seated true many at = cc
-          seated false few at = handed_on (opened rs ground o.names) same (body_fault (opened rs ground o.names) n (line ∷ lines) k at)
+          seated false few at = handed_on (opened rs terrain o.names) same (body_fault (opened rs terrain o.names) n (line ∷ lines) k at)
             where
-              same : (before : List (List ℕ)) → header_run rs o n (line ∷ before) ≡ body_run (opened rs ground o.names) n (line ∷ before)
+              same : (before : List (List ℕ)) → header_run rs o n (line ∷ before) ≡ body_run (opened rs terrain o.names) n (line ∷ before)
               same before = ap (λ read. header_told rs o n read (λ next. header_run rs next (n + 1) before) (λ play. body_run play n (line ∷ before))) reads
                   ∙ steps (λ next. header_run rs next (n + 1) before) (λ play. body_run play n (line ∷ before))
                   ∙ ap (begun_on rs o n (λ play. body_run play n (line ∷ before))) there
-                  ∙ ap (λ b. if b then faulted TooManyPlayers else body_run (opened rs ground o.names) n (line ∷ before)) few
+                  ∙ ap (λ b. if b then faulted TooManyPlayers else body_run (opened rs terrain o.names) n (line ∷ before)) few
 
   header_line : (said : Option Said) → read_of line ≡ said
       → ((next : Opening) → (header_run rs next (n + 1) lines).fault ≡ Some (Syntax k) → IsFirstFault (header_run rs next (n + 1)) (n + 1) lines k)

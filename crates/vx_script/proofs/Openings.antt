@@ -4,12 +4,12 @@ use Rattle.std.specs.Option.{option_and_then, MatchOption}
 use Rattle.std.proofs.lemmas.Bool.{and_parts, leb-true}
 use Rattle.vx_geom.specs.Sizes.{AreSizes}
 use Rattle.vx_grammar.specs.ScriptLines.{Nothing, World, Player, Set, Act, Region, Tick}
-use Rattle.vx_play.specs.Grounds.{GroundData, bare, with_part, IsGround}
+use Rattle.vx_play.specs.Terrains.{TerrainData, bare, with_part, IsTerrain}
 use Rattle.vx_play.specs.Plays.{is_named}
-use Rattle.vx_play.proofs.Whole.{air_is_ground, part_keeps_ground}
+use Rattle.vx_play.proofs.Whole.{air_is_terrain, part_keeps_terrain}
 use Rattle.vx_region.specs.Words.{is_amid}
 use Rattle.vx_script.specs.Transcript.{with_size, with_cell_set, header_after}
-use Rattle.vx_script.specs.Openings.{IsOpening, SizesAreSound, HeadersKeepGround}
+use Rattle.vx_script.specs.Openings.{IsOpening, SizesAreSound, HeadersKeepTerrain}
 
 -- the sizes that a line can say
 pub sizes_are_sound : SizesAreSound
@@ -28,29 +28,29 @@ sizes_are_sound sx sz s v said = by (is_amid 1 sx 8) (is_amid 1 sz 8) (is_amid 1
     by true false c one two three said = cc
     by false b c one two three said = cc
 
-pub headers_keep_ground : HeadersKeepGround
+pub headers_keep_terrain : HeadersKeepTerrain
 unfolding header_after with_cell_set
-headers_keep_ground Nothing o next sizes ground made = let same : o ≡ next = cc in subst IsOpening same ground
-headers_keep_ground (World sizes) o next valid ground made = by o.ground made
+headers_keep_terrain Nothing o next sizes terrain made = let same : o ≡ next = cc in subst IsOpening same terrain
+headers_keep_terrain (World sizes) o next valid terrain made = by o.terrain made
   where
-    by : (z : Option GroundData) → with_size o sizes z ≡ Some next → IsOpening next
+    by : (z : Option TerrainData) → with_size o sizes z ≡ Some next → IsOpening next
     by (Some z) made = cc
-    by None made = let same : record o { ground = Some (bare sizes) } ≡ next = cc in subst IsOpening same (air_is_ground sizes valid)
-headers_keep_ground (Player name) o next sizes ground made = by (is_some o.ground && not (is_named o.names name)) made
+    by None made = let same : record o { terrain = Some (bare sizes) } ≡ next = cc in subst IsOpening same (air_is_terrain sizes valid)
+headers_keep_terrain (Player name) o next sizes terrain made = by (is_some o.terrain && not (is_named o.names name)) made
   where
     by : (b : Bool) → (if b then Some (record o { names = o.names ++ name ∷ [] }) else None) ≡ Some next → IsOpening next
     by false made = cc
-    by true made = let same : record o { names = o.names ++ name ∷ [] } ≡ next = cc in subst IsOpening same ground
-headers_keep_ground (Set p part) o next sizes ground made = by o.ground ground made
+    by true made = let same : record o { names = o.names ++ name ∷ [] } ≡ next = cc in subst IsOpening same terrain
+headers_keep_terrain (Set p part) o next sizes terrain made = by o.terrain terrain made
   where
-    with_ground : (old : GroundData) → IsGround old → (g : Option GroundData) → with_part old p part ≡ g → option_map (λ g. record o { ground = Some g }) g ≡ Some next → IsOpening next
-    with_ground old whole None is made = cc
-    with_ground old whole (Some g) is made = let same : record o { ground = Some g } ≡ next = cc in subst IsOpening same (part_keeps_ground old g p part whole is)
+    with_terrain : (old : TerrainData) → IsTerrain old → (g : Option TerrainData) → with_part old p part ≡ g → option_map (λ g. record o { terrain = Some g }) g ≡ Some next → IsOpening next
+    with_terrain old whole None is made = cc
+    with_terrain old whole (Some g) is made = let same : record o { terrain = Some g } ≡ next = cc in subst IsOpening same (part_keeps_terrain old g p part whole is)
 
-    by : (z : Option GroundData) → MatchOption z (Unit {0}) IsGround
-        → option_map (λ g. record o { ground = Some g }) (option_and_then (λ g. with_part g p part) z) ≡ Some next → IsOpening next
+    by : (z : Option TerrainData) → MatchOption z (Unit {0}) IsTerrain
+        → option_map (λ g. record o { terrain = Some g }) (option_and_then (λ g. with_part g p part) z) ≡ Some next → IsOpening next
     by None whole made = cc
-    by (Some old) whole made = with_ground old whole (with_part old p part) refl made
-headers_keep_ground (Act name cmd) o next sizes ground made = cc
-headers_keep_ground (Region e) o next sizes ground made = cc
-headers_keep_ground Tick o next sizes ground made = cc
+    by (Some old) whole made = with_terrain old whole (with_part old p part) refl made
+headers_keep_terrain (Act name cmd) o next sizes terrain made = cc
+headers_keep_terrain (Region e) o next sizes terrain made = cc
+headers_keep_terrain Tick o next sizes terrain made = cc

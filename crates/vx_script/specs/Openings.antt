@@ -2,12 +2,12 @@ use Rattle.std.specs.Prelude.{◌≡◌, ℕ, Some}
 use Rattle.std.specs.Option.{MatchOption}
 use Rattle.vx_geom.specs.Sizes.{Sizes, AreSizes}
 use Rattle.vx_grammar.specs.ScriptLines.{Said, World, sizes_of}
-use Rattle.vx_play.specs.Grounds.{IsGround}
+use Rattle.vx_play.specs.Terrains.{IsTerrain}
 use Rattle.vx_script.specs.Transcript.{Opening, header_after}
 
 -- an opening has each sector of its size in its place, once the size was said
 abbrev pub IsOpening : Opening → Type 0
-IsOpening o = MatchOption o.ground (Unit {0}) IsGround
+IsOpening o = MatchOption o.terrain (Unit {0}) IsTerrain
 
 -- the sizes that a `world` line can say are those of a world
 abbrev pub SizesAreSound : Type 0
@@ -19,6 +19,6 @@ HasSizes (World sizes) = AreSizes sizes
 HasSizes said = Unit {0}
 
 -- each line of a header keeps an opening's sectors in their places
-abbrev pub HeadersKeepGround : Type 0
-HeadersKeepGround = (said : Said) (o next : Opening) → HasSizes said → IsOpening o
+abbrev pub HeadersKeepTerrain : Type 0
+HeadersKeepTerrain = (said : Said) (o next : Opening) → HasSizes said → IsOpening o
     → header_after o said ≡ Some next → IsOpening next

@@ -20,19 +20,19 @@ use Rattle.vx_sector.specs.declared.refusal.Refusal.{Refusal}
 use Rattle.vx_sector.specs.declared.refusal.Refusal.TheVariants as refused
 use Rattle.vx_lines.specs.Lines.{lines_of}
 use Rattle.vx_grammar.specs.ScriptLines.{Said, Nothing, World, Player, Set, Act, Region, Tick, line_of}
-use Rattle.vx_play.specs.Grounds.{GroundData, bare, with_part}
+use Rattle.vx_play.specs.Terrains.{TerrainData, bare, with_part}
 use Rattle.vx_play.specs.Plays.{PlayData, most_players, most_ticks, is_named, opened, seat_named, answered, calls, policy_of, ticked}
 use Rattle.vx_script.specs.Told.{Told, only, faulted, prepend}
 use Rattle.vx_script.specs.declared.fault.Fault.TheVariants.{HistoryFull, Syntax, TooManyPlayers}
 
 -- the world as it opens, so far: its cells, once its size was said, and its players' names
 pub record Opening : Type 0 where
-  pub ground : Option GroundData
+  pub terrain : Option TerrainData
   pub names : List (List ℕ)
 
 -- nothing was said yet
 abbrev pub no_opening : Opening
-no_opening = record { ground = None; names = [] }
+no_opening = record { terrain = None; names = [] }
 
 -- how many bytes a line may have
 abbrev pub most_bytes : ℕ
@@ -43,27 +43,27 @@ unfoldable pub read_of : List ℕ → Option Said
 read_of line = if nat_lt most_bytes (length line) then None else line_of line
 
 -- the size is said once
-abbrev pub with_size : Opening → Sizes → Option GroundData → Option Opening
-with_size o sizes None = Some (record o { ground = Some (bare sizes) })
-with_size o sizes (Some ground) = None
+abbrev pub with_size : Opening → Sizes → Option TerrainData → Option Opening
+with_size o sizes None = Some (record o { terrain = Some (bare sizes) })
+with_size o sizes (Some terrain) = None
 
 -- a player is named once, after the size was said
 abbrev pub with_player : Opening → List ℕ → Option Opening
 with_player o name =
-    if is_some o.ground && not (is_named o.names name)
+    if is_some o.terrain && not (is_named o.names name)
     then Some (record o { names = o.names ++ name ∷ [] })
     else None
 
 -- a cell is set after the size was said, inside the world
 unfoldable pub with_cell_set : Opening → Pos → Part → Option Opening
 with_cell_set o p part =
-    option_map (λ g. record o { ground = Some g })
-    (option_and_then (λ g. with_part g p part) o.ground)
+    option_map (λ g. record o { terrain = Some g })
+    (option_and_then (λ g. with_part g p part) o.terrain)
 
 -- the opening after a line of the header; none where the line may not stand there
 unfoldable pub header_after : Opening → Said → Option Opening
 header_after o Nothing = Some o
-header_after o (World sizes) = with_size o sizes o.ground
+header_after o (World sizes) = with_size o sizes o.terrain
 header_after o (Player name) = with_player o name
 header_after o (Set p part) = with_cell_set o p part
 header_after o (Act name cmd) = None
@@ -71,15 +71,15 @@ header_after o (Region e) = None
 header_after o Tick = None
 
 -- the world made of the opening at line n, and what it tells from there on
-abbrev pub begun_on : Regions → Opening → ℕ → (PlayData → Told) → Option GroundData → Told
+abbrev pub begun_on : Regions → Opening → ℕ → (PlayData → Told) → Option TerrainData → Told
 begun_on rs o n body None = faulted (Syntax n)
-begun_on rs o n body (Some ground) =
+begun_on rs o n body (Some terrain) =
     if nat_lt most_players (length o.names)
     then faulted TooManyPlayers
-    else body (opened rs ground o.names)
+    else body (opened rs terrain o.names)
 
 unfoldable pub begun : Regions → Opening → ℕ → (PlayData → Told) → Told
-begun rs o n body = begun_on rs o n body o.ground
+begun rs o n body = begun_on rs o n body o.terrain
 
 -- an answer as it is written
 abbrev pub answer_text : Result Reply Refusal → List ℕ
@@ -158,7 +158,7 @@ body_run play n (line ∷ lines) =
 
 -- there is a world with a player in it
 abbrev pub is_peopled : Opening → Bool
-is_peopled o = is_some o.ground && not (length o.names == 0)
+is_peopled o = is_some o.terrain && not (length o.names == 0)
 
 -- the first line of the body: where it may stand there the world is made, and the body begins
 abbrev pub first_line : Regions → Opening → ℕ → Bool → (PlayData → Told) → Told

@@ -7,14 +7,14 @@ use vx_block::Part;
 use vx_board::Naming;
 use vx_geom::{Bounds, Pos};
 use vx_grammar::Line;
-use vx_play::{Ground, MAX_PLAYERS, Play, number_of};
+use vx_play::{MAX_PLAYERS, Play, Terrain, number_of};
 use vx_policy::Policy;
 use vx_region::Name;
 
 /// The header of a script: the world as it opens, as far as it was read.
 #[derive(Drop)]
 pub struct Header {
-    ground: Option<Ground>,
+    terrain: Option<Terrain>,
     names: Vec<Name>,
 }
 
@@ -24,7 +24,7 @@ impl Model for Header {
 
     ghost Value = { Opening };
 
-    ghost view = { λ a. record { ground = a.ground; names = texts a.names.items } };
+    ghost view = { λ a. record { terrain = a.terrain; names = texts a.names.items } };
 }
 
 impl Header {
@@ -40,7 +40,7 @@ impl Header {
         ensures { result ≡ no_opening }
     {
         Header {
-            ground: None,
+            terrain: None,
             names: Vec::new(alloc),
         }
     }
@@ -121,7 +121,7 @@ impl Header {
     pub fn is_peopled(&self) -> bool
         ensures { result ≡ is_peopled self.now }
     {
-        self.ground.is_some() && !self.names.is_empty()
+        self.terrain.is_some() && !self.names.is_empty()
     }
 
     /// Makes the world, at the line of that number.
@@ -138,25 +138,25 @@ impl Header {
         ensures err { (fault : Fault) → result ≡ Err fault → IsOwn fault
             → (body : PlayData → Told) → begun J.first self number body ≡ faulted fault }
     {
-        let Header { ground, names } = self;
-        let Some(ground) = ground else {
+        let Header { terrain, names } = self;
+        let Some(terrain) = terrain else {
             return Err(Fault::Syntax(number));
         };
         if MAX_PLAYERS < names.len() {
             return Err(Fault::TooManyPlayers);
         }
-        Play::open(alloc, ground, names, policy).map_err(|_| Fault::NoMemory)
+        Play::open(alloc, terrain, names, policy).map_err(|_| Fault::NoMemory)
     }
 
     fn take_size(&mut self, alloc: Global, bounds: Bounds) -> Result<bool, AllocError>
         ensures taken { result ≡ Ok true
-            → with_size self.old bounds self.old.ground ≡ Some self.new }
-        ensures refused { result ≡ Ok false → with_size self.old bounds self.old.ground ≡ None }
+            → with_size self.old bounds self.old.terrain ≡ Some self.new }
+        ensures refused { result ≡ Ok false → with_size self.old bounds self.old.terrain ≡ None }
     {
-        if self.ground.is_some() {
+        if self.terrain.is_some() {
             return Ok(false);
         }
-        self.ground = Some(Ground::new(alloc, bounds)?);
+        self.terrain = Some(Terrain::new(alloc, bounds)?);
         Ok(true)
     }
 
@@ -165,7 +165,7 @@ impl Header {
             → with_player self.old name.now.text.bytes ≡ Some self.new }
         ensures refused { result ≡ Ok false → with_player self.old name.now.text.bytes ≡ None }
     {
-        if self.ground.is_none() || number_of(&self.names, name).is_some() {
+        if self.terrain.is_none() || number_of(&self.names, name).is_some() {
             return Ok(false);
         }
         self.names.push(*name)?;
@@ -177,8 +177,8 @@ impl Header {
         ensures taken { result ≡ Ok true → with_cell_set self.old p part ≡ Some self.new }
         ensures refused { result ≡ Ok false → with_cell_set self.old p part ≡ None }
     {
-        match &mut self.ground {
-            Some(ground) => ground.set(p, part),
+        match &mut self.terrain {
+            Some(terrain) => terrain.set(p, part),
             None => Ok(false),
         }
     }

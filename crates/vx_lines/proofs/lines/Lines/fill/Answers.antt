@@ -6,6 +6,6 @@ pub invariant_of-self : goal.invariant_of-self
 invariant_of-self g c =
     let inside = c.self.inside in (
       c.self.invariant.0,
-      counted c.fill.result inside.number (length (if inside.open then inside.line.items else [])) inside.input c.fill.new.self c.fill.ensures.count c.fill.ensures.err c.self.invariant.1,
+      counted c.fill.result inside.number (length (if inside.unfinished then inside.line.items else [])) inside.input c.fill.new.self c.fill.ensures.count c.fill.ensures.err c.self.invariant.1,
       c.fill.ensures.within,
     )

@@ -6,4 +6,4 @@ pub returns-clause-line : goal.returns-clause-line
 returns-clause-line c =
     let inside = c.self.inside in
     let none = ap (λ r. r.rest) c.self.view_is ∙ c.requires in
-    λ same. rw (← c.self.view_is) (last_line inside.open inside.line.items inside.input.rest c.if-not-self.false c.self.invariant.0 none (omega (arith, inside.line.ok.0, filled_is _ c.if-is_empty.ensures)), refl)
+    λ same. rw (← c.self.view_is) (last_line inside.unfinished inside.line.items inside.input.rest c.if-not-self.false c.self.invariant.0 none (omega (arith, inside.line.ok.0, filled_is _ c.if-is_empty.ensures)), refl)

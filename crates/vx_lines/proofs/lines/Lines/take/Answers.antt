@@ -7,7 +7,7 @@ use Rattle.vx_lines.proofs.lines.Lines.take.Goals as goal
 pub returns-then-len-gt-MAX_LINE_BYTES-clause-long : goal.returns-then-len-gt-MAX_LINE_BYTES-clause-long
 returns-then-len-gt-MAX_LINE_BYTES-clause-long c =
     let inside = c.self.inside in
-    let front : List ℕ = if inside.open then inside.line.items else [] in
+    let front : List ℕ = if inside.unfinished then inside.line.items else [] in
     let t = c.in_ok-found.ensures.ok in
     let line : c.take_line.new.line.items ≡ front ++ t.0 = t.2 ∙ ap (λ l. l ++ t.0) c.begin.ensures.line in
     let long : MAX_LINE_BYTES < length (front ++ t.0) = omega (arith, c.take_line.new.line.ok.0, ap length line) in
@@ -19,7 +19,7 @@ returns-then-len-gt-MAX_LINE_BYTES-clause-long c =
 pub returns-then-found-clause-line : goal.returns-then-found-clause-line
 returns-then-found-clause-line c =
     let inside = c.self.inside in
-    let front : List ℕ = if inside.open then inside.line.items else [] in
+    let front : List ℕ = if inside.unfinished then inside.line.items else [] in
     let t = c.in_ok-found.ensures.ok in
     let line : c.take_line.new.line.items ≡ front ++ t.0 = t.2 ∙ ap (λ l. l ++ t.0) c.begin.ensures.line in
     let taken = subst (λ found. TakesPiece found inside.input.rest t.0 c.take_line.new.self.rest) c.if-found.true t.1 in

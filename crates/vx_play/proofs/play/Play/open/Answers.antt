@@ -1,5 +1,5 @@
 use Rattle.std.proofs.Common.{map, sym, ap, ◌∙◌, subst, lit≤}
-use Rattle.vx_play.specs.Grounds.{AreSectors}
+use Rattle.vx_play.specs.Terrains.{AreSectors}
 use Rattle.vx_play.specs.Plays.{cells_of}
 use Rattle.vx_play.proofs.Whole.{cells_opened}
 use Rattle.vx_play.proofs.play.Play.open.Goals as goal
@@ -10,5 +10,5 @@ invariant_of-result g c =
     let cells = ap (map cells_of) c.in_ok-sectors.ensures ∙ cells_opened c.in_ok-version.version _ ∙ parts.sectors in (
       c.requires.seats,
       lit≤ tt,
-      subst (λ sizes. AreSectors sizes (map cells_of c.in_ok-sectors.sectors.items)) (sym parts.bounds) (subst (AreSectors c.args.ground.sizes) (sym cells) parts.whole),
+      subst (λ sizes. AreSectors sizes (map cells_of c.in_ok-sectors.sectors.items)) (sym parts.bounds) (subst (AreSectors c.args.terrain.sizes) (sym cells) parts.whole),
     )

@@ -2,12 +2,12 @@ use Rattle.std.proofs.Common.{◌≡◌, Some, length, set, refl, sym, ap, ◌�
 use Rattle.std.proofs.lemmas.Option.{slice_get_read}
 use Rattle.std.specs.Vec.{vec_len}
 use Rattle.vx_cells.specs.SectorCells.{with_cell}
-use Rattle.vx_play.specs.Grounds.{GroundData, with_part}
-use Rattle.vx_play.proofs.Whole.{part_is_set, part_keeps_ground}
-use Rattle.vx_play.proofs.ground.Ground.set.Goals as goal
+use Rattle.vx_play.specs.Terrains.{TerrainData, with_part}
+use Rattle.vx_play.proofs.Whole.{part_is_set, part_keeps_terrain}
+use Rattle.vx_play.proofs.terrain.Terrain.set.Goals as goal
 
--- the ground after the call
-made : (c : goal.In_ok-set) → let i = c.self.inside in let g : GroundData = record { sizes = i.bounds; sectors = i.sectors.items } in
+-- the terrain after the call
+made : (c : goal.In_ok-set) → let i = c.self.inside in let g : TerrainData = record { sizes = i.bounds; sectors = i.sectors.items } in
     with_part g c.args.p c.args.part ≡ Some (record { sizes = i.bounds; sectors = set i.sectors.items c.in-Some.number c.set.new.self })
 made c =
     let i = c.self.inside in
@@ -21,7 +21,7 @@ made c =
 pub invariant_of-self-2 : goal.invariant_of-self-2
 invariant_of-self-2 c =
     let i = c.self.inside in
-    part_keeps_ground (record { sizes = i.bounds; sectors = i.sectors.items }) _ c.args.p c.args.part c.self.invariant (made c)
+    part_keeps_terrain (record { sizes = i.bounds; sectors = i.sectors.items }) _ c.args.p c.args.part c.self.invariant (made c)
 
 pub returns-clause-set : goal.returns-clause-set
 returns-clause-set c same = rw (← c.self.view_is) (made c)

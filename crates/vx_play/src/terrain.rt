@@ -1,6 +1,6 @@
 ghost use Rattle.std.specs.Prelude.{◌≡◌, Some, None, true, false, Ok, IfOk, OnErr};
 ghost use Rattle.vx_geom.specs.Sizes.{AreSizes, sector_count};
-ghost use Rattle.vx_play.specs.Grounds.{airs, bare, with_part, IsGround};
+ghost use Rattle.vx_play.specs.Terrains.{airs, bare, with_part, IsTerrain};
 
 use std::alloc::{AllocError, Global};
 use std::marker::Model;
@@ -10,27 +10,27 @@ use vx_geom::{Bounds, Pos};
 
 /// The cells of a world before anybody plays, each sector in its place.
 #[derive(Drop)]
-pub struct Ground {
+pub struct Terrain {
     bounds: Bounds,
     sectors: Vec<Cells>,
 }
 
-impl Model for Ground {
-    ghost use Rattle.vx_play.specs.Grounds.{GroundData, AreSectors};
+impl Model for Terrain {
+    ghost use Rattle.vx_play.specs.Terrains.{TerrainData, AreSectors};
 
-    ghost Value = { GroundData };
+    ghost Value = { TerrainData };
 
     ghost view = { λ a. record { sizes = a.bounds; sectors = a.sectors.items } };
 
     ghost invariant = { λ a. AreSectors a.bounds a.sectors.items };
 }
 
-impl Ground {
+impl Terrain {
     /// A world of this size with nothing but air.
-    pub fn new(alloc: Global, bounds: Bounds) -> Result<Ground, AllocError>
-        ensures { IfOk result (λ ground. ground ≡ bare bounds) }
+    pub fn new(alloc: Global, bounds: Bounds) -> Result<Terrain, AllocError>
+        ensures { IfOk result (λ terrain. terrain ≡ bare bounds) }
     {
-        Ok(Ground {
+        Ok(Terrain {
             bounds,
             sectors: all_air(alloc, bounds)?,
         })
@@ -38,7 +38,7 @@ impl Ground {
 
     /// Sets a part at a position, in place of what was set there before. `Ok(false)` outside the
     /// world.
-    #[tactic(auto, unfolding(crate::specs::Grounds::with_part))]
+    #[tactic(auto, unfolding(crate::specs::Terrains::with_part))]
     pub fn set(&mut self, p: Pos, part: Part) -> Result<bool, AllocError>
         ensures set { result ≡ Ok true → with_part self.old p part ≡ Some self.new }
         ensures outside { result ≡ Ok false → with_part self.old p part ≡ None }
@@ -61,7 +61,7 @@ impl Ground {
     pub fn into_parts(self) -> (Bounds, Vec<Cells>)
         ensures bounds { result.0 ≡ self.sizes }
         ensures sectors { result.1.items ≡ self.sectors }
-        ensures whole { IsGround self }
+        ensures whole { IsTerrain self }
     {
         (self.bounds, self.sectors)
     }

@@ -7,7 +7,7 @@ use Rattle.vx_geom.specs.Sizes.{Sizes, AreSizes, sector_count, sector_of}
 use Rattle.vx_cells.specs.SectorCells.{SectorCells, only_air, holds, with_cell}
 
 -- the cells of a world before anybody plays: its size, and its sectors in order of their numbers
-pub record GroundData : Type 0 where
+pub record TerrainData : Type 0 where
   pub sizes : Sizes
   pub sectors : List SectorCells
 
@@ -17,19 +17,19 @@ airs sizes zero = []
 airs sizes (suc n) = airs sizes n ++ only_air sizes n ∷ []
 
 -- a world of this size with nothing but air
-abbrev pub bare : Sizes → GroundData
+abbrev pub bare : Sizes → TerrainData
 bare sizes = record { sizes = sizes; sectors = airs sizes (sector_count sizes) }
 
 -- a part set at a position of the sector of number k; none where that is no sector that holds it
-abbrev pub set_in : GroundData → Pos → Part → ℕ → Option SectorCells → Option GroundData
+abbrev pub set_in : TerrainData → Pos → Part → ℕ → Option SectorCells → Option TerrainData
 set_in g p part k None = None
 set_in g p part k (Some cells) =
     if holds cells p
     then Some (record g { sectors = slice_set g.sectors k (with_cell cells p (part_cell part)) })
     else None
 
--- the ground with a part at a position, in place of what was there; none outside the world
-unfoldable pub with_part : GroundData → Pos → Part → Option GroundData
+-- the terrain with a part at a position, in place of what was there; none outside the world
+unfoldable pub with_part : TerrainData → Pos → Part → Option TerrainData
 with_part g p part =
     option_and_then (λ k. set_in g p part k (slice_get g.sectors k)) (sector_of g.sizes p)
 
@@ -44,6 +44,6 @@ pub record AreSectors (sizes : Sizes) (cs : List SectorCells) : Type 0 where
   pub all : length cs ≡ sector_count sizes
   pub each : AreFrom sizes 0 cs
 
--- a ground has each sector of its size in its place
-abbrev pub IsGround : GroundData → Type 0
-IsGround g = AreSectors g.sizes g.sectors
+-- a terrain has each sector of its size in its place
+abbrev pub IsTerrain : TerrainData → Type 0
+IsTerrain g = AreSectors g.sizes g.sectors

@@ -1,6 +1,6 @@
 use Rattle.std.proofs.Common.{◌≡◌, length}
-use Rattle.vx_play.specs.Grounds.{airs}
-use Rattle.vx_play.proofs.ground.all_air.Given as goal
+use Rattle.vx_play.specs.Terrains.{airs}
+use Rattle.vx_play.proofs.terrain.all_air.Given as goal
 
 -- the sectors up to this number
 abbrev pub invariant-loop-number : goal.invariant-loop-number

@@ -1,8 +1,10 @@
-// Preloaded into the built program, refuses one of its calls. FAULT has the kind of call, FAULT_TURN which of them, counted from 1 (0: each of
-// them; none: no one), and FAULT_COUNT a file that gets how many there were.
+// Preloaded into the built program, refuses some of its calls. FAULT has the kind of call, FAULT_TURN which of them, counted from 1 (0: each of
+// them), FAULT_FIRST how many of the first ones (neither: no one), and FAULT_COUNT a file that gets how many there were. With FAULT_SHORT
+// each read gives one byte.
 //
 //   memory            malloc, calloc, realloc and their like answer that there is no memory
 //   read, write       standard input can't be read, standard output can't be written
+//   no-write          nothing is written, and no error told
 //   short-read, ..    one byte is read or written
 //   stopped-read, ..  a signal came first, and nothing was read or written
 
@@ -17,20 +19,23 @@ extern void *__libc_malloc(size), *__libc_calloc(size, size), *__libc_realloc(vo
 enum { READ = 0, WRITE = 1, OPEN = 2, CLOSE = 3, INTERRUPTED = 4, INPUT_OUTPUT = 5, NO_MEMORY = 12, INVALID = 22 };
 
 static const char *kind = "";
-static long turn = -1, count = 0;
+static long turn = -1, first = 0, count = 0;
+static int is_short = 0;
 
 __attribute__((constructor)) static void begin(void) {
   if (getenv("FAULT")) kind = getenv("FAULT");
   if (getenv("FAULT_TURN")) turn = strtol(getenv("FAULT_TURN"), 0, 10);
+  if (getenv("FAULT_FIRST")) first = strtol(getenv("FAULT_FIRST"), 0, 10);
+  is_short = getenv("FAULT_SHORT") != 0;
 }
 
 __attribute__((destructor)) static void end(void) {
-  char digits[24], *first = digits + 24;
+  char digits[24], *digit = digits + 24;
   const char *file = getenv("FAULT_COUNT");
   if (!file) return;
-  do *--first = '0' + count % 10; while (count /= 10);
+  do *--digit = '0' + count % 10; while (count /= 10);
   int to = syscall(OPEN, file, 01101, 0600);
-  syscall(WRITE, to, first, digits + 24 - first);
+  syscall(WRITE, to, digit, digits + 24 - digit);
   syscall(CLOSE, to);
 }
 
@@ -38,7 +43,7 @@ __attribute__((destructor)) static void end(void) {
 static int chosen(const char *call) {
   if (strcmp(kind, call)) return 0;
   count++;
-  return turn == 0 || turn == count;
+  return turn == 0 || turn == count || count <= first;
 }
 
 static long refused(int cause) { *__errno_location() = cause; return -1; }
@@ -54,12 +59,13 @@ int posix_memalign(void **to, size align, size n) { return (*to = OR_NULL(__libc
 long read(int from, void *bytes, size n) {
   if (from == 0 && chosen("read")) return refused(INPUT_OUTPUT);
   if (from == 0 && chosen("stopped-read")) return refused(INTERRUPTED);
-  return syscall(READ, from, bytes, n > 1 && from == 0 && chosen("short-read") ? 1 : n);
+  return syscall(READ, from, bytes, n > 1 && from == 0 && (is_short || chosen("short-read")) ? 1 : n);
 }
 
 long write(int to, const void *bytes, size n) {
   if (to == 1 && chosen("write")) return refused(INPUT_OUTPUT);
   if (to == 1 && chosen("stopped-write")) return refused(INTERRUPTED);
+  if (to == 1 && chosen("no-write")) return 0;
   return syscall(WRITE, to, bytes, n > 1 && to == 1 && chosen("short-write") ? 1 : n);
 }
 long __write(int to, const void *bytes, size n) { return write(to, bytes, n); }

@@ -2,10 +2,12 @@
 use std::alloc::Global;
 use std::process::Abort;
 use std::test::Fail;
-use vx_flag::{Association, Flag, Group, Setting, State};
+use vx_base::Unread;
+use vx_decide::{Decide, Plain, Rule, Verdict};
+use vx_file::read_policy;
+use vx_flag::{Action, Association, Flag, Group, Setting, State};
 use vx_geom::Pos;
 use vx_region::{Name, Region, RegionNo, RegionSet, Subject};
-use vx_script::{Fault, regions_file, run};
 
 // The text of examples/plot.toml.
 const PLOT: &str =
@@ -20,42 +22,53 @@ const MILL: &str =
 
 #[test]
 fn a_plot_of_a_regions_file(rt: HostRuntime) -> Result<(), Fail> {
-    let script =
-        "world 1 1 1\nplayer ann\nplayer bob\nplayer cyd\nas ann place 4 1 4 planks\nas bob break 4 1 4\nas bob place 4 2 4 dirt\nas cyd place 5 1 5 stone\nregion member plot-7 drop bob\ntick\nas bob place 4 3 4 dirt\nregion define plot-8 cuboid 0 0 0 1 1 1\n";
-    let replies =
-        "ok member at 1\nrefused 2 flag block-break at 1 from 1\nok member at 1\nrefused 2 member at 1\nedit 1\ntick 1\nrefused 2 member at 1\nedit 2 region 2\ndone ticks 1 calls 5\n";
-    plays(&rt, rt.alloc(), PLOT, script, replies)
+    let cases = [
+        ("ann", Action::Placing, Verdict::Permit(MEMBER)),
+        ("bob", Action::Placing, Verdict::Permit(MEMBER)),
+        ("bob", Action::Breaking, Verdict::Deny(by(Flag::BlockBreak))),
+        ("cyd", Action::Placing, Verdict::Deny(MEMBER)),
+    ];
+    decides(&rt, rt.alloc(), PLOT, &cases)
 }
 
 #[test]
 fn a_lever_at_spawn_is_free_to_all(rt: HostRuntime) -> Result<(), Fail> {
-    let script =
-        "world 2 1 1\nplayer ann\nplayer bob\nset 5 1 5 lever:down\nas bob turn 5 1 5\nas bob place 6 1 5 dirt\nas ann place 6 1 5 dirt\n";
-    let replies =
-        "ok flag use at 1 from 1\nrefused 2 member at 1\nok member at 1\ndone ticks 0 calls 3\n";
-    plays(&rt, rt.alloc(), SPAWN, script, replies)
+    let cases = [
+        ("bob", Action::Turning, Verdict::Permit(by(Flag::Usage))),
+        ("bob", Action::Placing, Verdict::Deny(MEMBER)),
+        ("ann", Action::Placing, Verdict::Permit(MEMBER)),
+    ];
+    decides(&rt, rt.alloc(), SPAWN, &cases)
 }
 
-// Runs a script on the policy of a regions file.
-fn plays(
+const MEMBER: Rule = Rule::Member { at: RegionNo(1) };
+
+fn by(flag: Flag) -> Rule {
+    let (at, from) = (RegionNo(1), RegionNo(1));
+    Rule::Flag { at, from, flag }
+}
+
+// What the policy of a file says to players at (4, 1, 4).
+fn decides(
     rt: &impl Abort,
     alloc: Global,
     file: &str,
-    script: &str,
-    replies: &str,
+    cases: &[(&str, Action, Verdict)],
 ) -> Result<(), Fail> {
-    let policy = regions_file(alloc, file.as_bytes())?;
-    let mut output = Vec::new(alloc);
-    let got = run(alloc, &mut script.as_bytes(), &mut output, policy);
-    assert_eq!(rt; got, Ok(()));
-    assert_eq!(rt; output.as_slice(), replies.as_bytes());
+    let policy = read_policy(alloc, file.as_bytes())?;
+    let decider = Plain::new(policy.regions());
+    for (name, action, verdict) in cases {
+        let player = Subject::Player(Name::read(name)?);
+        let told = decider.decide(&player, *action, Pos::new(4, 1, 4));
+        assert_eq!(rt; told, *verdict, "{name} {action:?}");
+    }
     Ok(())
 }
 
 #[test]
 fn a_file_of_all_that_can_be_said(rt: HostRuntime) -> Result<(), Fail> {
     let [ann, bob] = [Name::read("ann")?, Name::read("bob")?];
-    let policy = regions_file(rt.alloc(), MILL.as_bytes())?;
+    let policy = read_policy(rt.alloc(), MILL.as_bytes())?;
     is_mill(
         &rt,
         policy.regions(),
@@ -130,9 +143,9 @@ fn each_beginning_of_a_file_is_read_or_is_none(rt: HostRuntime) {
     refused(&rt, alloc, b"");
     for text in [SPAWN, MILL] {
         for end in 0..text.len() {
-            match regions_file(alloc, &text.as_bytes()[..end]) {
+            match read_policy(alloc, &text.as_bytes()[..end]) {
                 Ok(_) => {}
-                Err(fault) => assert_eq!(rt; fault, Fault::BadRegionFile, "{end}"),
+                Err(fault) => assert_eq!(rt; fault, Unread::Faulty, "{end}"),
             }
         }
     }
@@ -140,14 +153,14 @@ fn each_beginning_of_a_file_is_read_or_is_none(rt: HostRuntime) {
 
 fn refused(rt: &impl Abort, alloc: Global, bytes: &[u8]) {
     assert_eq!(rt;
-        regions_file(alloc, bytes).err(),
-        Some(Fault::BadRegionFile),
+        read_policy(alloc, bytes).err(),
+        Some(Unread::Faulty),
         "{bytes:?}"
     );
 }
 
 fn counts(rt: &impl Abort, alloc: Global, text: &str, regions: u32) {
-    match regions_file(alloc, text.as_bytes()) {
+    match read_policy(alloc, text.as_bytes()) {
         Ok(policy) => assert_eq!(rt; policy.regions().count(), regions, "{text}"),
         Err(fault) => panic!(rt; "{fault:?} for {text}"),
     }
@@ -304,9 +317,9 @@ fn a_file_has_a_limit(rt: HostRuntime) -> Result<(), Fail> {
 #[test]
 fn want_of_memory_is_no_bad_file(rt: HostRuntime) {
     for text in [SPAWN, MILL] {
-        match regions_file(rt.alloc(), text.as_bytes()) {
+        match read_policy(rt.alloc(), text.as_bytes()) {
             Ok(policy) => assert!(rt; policy.regions().count() > 0),
-            Err(fault) => assert_eq!(rt; fault, Fault::NoMemory),
+            Err(fault) => assert_eq!(rt; fault, Unread::NoMemory),
         }
     }
 }

@@ -17,6 +17,4 @@ mod sectors;
 #[cfg(test)]
 mod shapes;
 #[cfg(test)]
-mod streams;
-#[cfg(test)]
 mod words;

@@ -2,10 +2,10 @@
 use std::process::Abort;
 use std::test::Fail;
 use vx_decide::{Decide, Plain, Rule, Verdict};
+use vx_file::read_policy;
 use vx_flag::{Action, Flag};
 use vx_geom::Pos;
 use vx_region::{RegionNo, RegionSet, Subject};
-use vx_script::regions_file;
 
 const AT_0: Rule = Rule::Member { at: RegionNo(0) };
 
@@ -16,7 +16,7 @@ type Case = (i32, Verdict);
 
 #[test]
 fn without_regions_everything_is_permitted(rt: HostRuntime) -> Result<(), Fail> {
-    let policy = regions_file(rt.alloc(), b"version = 1")?;
+    let policy = read_policy(rt.alloc(), b"version = 1")?;
     pushes(
         &rt,
         policy.regions(),
@@ -43,7 +43,7 @@ fn a_machine_owns_what_it_stands_on(rt: HostRuntime) -> Result<(), Fail> {
             Verdict::Permit(AT_1),
         ),
     ] {
-        let policy = regions_file(rt.alloc(), file.as_bytes())?;
+        let policy = read_policy(rt.alloc(), file.as_bytes())?;
         pushes(&rt, policy.regions(), &[(8, verdict)]);
     }
     Ok(())
@@ -52,7 +52,7 @@ fn a_machine_owns_what_it_stands_on(rt: HostRuntime) -> Result<(), Fail> {
 #[test]
 fn the_world_at_large_decides_where_no_region_counts(rt: HostRuntime) -> Result<(), Fail> {
     let file = "version = 1\n[global]\npassthrough = 'deny'\n";
-    let policy = regions_file(rt.alloc(), file.as_bytes())?;
+    let policy = read_policy(rt.alloc(), file.as_bytes())?;
     pushes(
         &rt,
         policy.regions(),
@@ -66,7 +66,7 @@ fn the_world_at_large_decides_where_no_region_counts(rt: HostRuntime) -> Result<
 fn the_flag_pistons_is_asked_of_machines(rt: HostRuntime) -> Result<(), Fail> {
     let file =
         "version = 1\n[[region]]\nid = 'yard'\ncuboid = [5, 0, 0, 7, 63, 15]\n[region.flags]\npistons = 'deny owners'\n[[region]]\nid = 'lane'\ncuboid = [8, 0, 0, 9, 63, 15]\n[region.flags]\npistons = 'allow nonmembers'\nbuild = 'deny'\n";
-    let policy = regions_file(rt.alloc(), file.as_bytes())?;
+    let policy = read_policy(rt.alloc(), file.as_bytes())?;
     let cases = [
         (7, Verdict::Deny(by_pistons(1))),
         (8, Verdict::Permit(by_pistons(2))),

@@ -2,11 +2,11 @@
 use std::alloc::{AllocError, Global};
 use std::process::Abort;
 use std::test::Fail;
+use vx_file::read_policy;
 use vx_flag::{Association, Flag, Group, Setting, State};
 use vx_geom::{Pos, ShapeSpec};
 use vx_policy::{Edit, EditError, EditRefusal, Listing, Policy, Version};
 use vx_region::{Id, Name, RegionNo, RegionSet, Subject};
-use vx_script::regions_file;
 
 const PLOT: &[u8] = b"version = 1\n[[region]]\nid = 'plot'\ncuboid = [1, 0, 1, 1, 63, 1]\n";
 
@@ -22,7 +22,7 @@ fn what_a_set_of_regions_holds_is_read(rt: HostRuntime) -> Result<(), Fail> {
         Id::read("__Global__")?,
     ];
     let names = [Name::read("ann")?, Name::read("bob")?];
-    let policy = regions_file(rt.alloc(), TOWN)?;
+    let policy = read_policy(rt.alloc(), TOWN)?;
     read(&rt, policy.regions(), &ids);
     associate(&rt, policy.regions(), names);
     Ok(())
@@ -90,7 +90,7 @@ fn associate(rt: &impl Abort, regions: &RegionSet, names: [Name; 2]) {
 #[test]
 fn copies_of_a_policy_do_not_see_each_other(rt: HostRuntime) -> Result<(), Fail> {
     let alloc = rt.alloc();
-    let mut policy = regions_file(alloc, PLOT)?;
+    let mut policy = read_policy(alloc, PLOT)?;
     let copy = policy.try_clone()?;
     rise_and_fall(&rt, alloc, &mut policy, &copy)
 }
@@ -120,8 +120,8 @@ fn rise_and_fall(
 #[test]
 fn a_copy_of_a_set_of_regions_is_equal(rt: HostRuntime) -> Result<(), Fail> {
     let (plot, town) = (
-        regions_file(rt.alloc(), PLOT)?,
-        regions_file(rt.alloc(), TOWN)?,
+        read_policy(rt.alloc(), PLOT)?,
+        read_policy(rt.alloc(), TOWN)?,
     );
     let copy = town.regions().try_clone()?;
     assert!(rt; copy == *town.regions());
@@ -133,8 +133,8 @@ fn a_copy_of_a_set_of_regions_is_equal(rt: HostRuntime) -> Result<(), Fail> {
 #[test]
 fn a_copy_of_an_edit_does_the_same(rt: HostRuntime) -> Result<(), Fail> {
     let alloc = rt.alloc();
-    let mut policy = regions_file(alloc, PLOT)?;
-    let mut twin = regions_file(alloc, PLOT)?;
+    let mut policy = read_policy(alloc, PLOT)?;
+    let mut twin = read_policy(alloc, PLOT)?;
     for kind in 0..11 {
         twins(&rt, alloc, &mut policy, &mut twin, kind)?;
     }
@@ -200,7 +200,7 @@ fn versions_differ_in_each_part(rt: HostRuntime) -> Result<(), Fail> {
 }
 
 fn version(alloc: Global, tick: u64, edits: u64, file: &[u8]) -> Result<Version, Fail> {
-    let policy = regions_file(alloc, file)?;
+    let policy = read_policy(alloc, file)?;
     Ok(Version {
         tick,
         edits,

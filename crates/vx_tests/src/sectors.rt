@@ -7,10 +7,10 @@ use std::test::Fail;
 use vx_block::{Cell, Part};
 use vx_cells::Cells;
 use vx_decide::Rule;
+use vx_file::read_policy;
 use vx_geom::{Bounds, Dir, Pos};
 use vx_policy::{Policy, Version};
 use vx_region::{Name, RegionNo};
-use vx_script::regions_file;
 use vx_sector::{Cmd, Entry, Fresh, Refusal, Reply, Seat, Sector};
 
 // What a command is answered.
@@ -63,7 +63,7 @@ fn stays(rt: &impl Abort, alloc: Global, cell: &Cell) -> Result<(), Fail> {
 #[test]
 fn a_window_is_judged_by_its_version(rt: HostRuntime) -> Result<(), Fail> {
     let file = b"version = 1\n[[region]]\nid = 'home'\ncuboid = [6, 0, 5, 6, 63, 5]\n";
-    let policy = regions_file(rt.alloc(), file)?;
+    let policy = read_policy(rt.alloc(), file)?;
     let mut sector = opened(&rt, rt.alloc(), Cell::Stone, policy)?;
     let bob = bob()?;
     let refused = [

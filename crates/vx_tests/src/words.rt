@@ -8,25 +8,7 @@ use vx_flag::Flag;
 use vx_geom::{BadShape, Dir};
 use vx_policy::{EditError, EditRefusal};
 use vx_region::{BadId, BadName, Id, Name, RegionNo};
-use vx_script::Fault;
 use vx_sector::Refusal;
-
-#[test]
-fn each_fault_has_its_words_and_its_status(rt: HostRuntime) -> Result<(), Fail> {
-    for (fault, words, status) in [
-        (Fault::HistoryFull, "fault 13 history", 1),
-        (Fault::NoMemory, "fault 14 memory", 2),
-        (Fault::TooManyPlayers, "fault 29 players", 1),
-        (Fault::Syntax(4), "fault 40 line 4", 1),
-        (Fault::BadRegionFile, "fault 41 regions file", 1),
-        (Fault::ReadFailed, "fault 42 read", 1),
-        (Fault::WriteFailed, "fault 43 write", 1),
-    ] {
-        assert_eq!(rt; fault.to_string(rt.alloc())?.as_str(), words);
-        assert_eq!(rt; fault.status(), status, "{words}");
-    }
-    Ok(())
-}
 
 #[test]
 fn refusals_that_no_script_meets_have_their_words(rt: HostRuntime) -> Result<(), Fail> {

@@ -177,7 +177,7 @@ fn a_copy_is_the_same_until_one_changes(rt: HostRuntime) -> Result<(), Fail> {
     let mut cells = sector(rt.alloc(), 0)?;
     put(&rt, &mut cells, Pos::new(3, 4, 5), Cell::Chest)?;
     let mut copy = cells.try_clone()?;
-    assert!(rt; cells.same(&copy));
+    assert!(rt; cells == copy);
     for (slot, count) in [(5, 3), (5, 4), (6, 3)] {
         fill_both(&rt, &mut cells, &mut copy, Pos::new(3, 4, 5), slot, count);
     }
@@ -189,17 +189,17 @@ fn a_copy_is_the_same_until_one_changes(rt: HostRuntime) -> Result<(), Fail> {
 
 fn fill_both(rt: &impl Abort, cells: &mut Cells, copy: &mut Cells, p: Pos, slot: u8, count: u8) {
     fill(rt, copy, p, slot, count);
-    assert!(rt; !cells.same(copy));
+    assert!(rt; *cells != *copy);
     fill(rt, cells, p, slot, count);
-    assert!(rt; cells.same(copy));
+    assert!(rt; *cells == *copy);
 }
 
 fn put_both(rt: &impl Abort, cells: &mut Cells, copy: &mut Cells, p: Pos, cell: Cell) {
     let again = cell;
     assert!(rt; put(rt, cells, p, cell).is_ok());
-    assert!(rt; !cells.same(copy));
+    assert!(rt; *cells != *copy);
     assert!(rt; put(rt, copy, p, again).is_ok());
-    assert!(rt; cells.same(copy));
+    assert!(rt; *cells == *copy);
 }
 
 #[test]
@@ -208,8 +208,8 @@ fn sectors_of_two_numbers_or_sizes_differ(rt: HostRuntime) -> Result<(), Fail> {
     let east = sector(rt.alloc(), 1)?;
     let bounds = Bounds::new(3, 1, 1).ok_or("no bounds")?;
     let longer = Cells::new(rt.alloc(), bounds, 0)?;
-    assert!(rt; west.same(&west));
-    assert!(rt; !west.same(&east));
-    assert!(rt; !west.same(&longer));
+    assert!(rt; west == west);
+    assert!(rt; west != east);
+    assert!(rt; west != longer);
     Ok(())
 }

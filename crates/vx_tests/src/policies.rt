@@ -101,10 +101,10 @@ fn rise_and_fall(
     policy: &mut Policy,
     copy: &Policy,
 ) -> Result<(), Fail> {
-    assert!(rt; policy.same(copy));
+    assert!(rt; *policy == *copy);
     let rise = Edit::Priority(String::from_str(alloc, "PLOT")?, 1);
     assert_eq!(rt; policy.apply(alloc, rise), Ok(None));
-    assert!(rt; !policy.same(copy));
+    assert!(rt; *policy != *copy);
     let cycle = Edit::Parent(
         String::from_str(alloc, "plot")?,
         Some(String::from_str(alloc, "plot")?),
@@ -113,7 +113,7 @@ fn rise_and_fall(
     assert_eq!(rt; policy.apply(alloc, cycle), refused);
     let fall = Edit::Priority(String::from_str(alloc, "plot")?, 0);
     assert_eq!(rt; policy.apply(alloc, fall), Ok(None));
-    assert!(rt; policy.same(copy));
+    assert!(rt; *policy == *copy);
     Ok(())
 }
 
@@ -151,9 +151,9 @@ fn twins(
     let (edit, answer) = one(alloc, kind)?;
     let copy = edit.try_clone(alloc)?;
     assert_eq!(rt; policy.apply(alloc, edit), Ok(answer), "{kind}");
-    assert!(rt; !policy.same(twin), "{kind}");
+    assert!(rt; *policy != *twin, "{kind}");
     assert_eq!(rt; twin.apply(alloc, copy), Ok(answer), "{kind}");
-    assert!(rt; policy.same(twin), "{kind}");
+    assert!(rt; *policy == *twin, "{kind}");
     Ok(())
 }
 
@@ -191,10 +191,10 @@ fn one(alloc: Global, kind: u8) -> Result<(Edit, Option<RegionNo>), AllocError> 
 fn versions_differ_in_each_part(rt: HostRuntime) -> Result<(), Fail> {
     let first = version(rt.alloc(), 1, 0, PLOT)?;
     let copy = first.try_clone()?;
-    assert!(rt; first.same(&copy));
+    assert!(rt; first == copy);
     for (tick, edits, file) in [(2, 0, PLOT), (1, 1, PLOT), (1, 0, TOWN)] {
         let other = version(rt.alloc(), tick, edits, file)?;
-        assert!(rt; !first.same(&other));
+        assert!(rt; first != other);
     }
     Ok(())
 }

@@ -90,13 +90,13 @@ fn judged_anew(rt: &impl Abort, sector: &mut Sector, calls: &[Entry]) {
         (sector.closed(), sector.count(), sector.version().tick),
         (2, 2, 2)
     );
-    assert!(rt; sector.base().same(sector.cells()));
+    assert!(rt; *sector.base() == *sector.cells());
     play(rt, sector, calls);
     assert_eq!(rt;
         (sector.closed(), sector.count(), sector.version().tick),
         (2, 3, 2)
     );
-    assert!(rt; !sector.base().same(sector.cells()));
+    assert!(rt; *sector.base() != *sector.cells());
 }
 
 // Gives the commands one after another, compares the answers, and finds them in the record.

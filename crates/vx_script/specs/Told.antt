@@ -31,6 +31,14 @@ pub record IsOwn (fault : Fault) : Type 0 where
 abbrev pub IsOfRun : Fault → Type 0
 IsOfRun fault = fault ≢ BadRegionFile
 
+-- the fault is one of a step that reads nothing
+abbrev pub IsOfReply : Fault → Type 0
+IsOfReply fault = (fault ≢ BadRegionFile) × (fault ≢ ReadFailed)
+
+-- the fault is one of a step that reads nothing and writes nothing
+abbrev pub IsOfOpening : Fault → Type 0
+IsOfOpening fault = (fault ≢ BadRegionFile) × (fault ≢ ReadFailed) × (fault ≢ WriteFailed)
+
 -- a call that went well wrote what is told, and no fault is told
 abbrev pub Tells : {X : Type 0} → Option (List ℕ) → Option (List ℕ) → Result X Fault → Told → Type 0
 Tells old new result told = OnOk result (Appends old new told.text × (told.fault ≡ None))

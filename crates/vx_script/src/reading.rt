@@ -41,7 +41,7 @@ pub fn next_line<R: Read, W: Write>(
         × Keeps (W.contents writer.old) (W.contents writer.new)
         × IfSome (prepend_known (pending lines.old) (R.remaining reader.old))
         (IsNextLong MAX_LINE_BYTES) }
-    ensures file { IfErr result IsOfRun }
+    ensures fault { IfErr result IsOfRun }
 {
     'pieces: for _ in 0..u64::MAX {
         match lines.take() {

@@ -6,7 +6,7 @@ ghost use Rattle.vx_lines.specs.Reading.{pending};
 ghost use Rattle.vx_lines.specs.declared.input.TheConstants.{MAX_SCRIPT_BYTES};
 ghost use Rattle.vx_region.specs.Regions.{Regions};
 ghost use Rattle.vx_script.specs.Known.{Goes, KeepsSize, IsWithin};
-ghost use Rattle.vx_script.specs.Told.{IsOwn, IsOfRun, Tells, Faults, faulted};
+ghost use Rattle.vx_script.specs.Told.{IsOwn, IsOfRun, IsOfReply, Tells, Faults, faulted};
 ghost use Rattle.vx_script.specs.Transcript.{body_run, header_end, header_run, run_from, transcript};
 
 use crate::body::{finish, take_line};
@@ -58,7 +58,7 @@ fn run_script<J: Naming, R: Read, W: Write>(
         Faults (W.contents writer.old) (W.contents writer.new) result (transcript J.first script)) }
     ensures within { OnOk result (IfSome (R.remaining reader.old)
         (λ script. length script ≤ MAX_SCRIPT_BYTES)) }
-    ensures file { IfErr result IsOfRun }
+    ensures fault { IfErr result IsOfRun }
 {
     let mut lines = Lines::new(alloc)?;
     let mut header = Header::new(alloc);
@@ -98,7 +98,7 @@ fn read_header<R: Read, W: Write>(
     ensures size { IfOk result (λ _.
         KeepsSize lines.old (R.remaining reader.old) lines.new (R.remaining reader.new)) }
     ensures within { result ≡ Ok None → IsWithin lines.old (R.remaining reader.old) }
-    ensures file { IfErr result IsOfRun }
+    ensures fault { IfErr result IsOfRun }
 {
     'header_lines: while next_line(lines, reader, writer)? {
         let line = read_of(alloc, lines.line())?;
@@ -124,7 +124,7 @@ fn end_header<J: Naming, W: Write>(
         (header_end J.first header number) }
     ensures err { Faults (W.contents writer.old) (W.contents writer.new) result
         (header_end J.first header number) }
-    ensures file { IfErr result IsOfRun }
+    ensures fault { IfErr result IsOfReply }
 {
     if !header.is_peopled() {
         return Ok(());
@@ -151,7 +151,7 @@ fn run_body<J: Naming, R: Read, W: Write>(
         Faults (W.contents writer.old) (W.contents writer.new) result
         (run_from J.first header lines.old.number (said first) (lines_of rest))) }
     ensures within { OnOk result (IsWithin lines.old (R.remaining reader.old)) }
-    ensures file { IfErr result IsOfRun }
+    ensures fault { IfErr result IsOfRun }
 {
     let mut play = header.begin::<J>(alloc, policy, lines.number())?;
     take_line(&mut play, alloc, Some(first), lines.number(), writer)?;
@@ -173,7 +173,7 @@ fn read_body<J: Naming, R: Read, W: Write>(
         Faults (W.contents writer.old) (W.contents writer.new) result
         (body_run play.old (lines.old.number + 1) (lines_of bytes))) }
     ensures within { OnOk result (IsWithin lines.old (R.remaining reader.old)) }
-    ensures file { IfErr result IsOfRun }
+    ensures fault { IfErr result IsOfRun }
 {
     'body_lines: while next_line(lines, reader, writer)? {
         let line = read_of(alloc, lines.line())?;

@@ -23,7 +23,8 @@ use vx_play::Play;
 use vx_policy::Policy;
 
 /// Runs a script: reads it to its end and writes the reply to each of its lines as it is read, then
-/// the last line. A fault ends the run; what was replied before it has been written out.
+/// the last line. A fault ends the run; what was replied before it has been written out. A script
+/// of more than 16,777,216 bytes always ends in a fault, and none ends in that of a regions file.
 pub fn run<R: Read, W: Write>(
     alloc: Global,
     reader: &mut R,

@@ -77,7 +77,7 @@ impl Lines {
     }
 
     /// Takes the next line. `Ok(false)` where its end was not read yet: then all that was read is
-    /// taken, and [`Lines::fill`] reads on. After an error it is not said what is left of the lines.
+    /// taken, and [`Lines::fill`] reads on. After an error nothing is said of what is left.
     pub fn take(&mut self) -> Result<bool, LineError>
         ensures line { result ≡ Ok true → (more : List ℕ)
             → lines_of (pending self.old ++ more)

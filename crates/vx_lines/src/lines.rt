@@ -77,11 +77,12 @@ impl Lines {
     }
 
     /// Takes the next line. `Ok(false)` where its end was not read yet: then all that was read is
-    /// taken, and [`Lines::fill`] reads on. After an error nothing is said of the lines.
+    /// taken, and [`Lines::fill`] reads on. After an error nothing is said of what is left.
     pub fn take(&mut self) -> Result<bool, LineError>
         ensures line { result ≡ Ok true → (more : List ℕ)
             → lines_of (pending self.old ++ more)
             ≡ self.new.line ∷ lines_of (pending self.new ++ more) }
+        ensures bytes { self.new.bytes ≡ self.old.bytes }
         ensures number { result ≡ Ok true → self.new.number ≡ self.old.number + 1 }
         ensures wanting { result ≡ Ok false → (pending self.new ≡ pending self.old)
             × (self.new.rest ≡ []) × (self.new.number ≡ self.old.number) }
@@ -108,7 +109,8 @@ impl Lines {
         requires { self.old.rest ≡ [] }
         ensures read { OnOk result ((bytes : List ℕ)
             × Consumes (R.remaining reader.old) (R.remaining reader.new) bytes
-            × (pending self.new ≡ pending self.old ++ bytes)) }
+            × (pending self.new ≡ pending self.old ++ bytes)
+            × (self.new.bytes ≡ self.old.bytes + length bytes)) }
         ensures number { self.new.number ≡ self.old.number }
         ensures end { result ≡ Ok false → (self.new.rest ≡ []) × IsAtEnd (R.remaining reader.new) }
     {
@@ -123,7 +125,9 @@ impl Lines {
             × (self.new.number ≡ self.old.number + 1) }
         ensures end { result ≡ false
             → (pending self.old ≡ []) × (self.new.number ≡ self.old.number) }
-        ensures within { self.new.number ≤ MAX_SCRIPT_BYTES }
+        ensures bytes { self.new.bytes ≡ self.old.bytes }
+        ensures within { (self.new.number ≤ MAX_SCRIPT_BYTES)
+            × (self.new.bytes ≤ MAX_SCRIPT_BYTES) }
         ensures all { result ≡ true → pending self.new ≡ [] }
     {
         if !self.unfinished || self.line.is_empty() {

@@ -26,24 +26,42 @@ fault_of told = told.fault
 
 -- the fault is at the first line
 at_once : (run : List (List ℕ) → Told) (n k : ℕ) (line : List ℕ) (lines : List (List ℕ)) → k ≡ n → ((j : ℕ) → (run []).fault ≢ Some (Syntax j))
-    → IsFirstFault run n (line ∷ lines) k
-at_once run n k line lines same sound = record { before = []; faulty = line; behind = lines; parts = refl; number = omega (arith, same); sound = sound }
+    → ((more : List (List ℕ)) → run (line ∷ more) ≡ faulted (Syntax n)) → IsFirstFault run n (line ∷ lines) k
+at_once run n k line lines same sound stops = record {
+  before = [];
+  faulty = line;
+  behind = lines;
+  parts = refl;
+  number = omega (arith, same);
+  sound = sound;
+  whatever = λ more. ap fault_of (stops more) ∙ ap (λ m. Some (Syntax m)) (sym same);
+}
 
 -- the fault is further on
 further_on : (run next : List (List ℕ) → Told) (n k : ℕ) (line : List ℕ) (lines : List (List ℕ)) → IsFirstFault next (n + 1) lines k
-    → ((before : List (List ℕ)) (j : ℕ) → (run (line ∷ before)).fault ≡ Some (Syntax j) → (next before).fault ≡ Some (Syntax j)) → IsFirstFault run n (line ∷ lines) k
+    → ((more : List (List ℕ)) → (run (line ∷ more)).fault ≡ (next more).fault) → IsFirstFault run n (line ∷ lines) k
 further_on run next n k line lines first same = record {
   before = line ∷ first.before;
   faulty = first.faulty;
   behind = first.behind;
   parts = ap (λ ls. line ∷ ls) first.parts;
   number = omega (arith, first.number);
-  sound = λ j fault. first.sound j (same first.before j fault);
+  sound = λ j fault. first.sound j (sym (same first.before) ∙ fault);
+  whatever = λ more. same (first.before ++ first.faulty ∷ more) ∙ first.whatever more;
 }
 
 module _ (play : PlayData) (n : ℕ) (line : List ℕ) (lines : List (List ℕ)) (k : ℕ) where
   body_done : (j : ℕ) → (body_run play n []).fault ≢ Some (Syntax j)
   body_done j fault = cc
+
+  -- the line is read as it says
+  body_reads : (said : Option Said) → read_of line ≡ said → (more : List (List ℕ)) → body_run play n (line ∷ more) ≡ body_told play n said (λ next. body_run next (n + 1) more)
+  body_reads said reads more = ap (λ said. body_told play n said (λ next. body_run next (n + 1) more)) reads
+
+  -- the line is faulty
+  body_stops : (said : Option Said) → read_of line ≡ said → ((go : PlayData → Told) → body_told play n said go ≡ faulted (Syntax n)) → k ≡ n
+      → IsFirstFault (body_run play n) n (line ∷ lines) k
+  body_stops said reads stops same = at_once _ n k line lines same body_done (λ more. body_reads said reads more ∙ stops _)
 
   -- what follows a line faults at its first faulty line
   Later : Type 0
@@ -56,7 +74,7 @@ module _ (play : PlayData) (n : ℕ) (line : List ℕ) (lines : List (List ℕ))
   unfolding Later
   goes_on said reads text next steps later fault =
       further_on _ (body_run next (n + 1)) n k line lines (later next (sym (ap fault_of (steps _)) ∙ fault))
-      (λ before j at. sym (ap fault_of (steps _)) ∙ sym (ap (λ said. (body_told play n said (λ next. body_run next (n + 1) before)).fault) reads) ∙ at)
+      (λ more. ap fault_of (body_reads (Some said) reads more ∙ steps _))
 
   -- a command
   act_line : (name : List ℕ) (cmd : Cmd) → read_of line ≡ Some (Act name cmd) → Later
@@ -66,7 +84,7 @@ module _ (play : PlayData) (n : ℕ) (line : List ℕ) (lines : List (List ℕ))
     where
       by : (seat : Option SeatData) → seat_named play name ≡ seat → (or_syntax n seat (command_told play cmd (λ next. body_run next (n + 1) lines))).fault ≡ Some (Syntax k)
           → IsFirstFault (body_run play n) n (line ∷ lines) k
-      by None none at = at_once _ n k line lines (cc) body_done
+      by None none at = body_stops (Some (Act name cmd)) reads (λ go. ap (λ o. or_syntax n o (command_told play cmd go)) none) (cc)
       by (Some seat) found at = told (is_history (answered play seat cmd).0) refl at
         where
           told : (full : Bool) → is_history (answered play seat cmd).0 ≡ full
@@ -109,13 +127,13 @@ module _ (play : PlayData) (n : ℕ) (line : List ℕ) (lines : List (List ℕ))
   body_line : (said : Option Said) → read_of line ≡ said → Later
       → (body_told play n said (λ next. body_run next (n + 1) lines)).fault ≡ Some (Syntax k) → IsFirstFault (body_run play n) n (line ∷ lines) k
   unfolding body_told Later
-  body_line None reads later fault = at_once _ n k line lines (cc) body_done
+  body_line None reads later fault = body_stops None reads (λ go. refl) (cc)
   body_line (Some Nothing) reads later fault =
       further_on _ (body_run play (n + 1)) n k line lines (later play fault)
-      (λ before j at. sym (ap (λ said. (body_told play n said (λ next. body_run next (n + 1) before)).fault) reads) ∙ at)
-  body_line (Some (World sizes)) reads later fault = at_once _ n k line lines (cc) body_done
-  body_line (Some (Player name)) reads later fault = at_once _ n k line lines (cc) body_done
-  body_line (Some (Set p part)) reads later fault = at_once _ n k line lines (cc) body_done
+      (λ more. ap fault_of (body_reads (Some Nothing) reads more))
+  body_line (Some (World sizes)) reads later fault = body_stops (Some (World sizes)) reads (λ go. refl) (cc)
+  body_line (Some (Player name)) reads later fault = body_stops (Some (Player name)) reads (λ go. refl) (cc)
+  body_line (Some (Set p part)) reads later fault = body_stops (Some (Set p part)) reads (λ go. refl) (cc)
   body_line (Some (Act name cmd)) reads later fault = act_line name cmd reads later fault
   body_line (Some (Region e)) reads later fault = region_line e reads later fault
   body_line (Some Tick) reads later fault = tick_line reads later fault
@@ -146,6 +164,16 @@ end_sound rs o n k fault = by (is_peopled o) refl fault
     by false empty at = cc
 
 module _ (rs : Regions) (o : Opening) (n : ℕ) (line : List ℕ) (lines : List (List ℕ)) (k : ℕ) where
+  -- the line is read as it says
+  header_reads : (said : Option Said) → read_of line ≡ said → (more : List (List ℕ))
+      → header_run rs o n (line ∷ more) ≡ header_told rs o n said (λ next. header_run rs next (n + 1) more) (λ play. body_run play n (line ∷ more))
+  header_reads said reads more = ap (λ read. header_told rs o n read (λ next. header_run rs next (n + 1) more) (λ play. body_run play n (line ∷ more))) reads
+
+  -- the line is faulty
+  header_stops : (said : Option Said) → read_of line ≡ said → ((go : Opening → Told) (body : PlayData → Told) → header_told rs o n said go body ≡ faulted (Syntax n)) → k ≡ n
+      → IsFirstFault (header_run rs o n) n (line ∷ lines) k
+  header_stops said reads stops same = at_once _ n k line lines same (λ j. end_sound rs o n j) (λ more. header_reads said reads more ∙ stops _ _)
+
   -- a line that the header takes, and what follows it
   header_on : (said : Said) → read_of line ≡ Some said
       → ((go : Opening → Told) (body : PlayData → Told) → header_told rs o n (Some said) go body ≡ or_syntax n (header_after o said) go)
@@ -155,13 +183,10 @@ module _ (rs : Regions) (o : Opening) (n : ℕ) (line : List ℕ) (lines : List 
     where
       by : (next : Option Opening) → header_after o said ≡ next → (or_syntax n next (λ next. header_run rs next (n + 1) lines)).fault ≡ Some (Syntax k)
           → IsFirstFault (header_run rs o n) n (line ∷ lines) k
-      by None none at = at_once _ n k line lines (cc) (λ j. end_sound rs o n j)
+      by None none at = header_stops (Some said) reads (λ go body. steps go body ∙ ap (λ a. or_syntax n a go) none) (cc)
       by (Some next) taken at =
           further_on _ (header_run rs next (n + 1)) n k line lines (later next at)
-          (λ before j fault. sym (ap fault_of (ap (λ read. header_told rs o n read (λ next. header_run rs next (n + 1) before) (λ play. body_run play n (line ∷ before))) reads
-          ∙ steps (λ next. header_run rs next (n + 1) before) (λ play. body_run play n (line ∷ before))
-          ∙ ap (λ a. or_syntax n a (λ next. header_run rs next (n + 1) before)) taken))
-          ∙ fault)
+          (λ more. ap fault_of (header_reads (Some said) reads more ∙ steps _ _ ∙ ap (λ a. or_syntax n a (λ next. header_run rs next (n + 1) more)) taken))
 
   -- a fault of the body is one of the script, where the header hands it the first command
   handed_on : (play : PlayData) → ((before : List (List ℕ)) → header_run rs o n (line ∷ before) ≡ body_run play n (line ∷ before))
@@ -173,25 +198,32 @@ module _ (rs : Regions) (o : Opening) (n : ℕ) (line : List ℕ) (lines : List 
     parts = first.parts;
     number = first.number;
     sound = λ j. sound first.before j first.parts (first.sound j);
+    whatever = λ more. whatever first.before more first.parts ∙ first.whatever more;
   }
     where
+      begins : (own : List ℕ) (before : List (List ℕ)) → line ≡ own → (header_run rs o n (own ∷ before)).fault ≡ (body_run play n (own ∷ before)).fault
+      begins own before is = ap fault_of (subst (λ l. header_run rs o n (l ∷ before) ≡ body_run play n (l ∷ before)) is (same before))
+
       sound : (before : List (List ℕ)) (j : ℕ) → line ∷ lines ≡ before ++ first.faulty ∷ first.behind → (body_run play n before).fault ≢ Some (Syntax j) → (header_run rs o n before).fault ≢ Some (Syntax j)
       sound [] j parts runs fault = end_sound rs o n j fault
-      sound (own ∷ before) j parts runs fault =
-          let own_is : line ≡ own = cc in
-          runs (sym (ap fault_of (subst (λ l. header_run rs o n (l ∷ before) ≡ body_run play n (l ∷ before)) own_is (same before))) ∙ fault)
+      sound (own ∷ before) j parts runs fault = let is : line ≡ own = cc in runs (sym (begins own before is) ∙ fault)
+
+      whatever : (before more : List (List ℕ)) → line ∷ lines ≡ before ++ first.faulty ∷ first.behind
+          → (header_run rs o n (before ++ first.faulty ∷ more)).fault ≡ (body_run play n (before ++ first.faulty ∷ more)).fault
+      whatever [] more parts = let is : line ≡ first.faulty = cc in begins first.faulty more is
+      whatever (own ∷ before) more parts = let is : line ≡ own = cc in begins own (before ++ first.faulty ∷ more) is
 
   -- the first line of the body: the body faults from there on
   header_last : (said : Said) (may_stand : Bool) → read_of line ≡ Some said
       → ((go : Opening → Told) (body : PlayData → Told) → header_told rs o n (Some said) go body ≡ first_line rs o n may_stand body)
       → (first_line rs o n may_stand (λ play. body_run play n (line ∷ lines))).fault ≡ Some (Syntax k) → IsFirstFault (header_run rs o n) n (line ∷ lines) k
   unfolding begun
-  header_last said false reads steps fault = at_once _ n k line lines (cc) (λ j. end_sound rs o n j)
+  header_last said false reads steps fault = header_stops (Some said) reads steps (cc)
   header_last said true reads steps fault = by o.terrain refl fault
     where
       by : (terrain : Option TerrainData) → o.terrain ≡ terrain → (begun_on rs o n (λ play. body_run play n (line ∷ lines)) terrain).fault ≡ Some (Syntax k)
           → IsFirstFault (header_run rs o n) n (line ∷ lines) k
-      by None none at = at_once _ n k line lines (cc) (λ j. end_sound rs o n j)
+      by None none at = header_stops (Some said) reads (λ go body. steps go body ∙ ap (begun_on rs o n body) none) (cc)
       by (Some terrain) there at = seated (nat_lt most_players (length o.names)) refl at
         where
           seated : (many : Bool) → nat_lt most_players (length o.names) ≡ many
@@ -201,8 +233,8 @@ module _ (rs : Regions) (o : Opening) (n : ℕ) (line : List ℕ) (lines : List 
           seated false few at = handed_on (opened rs terrain o.names) same (body_fault (opened rs terrain o.names) n (line ∷ lines) k at)
             where
               same : (before : List (List ℕ)) → header_run rs o n (line ∷ before) ≡ body_run (opened rs terrain o.names) n (line ∷ before)
-              same before = ap (λ read. header_told rs o n read (λ next. header_run rs next (n + 1) before) (λ play. body_run play n (line ∷ before))) reads
-                  ∙ steps (λ next. header_run rs next (n + 1) before) (λ play. body_run play n (line ∷ before))
+              same before = header_reads (Some said) reads before
+                  ∙ steps _ _
                   ∙ ap (begun_on rs o n (λ play. body_run play n (line ∷ before))) there
                   ∙ ap (λ b. if b then faulted TooManyPlayers else body_run (opened rs terrain o.names) n (line ∷ before)) few
 
@@ -210,7 +242,7 @@ module _ (rs : Regions) (o : Opening) (n : ℕ) (line : List ℕ) (lines : List 
       → ((next : Opening) → (header_run rs next (n + 1) lines).fault ≡ Some (Syntax k) → IsFirstFault (header_run rs next (n + 1)) (n + 1) lines k)
       → (header_told rs o n said (λ next. header_run rs next (n + 1) lines) (λ play. body_run play n (line ∷ lines))).fault ≡ Some (Syntax k) → IsFirstFault (header_run rs o n) n (line ∷ lines) k
   unfolding header_told
-  header_line None reads later fault = at_once _ n k line lines (cc) (λ j. end_sound rs o n j)
+  header_line None reads later fault = header_stops None reads (λ go body. refl) (cc)
   header_line (Some Nothing) reads later fault = header_on Nothing reads (λ go body. refl) later fault
   header_line (Some (World sizes)) reads later fault = header_on (World sizes) reads (λ go body. refl) later fault
   header_line (Some (Player name)) reads later fault = header_on (Player name) reads (λ go body. refl) later fault

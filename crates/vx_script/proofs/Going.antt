@@ -1,7 +1,7 @@
 -- A fact of what was left to read and is left now, as one more line is read.
 use Rattle.std.proofs.Common.{◌≡◌, ℕ, ◌<◌, List, [], ◌∷◌, Option, Some, None, Result, Err, OnOk, IfSome, ◌++◌, length, ap, sym, ◌∙◌, subst, append-nil}
 use Rattle.std.specs.Io.KnownBytes.{Keeps, Appends, IsAtEnd, prepend_known}
-use Rattle.std.proofs.KnownBytes.{prepend_known-nil, Appends-trans}
+use Rattle.std.proofs.KnownBytes.{Appends-trans}
 use Rattle.vx_script.specs.declared.fault.Fault.{Fault}
 use Rattle.vx_script.specs.Known.{Goes}
 use Rattle.vx_script.specs.Told.{Told, IsOwn, Tells, Faults, only, faulted, prepend}
@@ -71,10 +71,6 @@ module _ (start before : Option (List ℕ)) (Fact : List ℕ → List ℕ → Ty
 pub if_known : {X : Type 0} (known : Option X) (Fact Last : X → Type 0) → IfSome known Fact → ((x : X) → Fact x → Last x) → IfSome known Last
 if_known None Fact Last fact step = tt
 if_known (Some x) Fact Last fact step = step x fact
-
--- with nothing taken yet, what is left to read is what the reader has left
-pub at_start : (input : List ℕ) (known : Option (List ℕ)) → input ≡ [] → prepend_known input known ≡ known
-at_start input known none = rw none (prepend_known-nil known)
 
 -- a fact of all bytes is one of those that are known
 pub of_known : (known : Option (List ℕ)) (Last : List ℕ → Type 0) → ((bytes : List ℕ) → Last bytes) → IfSome known Last

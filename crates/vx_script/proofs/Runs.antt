@@ -1,8 +1,10 @@
 -- What one more line does to the runs of the header and of the body.
-use Rattle.std.proofs.Common.{◌≡◌, ℕ, ◌+◌, ◌<◌, true, List, [], ◌∷◌, ◌++◌, length, Option, Some, None, if◌then◌else◌, ap, sym, ◌∙◌, append_assoc}
+use Rattle.std.proofs.Common.{◌≡◌, ℕ, ◌+◌, ◌<◌, true, List, [], ◌∷◌, ◌++◌, length, Option, Some, None, IfSome, if◌then◌else◌, ap, sym, ◌∙◌, subst, append_assoc}
+use Rattle.std.specs.Io.KnownBytes.{prepend_known}
 use Rattle.std.proofs.lemmas.Bool.{lt-ltb}
 use Rattle.vx_grammar.specs.ScriptLines.{Said, line_of}
 use Rattle.vx_lines.specs.Lines.{lines_of}
+use Rattle.vx_lines.specs.Reading.{Reading, pending, no_line}
 use Rattle.vx_play.specs.Plays.{PlayData}
 use Rattle.vx_region.specs.Regions.{Regions}
 use Rattle.vx_script.specs.declared.fault.Fault.{Fault}
@@ -69,10 +71,17 @@ module _ (rs : Regions) (o : Opening) (n : ℕ) (line : List ℕ) (lines : List 
         ∙ ap (λ m. begun rs o m (λ play. body_run play n (line ∷ lines))) same
         ∙ ap (λ read. begun rs o n (λ play. body_told play n read (λ next. body_run next (n + 1) lines))) (sym reads ∙ is)
 
--- a script runs from its first line with nothing said yet
-pub script_runs : (rs : Regions) (script : List ℕ) (o : Opening) (n : ℕ) → o ≡ no_opening → n ≡ 0 → transcript rs script ≡ header_run rs o (n + 1) (lines_of script)
+-- a fact of what these bytes tell from here on
+abbrev pub ToldFrom : Regions → Reading → Opening → (Told → Type 0) → List ℕ → Type 0
+ToldFrom rs lines o Fact bytes = Fact (header_run rs o (lines.number + 1) (lines_of bytes))
+
+-- what all that is left to read tells is what the script tells, where nothing was read and nothing said yet
+pub from_start : (rs : Regions) (lines : Reading) (o : Opening) (known : Option (List ℕ)) (Fact : Told → Type 0) → lines ≡ no_line → o ≡ no_opening
+    → IfSome (prepend_known (pending lines) known) (ToldFrom rs lines o Fact) → IfSome known (λ script. Fact (transcript rs script))
 unfolding transcript
-script_runs rs script o n nothing none = ap (λ p. header_run rs p 1 (lines_of script)) (sym nothing) ∙ ap (λ k. header_run rs o (k + 1) (lines_of script)) (sym none)
+from_start rs lines o None Fact unread nothing fact = tt
+from_start rs lines o (Some script) Fact unread nothing fact =
+    subst (λ p. Fact (header_run rs p 1 (lines_of script))) nothing (subst (λ (l : Reading). ToldFrom rs l o Fact (pending l ++ script)) unread fact)
 
 -- a script that ends in its header, with a world and a player in it
 pub header_peopled : (rs : Regions) (o : Opening) (n : ℕ) → is_peopled o ≡ true → header_end rs o n ≡ begun rs o n (λ play. only (done_text play))

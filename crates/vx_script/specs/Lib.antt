@@ -1,5 +1,6 @@
 pub mod FirstFault
 pub mod Known
+pub mod Laws
 pub mod Openings
 pub mod Statuses
 pub mod Told

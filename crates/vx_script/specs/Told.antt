@@ -2,7 +2,7 @@
 use Rattle.std.specs.Prelude.{◌≡◌, ◌≢◌, ℕ, List, [], ◌++◌, Option, Some, None, Result, Err, OnOk}
 use Rattle.std.specs.Io.KnownBytes.{Keeps, Appends}
 use Rattle.vx_script.specs.declared.fault.Fault.{Fault}
-use Rattle.vx_script.specs.declared.fault.Fault.TheVariants.{NoMemory, ReadFailed, WriteFailed}
+use Rattle.vx_script.specs.declared.fault.Fault.TheVariants.{NoMemory, BadRegionFile, ReadFailed, WriteFailed}
 
 -- what is written, and the fault that ends the run, if one does
 pub record Told : Type 0 where
@@ -26,6 +26,18 @@ pub record IsOwn (fault : Fault) : Type 0 where
   pub memory : fault ≢ NoMemory
   pub read : fault ≢ ReadFailed
   pub write : fault ≢ WriteFailed
+
+-- the fault is one that a run may end by: a run reads no regions file
+abbrev pub IsOfRun : Fault → Type 0
+IsOfRun fault = fault ≢ BadRegionFile
+
+-- the fault is one of a step that reads nothing
+abbrev pub IsOfReply : Fault → Type 0
+IsOfReply fault = (fault ≢ BadRegionFile) × (fault ≢ ReadFailed)
+
+-- the fault is one of a step that reads nothing and writes nothing
+abbrev pub IsOfOpening : Fault → Type 0
+IsOfOpening fault = (fault ≢ BadRegionFile) × (fault ≢ ReadFailed) × (fault ≢ WriteFailed)
 
 -- a call that went well wrote what is told, and no fault is told
 abbrev pub Tells : {X : Type 0} → Option (List ℕ) → Option (List ℕ) → Result X Fault → Told → Type 0

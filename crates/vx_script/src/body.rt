@@ -4,7 +4,7 @@ ghost use Rattle.std.specs.Io.KnownBytes.{Appends};
 ghost use Rattle.vx_grammar.specs.ScriptLines.{said};
 ghost use Rattle.vx_play.specs.Plays.{seat_named};
 ghost use Rattle.vx_policy.specs.Asked.{asked};
-ghost use Rattle.vx_script.specs.Told.{Replies, Stops};
+ghost use Rattle.vx_script.specs.Told.{IsOfReply, Replies, Stops};
 ghost use Rattle.vx_script.specs.Transcript.{body_told, command_told, done_text, edit_told, or_syntax, tick_told};
 
 use crate::fault::Fault;
@@ -30,6 +30,7 @@ pub fn take_line<J: Naming, W: Write>(
         (body_told play.old number (option_map said line)) play.new }
     ensures err { Stops (W.contents writer.old) (W.contents writer.new) result
         (body_told play.old number (option_map said line)) }
+    ensures fault { IfErr result IsOfReply }
 {
     match line {
         Some(Line::Skipped) => Ok(()),
@@ -54,6 +55,7 @@ fn command<J: Naming, W: Write>(
     ensures err { Stops (W.contents writer.old) (W.contents writer.new) result
         (λ go. or_syntax number (seat_named play.old name.now.text.bytes)
         (command_told play.old cmd go)) }
+    ensures fault { IfErr result IsOfReply }
 {
     let Some(seat) = play.seat(name) else {
         return Err(Fault::Syntax(number));
@@ -78,6 +80,7 @@ fn edit<J: Naming, W: Write>(
         (edit_told play.old (asked edit)) play.new }
     ensures err { Stops (W.contents writer.old) (W.contents writer.new) result
         (edit_told play.old (asked edit)) }
+    ensures fault { IfErr result IsOfReply }
 {
     match play.edit(alloc, edit) {
         Ok(edited) => writeln!(writer, "{edited}").map_err(|_| Fault::WriteFailed),
@@ -96,6 +99,7 @@ fn tick<J: Naming, W: Write>(play: &mut Play<J>, alloc: Global, writer: &mut W) 
         (tick_told play.old) play.new }
     ensures err { Stops (W.contents writer.old) (W.contents writer.new) result
         (tick_told play.old) }
+    ensures fault { IfErr result IsOfReply }
 {
     match play.tick(alloc) {
         Ok(tick) => writeln!(writer, "tick {tick}").map_err(|_| Fault::WriteFailed),

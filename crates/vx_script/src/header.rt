@@ -28,11 +28,11 @@ impl Model for Header {
 }
 
 impl Header {
-    ghost use Rattle.std.specs.Prelude.{Some, Err, IfSome, option_map};
+    ghost use Rattle.std.specs.Prelude.{Some, Err, IfSome, IfErr, option_map};
     ghost use Rattle.vx_grammar.specs.ScriptLines.{said};
     ghost use Rattle.vx_play.specs.Plays.{PlayData, is_named};
     ghost use Rattle.vx_region.specs.Regions.{Regions};
-    ghost use Rattle.vx_script.specs.Told.{Told, IsOwn, faulted};
+    ghost use Rattle.vx_script.specs.Told.{Told, IsOwn, IsOfOpening, faulted};
     ghost use Rattle.vx_script.specs.Transcript.{Opening, header_told, no_opening, header_after, with_size, with_player, with_cell_set, begun, is_peopled};
 
     /// Nothing read yet.
@@ -65,6 +65,7 @@ impl Header {
         ensures err { (fault : Fault) → result ≡ Err fault → IsOwn fault
             → (rs : Regions) (go : Opening → Told) (body : PlayData → Told)
             → header_told rs self.old number (option_map said line) go body ≡ faulted fault }
+        ensures fault { IfErr result IsOfOpening }
     {
         match line {
             None => Err(Fault::Syntax(number)),
@@ -137,6 +138,7 @@ impl Header {
             → begun J.first self number body ≡ body play) }
         ensures err { (fault : Fault) → result ≡ Err fault → IsOwn fault
             → (body : PlayData → Told) → begun J.first self number body ≡ faulted fault }
+        ensures fault { IfErr result IsOfOpening }
     {
         let Header { terrain, names } = self;
         let Some(terrain) = terrain else {

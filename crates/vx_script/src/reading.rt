@@ -6,7 +6,8 @@ ghost use Rattle.vx_lines.specs.Lines.{TakesLine, IsNextLong};
 ghost use Rattle.vx_lines.specs.Reading.{pending};
 ghost use Rattle.vx_lines.specs.declared.input.TheConstants.{MAX_SCRIPT_BYTES};
 ghost use Rattle.vx_lines.specs.declared.lines.TheConstants.{MAX_LINE_BYTES};
-ghost use Rattle.vx_script.specs.Told.{IsOwn};
+ghost use Rattle.vx_script.specs.Known.{KeepsSize, IsWithin};
+ghost use Rattle.vx_script.specs.Told.{IsOwn, IsOfRun};
 ghost use Rattle.vx_script.specs.Transcript.{read_of};
 
 use crate::fault::Fault;
@@ -29,7 +30,10 @@ pub fn next_line<R: Read, W: Write>(
     ensures number { result ≡ Ok true → lines.new.number ≡ lines.old.number + 1 }
     ensures end { result ≡ Ok false
         → IsAtEnd (prepend_known (pending lines.old) (R.remaining reader.old))
-        × (lines.new.number ≡ lines.old.number) }
+        × (lines.new.number ≡ lines.old.number)
+        × IsWithin lines.old (R.remaining reader.old) }
+    ensures size { IfOk result (λ _.
+        KeepsSize lines.old (R.remaining reader.old) lines.new (R.remaining reader.new)) }
     ensures within { IfOk result (λ _. lines.new.number ≤ MAX_SCRIPT_BYTES) }
     ensures written { IfOk result (λ _. Keeps (W.contents writer.old) (W.contents writer.new)) }
     ensures long { (fault : Fault) → result ≡ Err fault → IsOwn fault
@@ -37,6 +41,7 @@ pub fn next_line<R: Read, W: Write>(
         × Keeps (W.contents writer.old) (W.contents writer.new)
         × IfSome (prepend_known (pending lines.old) (R.remaining reader.old))
         (IsNextLong MAX_LINE_BYTES) }
+    ensures fault { IfErr result IsOfRun }
 {
     'pieces: for _ in 0..u64::MAX {
         match lines.take() {

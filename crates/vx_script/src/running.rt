@@ -1,11 +1,12 @@
-ghost use Rattle.std.specs.Prelude.{◌≡◌, ◌+◌, ℕ, Ok, Err, None, IfSome, IfOk};
+ghost use Rattle.std.specs.Prelude.{◌≡◌, ◌≢◌, ◌+◌, ◌≤◌, ℕ, length, Ok, Err, None, IfSome, IfOk, IfErr, OnOk};
 ghost use Rattle.std.specs.Io.KnownBytes.{Keeps, prepend_known};
 ghost use Rattle.vx_grammar.specs.ScriptLines.{said};
 ghost use Rattle.vx_lines.specs.Lines.{lines_of};
 ghost use Rattle.vx_lines.specs.Reading.{pending};
+ghost use Rattle.vx_lines.specs.declared.input.TheConstants.{MAX_SCRIPT_BYTES};
 ghost use Rattle.vx_region.specs.Regions.{Regions};
-ghost use Rattle.vx_script.specs.Known.{Goes};
-ghost use Rattle.vx_script.specs.Told.{IsOwn, Tells, Faults, faulted};
+ghost use Rattle.vx_script.specs.Known.{Goes, KeepsSize, IsWithin};
+ghost use Rattle.vx_script.specs.Told.{IsOwn, IsOfRun, IsOfReply, Tells, Faults, faulted};
 ghost use Rattle.vx_script.specs.Transcript.{body_run, header_end, header_run, run_from, transcript};
 
 use crate::body::{finish, take_line};
@@ -22,7 +23,8 @@ use vx_play::Play;
 use vx_policy::Policy;
 
 /// Runs a script: reads it to its end and writes the reply to each of its lines as it is read, then
-/// the last line. A fault ends the run; what was replied before it has been written out.
+/// the last line. A fault ends the run; what was replied before it has been written out. A script
+/// of more than 16,777,216 bytes always ends in a fault, and none ends in that of a regions file.
 pub fn run<R: Read, W: Write>(
     alloc: Global,
     reader: &mut R,
@@ -33,6 +35,9 @@ pub fn run<R: Read, W: Write>(
         Tells (W.contents writer.old) (W.contents writer.new) result (transcript policy script)) }
     ensures err { IfSome (R.remaining reader.old) (λ script.
         Faults (W.contents writer.old) (W.contents writer.new) result (transcript policy script)) }
+    ensures within { OnOk result (IfSome (R.remaining reader.old)
+        (λ script. length script ≤ MAX_SCRIPT_BYTES)) }
+    ensures file { result ≢ Err Fault.BadRegionFile }
 {
     let played = run_script::<Brand, R, W>(alloc, reader, writer, policy);
     let flushed = writer.flush();
@@ -52,6 +57,9 @@ fn run_script<J: Naming, R: Read, W: Write>(
         Tells (W.contents writer.old) (W.contents writer.new) result (transcript J.first script)) }
     ensures err { IfSome (R.remaining reader.old) (λ script.
         Faults (W.contents writer.old) (W.contents writer.new) result (transcript J.first script)) }
+    ensures within { OnOk result (IfSome (R.remaining reader.old)
+        (λ script. length script ≤ MAX_SCRIPT_BYTES)) }
+    ensures fault { IfErr result IsOfRun }
 {
     let mut lines = Lines::new(alloc)?;
     let mut header = Header::new(alloc);
@@ -88,6 +96,10 @@ fn read_header<R: Read, W: Write>(
         × IfSome (prepend_known (pending lines.old) (R.remaining reader.old))
         (λ bytes. (rs : Regions)
         → header_run rs header.old (lines.old.number + 1) (lines_of bytes) ≡ faulted fault) }
+    ensures size { IfOk result (λ _.
+        KeepsSize lines.old (R.remaining reader.old) lines.new (R.remaining reader.new)) }
+    ensures within { result ≡ Ok None → IsWithin lines.old (R.remaining reader.old) }
+    ensures fault { IfErr result IsOfRun }
 {
     'header_lines: while next_line(lines, reader, writer)? {
         let line = read_of(alloc, lines.line())?;
@@ -113,6 +125,7 @@ fn end_header<J: Naming, W: Write>(
         (header_end J.first header number) }
     ensures err { Faults (W.contents writer.old) (W.contents writer.new) result
         (header_end J.first header number) }
+    ensures fault { IfErr result IsOfReply }
 {
     if !header.is_peopled() {
         return Ok(());
@@ -138,6 +151,8 @@ fn run_body<J: Naming, R: Read, W: Write>(
     ensures err { IfSome (prepend_known (pending lines.old) (R.remaining reader.old)) (λ rest.
         Faults (W.contents writer.old) (W.contents writer.new) result
         (run_from J.first header lines.old.number (said first) (lines_of rest))) }
+    ensures within { OnOk result (IsWithin lines.old (R.remaining reader.old)) }
+    ensures fault { IfErr result IsOfRun }
 {
     let mut play = header.begin::<J>(alloc, policy, lines.number())?;
     take_line(&mut play, alloc, Some(first), lines.number(), writer)?;
@@ -158,6 +173,8 @@ fn read_body<J: Naming, R: Read, W: Write>(
     ensures err { IfSome (prepend_known (pending lines.old) (R.remaining reader.old)) (λ bytes.
         Faults (W.contents writer.old) (W.contents writer.new) result
         (body_run play.old (lines.old.number + 1) (lines_of bytes))) }
+    ensures within { OnOk result (IsWithin lines.old (R.remaining reader.old)) }
+    ensures fault { IfErr result IsOfRun }
 {
     'body_lines: while next_line(lines, reader, writer)? {
         let line = read_of(alloc, lines.line())?;

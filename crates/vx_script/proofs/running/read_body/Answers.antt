@@ -1,4 +1,4 @@
-use Rattle.std.proofs.Common.{◌≡◌, ℕ, ◌+◌, ◌++◌, List, None, Some, Ok, Err, ap, sym, ◌∙◌, subst}
+use Rattle.std.proofs.Common.{◌≡◌, ℕ, ◌+◌, ◌++◌, List, None, Some, Ok, Err, ap, sym, ◌∙◌, subst, rules}
 use Rattle.std.specs.Io.KnownBytes.{Appends}
 use Rattle.std.proofs.KnownBytes.{Appends-kept, Appends-trans}
 use Rattle.std.proofs.lemmas.Result.{err_from_is_err_and, on_ok_weaker}
@@ -46,6 +46,7 @@ body_lines-preserved g c =
           ∙ ap (λ ls. prepend text (body_run play n ls)) first
           ∙ ap (prepend text) (body_step play n _ (lines_of more) _ c.number.result c.number.ensures.value (rw c.line.ensures at c.in_ok-line.ensures.ok) step.0 c.take_line.new.play step.2)
           ∙ prepend-prepend text step.0 _),
+      search rules,
     )
 
 pub returns-clause-ok : goal.returns-clause-ok

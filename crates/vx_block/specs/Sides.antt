@@ -1,4 +1,4 @@
-use Rattle.std.specs.Prelude.{List, [], ◌∷◌}
+use Rattle.std.specs.Prelude.{Bool, true, false, List, [], ◌∷◌}
 use Rattle.vx_block.specs.declared.side.Side.{Side}
 use Rattle.vx_block.specs.declared.side.Side.TheVariants.{East, West, South, North}
 
@@ -19,3 +19,11 @@ side_right East = South
 side_right South = West
 side_right West = North
 side_right North = East
+
+-- they are one side
+abbrev pub same_side : Side → Side → Bool
+same_side East East = true
+same_side West West = true
+same_side South South = true
+same_side North North = true
+same_side a b = false

@@ -1,5 +1,5 @@
 ghost use Rattle.std.specs.Prelude.{◌≡◌, IfSome, Some};
-ghost use Rattle.vx_block.specs.Sides.{side_back, side_right};
+ghost use Rattle.vx_block.specs.Sides.{same_side, side_back, side_right};
 ghost use Rattle.vx_block.specs.States.{side_dir, dir_word};
 
 use vx_geom::Dir;
@@ -16,6 +16,13 @@ pub enum Side {
 impl Side {
     /// The four sides.
     pub const ALL: [Side; 4] = [Side::East, Side::West, Side::South, Side::North];
+
+    /// Whether both are one side.
+    pub fn is(self, other: Side) -> bool
+        ensures { result ≡ same_side self other }
+    {
+        self == other
+    }
 
     /// The side that leads back.
     pub fn back(self) -> Side

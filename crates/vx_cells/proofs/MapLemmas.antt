@@ -88,3 +88,15 @@ unfolding cell_on sector_of
 far_is_air m p sizes away =
     sym (ap (λ b. cell_in (sector_at m.sectors (if b then Some (sector_number m.sizes p) else None)) p)
     (not_inside m.sizes p sizes away))
+
+-- outside the world there is air
+pub outside_is_air : (m : MapData) (p : Pos)
+    → (is_inside m.sizes p ≡ true → ⊥) → cell_on m p ≡ Air
+unfolding cell_on sector_of
+outside_is_air m p outside = by (is_inside m.sizes p) refl
+  where
+    by : (b : Bool) → is_inside m.sizes p ≡ b
+        → cell_in (sector_at m.sectors (if is_inside m.sizes p then Some (sector_number m.sizes p) else None)) p ≡ Air
+    by true inside = absurd (outside inside)
+    by false is =
+        ap (λ b. cell_in (sector_at m.sectors (if b then Some (sector_number m.sizes p) else None)) p) is

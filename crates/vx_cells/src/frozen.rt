@@ -1,4 +1,5 @@
-ghost use Rattle.std.specs.Prelude.{◌≡◌, true, SomeIff};
+ghost use Rattle.std.specs.Prelude.{◌≡◌, true, None, SomeIff};
+ghost use Rattle.vx_block.specs.declared.cell.Cell.TheVariants.{Air};
 ghost use Rattle.vx_geom.specs.Neighbor.{neighbor};
 ghost use Rattle.vx_geom.specs.Sizes.{is_below, is_inside};
 ghost use Rattle.vx_geom.specs.declared.dir.Dir.TheVariants.{Up, Down};
@@ -121,8 +122,9 @@ impl<'a> Frozen<'a> {
     /// The next position on that side, where the world has one.
     #[tactic(auto, using(vx_base::proofs::Signed::signed))]
     pub fn next(&self, p: Pos, dir: Dir) -> Option<Pos>
-        ensures { SomeIff result (is_inside self.now.sizes (neighbor p dir) ≡ true)
+        ensures value { SomeIff result (is_inside self.now.sizes (neighbor p dir) ≡ true)
             (neighbor p dir) }
+        ensures outside { result ≡ None → cell_on self.now (neighbor p dir) ≡ Air }
     {
         let (x, y, z) = (i64::from(p.x), i64::from(p.y), i64::from(p.z));
         match dir {
@@ -137,8 +139,10 @@ impl<'a> Frozen<'a> {
 
     // The position with these coordinates, where the world has one.
     fn place(&self, x: i64, y: i64, z: i64) -> Option<Pos>
-        ensures { let p : Pos = record { y = y; z = z; x = x } in
+        ensures value { let p : Pos = record { y = y; z = z; x = x } in
             SomeIff result (is_inside self.now.sizes p ≡ true) p }
+        ensures outside { result ≡ None
+            → cell_on self.now (record { y = y; z = z; x = x }) ≡ Air }
     {
         self.soundness();
         let p = near(x, y, z)?;

@@ -1,5 +1,5 @@
 ghost use Rattle.std.specs.Prelude.{◌≡◌};
-ghost use Rattle.vx_geom.specs.Dirs.{opposite};
+ghost use Rattle.vx_geom.specs.Dirs.{opposite, same_dir};
 
 /// One of the six directions. East is towards greater x, up towards greater y, south towards
 /// greater z.
@@ -23,6 +23,13 @@ impl Dir {
         Dir::South,
         Dir::North,
     ];
+
+    /// Whether both are one direction.
+    pub fn is(self, other: Dir) -> bool
+        ensures { result ≡ same_dir self other }
+    {
+        self == other
+    }
 
     /// The direction that leads back.
     pub fn opposite(self) -> Dir

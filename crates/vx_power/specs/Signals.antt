@@ -46,9 +46,13 @@ is_strong w p = conducts (w p) && is_driven w p
 unfoldable pub feeds_from : (Pos → Cell) → Pos → Dir → Bool
 feeds_from w p d = gives (w (neighbor p d)) (opposite d) || is_strong w (neighbor p d)
 
+-- some neighbor feeds dust at p
+unfoldable pub has_feeder : (Pos → Cell) → Pos → Bool
+has_feeder w p = list_any (feeds_from w p) all_dirs
+
 -- dust is fed where some neighbor feeds it
 unfoldable pub is_fed : (Pos → Cell) → Pos → Bool
-is_fed w p = is_dust (w p) && list_any (feeds_from w p) all_dirs
+is_fed w p = is_dust (w p) && has_feeder w p
 
 -- dust at n reaches the cell from which it lies in direction d: it lies on it, or stands beside it
 -- and points at it

@@ -1,8 +1,7 @@
 //! What feeds power, and which dust and conductors it feeds.
-ghost use Rattle.std.specs.Prelude.{◌≡◌, drop};
-ghost use Rattle.std.specs.List.{list_any};
+ghost use Rattle.std.specs.Prelude.{◌≡◌};
 ghost use Rattle.vx_cells.specs.Maps.{cell_on};
-ghost use Rattle.vx_power.specs.Signals.{gives, drives, drives_from, is_driven, is_strong, feeds_from, is_fed};
+ghost use Rattle.vx_power.specs.Signals.{gives, drives, drives_from, is_driven, is_strong, feeds_from, has_feeder, is_fed};
 
 use crate::dust::is_dust;
 use vx_block::Cell;
@@ -66,10 +65,18 @@ fn feeds_from(map: &Frozen<'_>, p: Pos, dir: Dir) -> bool
     }
 }
 
+// Whether some neighbor feeds dust at a position.
+#[tactic(auto, unfolding(crate::specs::Signals::has_feeder))]
+fn has_feeder(map: &Frozen<'_>, p: Pos) -> bool
+    ensures { result ≡ has_feeder (cell_on map.now) p }
+{
+    Dir::ALL.iter().any(|dir| feeds_from(map, p, *dir))
+}
+
 /// Whether dust stands at a position that some neighbor feeds.
 #[tactic(auto, unfolding(crate::specs::Signals::is_fed))]
 pub fn is_fed(map: &Frozen<'_>, p: Pos) -> bool
     ensures { result ≡ is_fed (cell_on map.now) p }
 {
-    is_dust(map.cell(p)) && Dir::ALL.iter().any(|dir| feeds_from(map, p, *dir))
+    is_dust(map.cell(p)) && has_feeder(map, p)
 }

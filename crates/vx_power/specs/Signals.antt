@@ -69,10 +69,13 @@ unfoldable pub dust_powers : (Pos → Cell) → (Pos → ℕ) → Pos → Dir �
 dust_powers w level p d =
     is_dust (w (neighbor p d)) && nat_lt 0 (level (neighbor p d)) && reaches w (neighbor p d) d
 
+-- it does from some direction
+unfoldable pub is_dust_powered : (Pos → Cell) → (Pos → ℕ) → Pos → Bool
+is_dust_powered w level p = list_any (dust_powers w level p) all_dirs
+
 -- a conductor is powered where it is strongly powered, or dust of a level over 0 reaches it
 unfoldable pub is_powered : (Pos → Cell) → (Pos → ℕ) → Pos → Bool
-is_powered w level p =
-    conducts (w p) && (is_driven w p || list_any (dust_powers w level p) all_dirs)
+is_powered w level p = conducts (w p) && (is_driven w p || is_dust_powered w level p)
 
 -- what stands in that direction from p makes a lamp, a piston or a repeater there active: it gives
 -- to it, is a powered conductor, or is dust of a level over 0 that reaches it

@@ -2,4 +2,11 @@
 #![tactic(auto)]
 
 mod dust;
+mod leveled;
+mod power;
 mod signals;
+
+pub use dust::points;
+pub use leveled::Leveled;
+pub use power::{activates, active, powered};
+pub use signals::is_fed;

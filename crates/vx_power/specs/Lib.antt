@@ -1,2 +1,3 @@
 pub mod Dust
 pub mod Signals
+pub mod Walks

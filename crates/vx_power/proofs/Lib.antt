@@ -1,1 +1,2 @@
+pub mod Pointing
 pub mod Reach

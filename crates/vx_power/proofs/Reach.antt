@@ -1,8 +1,8 @@
 -- What rounds tell of levels, and that the level is that of the shortest walk.
-use Rattle.std.proofs.Common.{◌≡◌, ℕ, zero, suc, ◌+◌, ◌-◌, ◌<◌, ◌≤◌, ◌⊎◌, inl, inr, Bool, true, false, ◌||◌, if◌then◌else◌, List, [], ◌∷◌, length, refl, sym, ap, ◌∙◌, subst, arith}
+use Rattle.std.proofs.Common.{◌≡◌, ℕ, zero, suc, ◌+◌, ◌-◌, ◌<◌, ◌≤◌, ◌⊎◌, inl, inr, Bool, true, false, ◌||◌, if◌then◌else◌, List, [], ◌∷◌, length, nat_lt, refl, sym, ap, ◌∙◌, subst, arith}
 use Rattle.std.specs.Prelude.{◌↔◌}
 use Rattle.std.specs.List.{list_any}
-use Rattle.std.proofs.lemmas.Bool.{false≢true}
+use Rattle.std.proofs.lemmas.Bool.{false≢true, ltb-true, ltb-false}
 use Rattle.vx_power.specs.Walks.{within, level_by, level_of, IsAmong, IsWalk, HasWalk, IsLevel}
 
 known : (b : Bool) → (b ≡ true) ⊎ (b ≡ false)
@@ -185,3 +185,26 @@ module _ {X : Type 0} (fed : X → Bool) (links : X → List X) where
           λ walk. told.reached d (omega (arith, few)) (within_from d p walk),
         );
       }
+
+  -- the level falls by at most one with each link
+  pub falls_by_one : (p q : X) → IsAmong (links p) q → level_of fed links q ≤ level_of fed links p + 1
+  unfolding level_of within
+  falls_by_one p q linked =
+      let v = level_by fed links 14 q in
+      let of_p = tells 14 p (omega arith) in
+      let of_q = tells 14 q (omega arith) in
+      elim (known (nat_lt 1 v)) [
+        inr small ↦ let most = ltb-false 1 v small in omega (arith, most)
+      | inl large ↦
+        let least = ltb-true 1 v large in
+        elim (known (within fed links (15 - v) q)) [
+          inl near ↦
+          let next = any_from (within fed links (15 - v)) (links p) q linked near in
+          let reached = of_p.reached (suc (15 - v)) (omega (arith, least))
+              (right (within fed links (15 - v) p) (list_any (within fed links (15 - v)) (links p)) next) in
+          omega (arith, reached, of_q.most)
+        | inr away ↦
+          let less = of_q.away (15 - v) (omega (arith, least)) away in
+          absurd (omega (arith, less, of_q.most))
+        ]
+      ]

@@ -1,3 +1,4 @@
 pub mod Dust
+pub mod Laws
 pub mod Signals
 pub mod Walks

@@ -42,14 +42,14 @@ links_down w p side = is_dust (w (under (beside p side))) && not (conducts (w (b
 unfoldable pub links_on : (Pos → Cell) → Pos → Side → List Pos
 links_on w p side =
     (if links_beside w p side then beside p side ∷ [] else [])
-    ++ (if links_up w p side then over (beside p side) ∷ [] else [])
-    ++ (if links_down w p side then under (beside p side) ∷ [] else [])
+    ++ ((if links_up w p side then over (beside p side) ∷ [] else [])
+    ++ (if links_down w p side then under (beside p side) ∷ [] else []))
 
 -- all dust that p links to, if it is dust
 unfoldable pub links : (Pos → Cell) → Pos → List Pos
 links w p =
     if is_dust (w p)
-    then links_on w p East ++ links_on w p West ++ links_on w p South ++ links_on w p North
+    then links_on w p East ++ (links_on w p West ++ (links_on w p South ++ links_on w p North))
     else []
 
 -- what dust on that side of it joins, besides dust: a torch, a lever, or a repeater that lies along

@@ -1,4 +1,5 @@
 pub mod Dust
 pub mod Laws
 pub mod Signals
+pub mod Tables
 pub mod Walks

@@ -21,6 +21,10 @@ abbrev pub LevelsFallByOne : Type 0
 LevelsFallByOne = (w : Pos → Cell) (p q : Pos)
     → IsAmong (links w p) q → dust_level w q ≤ dust_level w p + 1
 
+-- a link leads back as well
+abbrev pub LinksLeadBack : Type 0
+LinksLeadBack = (w : Pos → Cell) (p q : Pos) → IsAmong (links w p) q → IsAmong (links w q) p
+
 -- dust joins something on the axis of that side
 abbrev pub joins_along : (Pos → Cell) → Pos → Side → Bool
 joins_along w p side = joins w p side || joins w p (side_back side)

@@ -1,10 +1,15 @@
-ghost use Rattle.vx_power.specs.Laws.{LevelsAreWalks, LevelsFallByOne, PointsToAll, PointsAlong, PointsToJoins};
+ghost use Rattle.vx_power.specs.Laws.{LevelsAreWalks, LevelsFallByOne, LinksLeadBack, PointsToAll, PointsAlong, PointsToJoins};
 
 /// The level of dust is 15 less the length of the shortest walk of links to fed dust, or 0; it
 /// falls by at most one with each link.
 pub fn levels_are_walks()
     ensures walks { LevelsAreWalks }
     ensures falls { LevelsFallByOne }
+{}
+
+/// Dust that links to other dust is linked to by it.
+pub fn links_lead_back()
+    ensures { LinksLeadBack }
 {}
 
 /// Dust points to all sides where it joins nothing, to both ends of an axis where it joins

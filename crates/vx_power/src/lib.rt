@@ -4,13 +4,11 @@
 mod dust;
 mod laws;
 mod leveled;
-mod levels;
 mod power;
 mod signals;
 
 pub use dust::points;
-pub use laws::{dust_points_as_it_joins, levels_are_walks};
+pub use laws::{dust_points_as_it_joins, levels_are_walks, links_lead_back};
 pub use leveled::Leveled;
-pub use levels::Levels;
 pub use power::{activates, active, powered};
 pub use signals::is_fed;

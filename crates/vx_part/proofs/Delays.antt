@@ -67,7 +67,7 @@ waits facing Four on input (suc (suc (suc (suc n)))) less = absurd (omega (arith
 pub repeaters_delay : RepeatersDelay
 repeaters_delay r input rests =
     let same : at_rest r.facing r.delay r.on ≡ r =
-        λ i. record { facing = r.facing; delay = r.delay; on = r.on; wait = sym rests i } in
+    λ i. record { facing = r.facing; delay = r.delay; on = r.on; wait = sym rests i } in
     subst (λ s. (counted_for (ticks_of s.delay) s input ≡ record s { on = input })
     × ((n : ℕ) → n < ticks_of s.delay → (counted_for n s input).on ≡ s.on))
     same (follows r.facing r.delay r.on input, waits r.facing r.delay r.on input)

@@ -60,7 +60,11 @@ fn counted(repeater: Repeater, input: bool) -> Repeater
         return repeater;
     }
     let wait = next_wait(repeater);
-    let is_on = if wait == 0 { !repeater.is_on() || input } else { repeater.is_on() };
+    let is_on = if wait == 0 {
+        !repeater.is_on() || input
+    } else {
+        repeater.is_on()
+    };
     Repeater::new(repeater.facing(), repeater.delay(), is_on, wait)
 }
 

@@ -54,10 +54,10 @@ module _ (w : Pos → Cell) where
       let second = if links_up w p side then over (beside p side) ∷ [] else [] in
       let third = if links_down w p side then under (beside p side) ∷ [] else [] in
       elim (among_either first (second ++ third) q among) [
-        inl here ↦ inl (among_if (links_beside w p side) (beside p side) q here)
-      | inr rest ↦ elim (among_either second third q rest) [
-          inl here ↦ inr (inl (among_if (links_up w p side) (over (beside p side)) q here))
-        | inr here ↦ inr (inr (among_if (links_down w p side) (under (beside p side)) q here))
+        | inl here ↦ inl (among_if (links_beside w p side) (beside p side) q here)
+        | inr rest ↦ elim (among_either second third q rest) [
+          | inl here ↦ inr (inl (among_if (links_up w p side) (over (beside p side)) q here))
+          | inr here ↦ inr (inr (among_if (links_down w p side) (under (beside p side)) q here))
         ]
       ]
 
@@ -68,10 +68,10 @@ module _ (w : Pos → Cell) where
       let second = if links_up w p side then over (beside p side) ∷ [] else [] in
       let third = if links_down w p side then under (beside p side) ∷ [] else [] in
       elim linked [
-        inl at ↦ among_left first (second ++ third) q (subst (IsAmong first) at.1 (if_among (links_beside w p side) (beside p side) at.0))
-      | inr further ↦ among_right first (second ++ third) q (elim further [
-          inl at ↦ among_left second third q (subst (IsAmong second) at.1 (if_among (links_up w p side) (over (beside p side)) at.0))
-        | inr at ↦ among_right second third q (subst (IsAmong third) at.1 (if_among (links_down w p side) (under (beside p side)) at.0))
+        | inl at ↦ among_left first (second ++ third) q (subst (IsAmong first) at.1 (if_among (links_beside w p side) (beside p side) at.0))
+        | inr further ↦ among_right first (second ++ third) q (elim further [
+          | inl at ↦ among_left second third q (subst (IsAmong second) at.1 (if_among (links_up w p side) (over (beside p side)) at.0))
+          | inr at ↦ among_right second third q (subst (IsAmong third) at.1 (if_among (links_down w p side) (under (beside p side)) at.0))
         ])
       ]
 
@@ -84,16 +84,19 @@ module _ (w : Pos → Cell) where
           → IsAmong (if b then links_on w p East ++ (links_on w p West ++ (links_on w p South ++ links_on w p North)) else []) q
           → (is_dust (w p) ≡ true) × ((side : Side) × Linked p side q)
       by false is none = absurd none
-      by true is among = (is, elim (among_either (links_on w p East) (links_on w p West ++ (links_on w p South ++ links_on w p North)) q among) [
-            inl here ↦ (East, linked_on p East q here)
+      by true is among = (
+        is,
+        elim (among_either (links_on w p East) (links_on w p West ++ (links_on w p South ++ links_on w p North)) q among) [
+          | inl here ↦ (East, linked_on p East q here)
           | inr rest ↦ elim (among_either (links_on w p West) (links_on w p South ++ links_on w p North) q rest) [
-              inl here ↦ (West, linked_on p West q here)
+            | inl here ↦ (West, linked_on p West q here)
             | inr rest ↦ elim (among_either (links_on w p South) (links_on w p North) q rest) [
-                inl here ↦ (South, linked_on p South q here)
+              | inl here ↦ (South, linked_on p South q here)
               | inr here ↦ (North, linked_on p North q here)
-              ]
             ]
-          ])
+          ]
+        ],
+      )
 
   on_side : (p : Pos) (side : Side) (q : Pos) → IsAmong (links_on w p side) q
       → IsAmong (links_on w p East ++ (links_on w p West ++ (links_on w p South ++ links_on w p North))) q
@@ -144,36 +147,36 @@ module _ (w : Pos → Cell) where
       → (is_dust (w q) ≡ true) × Linked q (side_back side) p
   unfolding links_beside links_up links_down Linked
   turned p side q dust linked = elim linked [
-      inl at ↦ (
-        subst (λ q. is_dust (w q) ≡ true) at.1 at.0,
-        subst (λ q. Linked q (side_back side) p) at.1
-        (inl (ap (λ r. is_dust (w r)) (back_beside p side) ∙ dust, back_beside p side)),
-      )
+    | inl at ↦ (
+      subst (λ q. is_dust (w q) ≡ true) at.1 at.0,
+      subst (λ q. Linked q (side_back side) p) at.1
+          (inl (ap (λ r. is_dust (w r)) (back_beside p side) ∙ dust, back_beside p side)),
+    )
     | inr further ↦ elim further [
-        inl at ↦
-        let parts = and_parts (is_dust (w (over (beside p side)))) (not (conducts (w (over p)))) at.0 in
-        let home : under (beside (over (beside p side)) (side_back side)) ≡ p = ap under (up_and_back p side) ∙ there_and_back p Up in (
-          subst (λ q. is_dust (w q) ≡ true) at.1 parts.0,
-          subst (λ q. Linked q (side_back side) p) at.1 (inr (inr (
-            both (is_dust (w (under (beside (over (beside p side)) (side_back side))))) (conducts (w (beside (over (beside p side)) (side_back side))))
-            (ap (λ r. is_dust (w r)) home ∙ dust)
-            (ap (λ r. conducts (w r)) (up_and_back p side) ∙ not_true (conducts (w (over p))) parts.1),
-            home,
-          ))),
-        )
+      | inl at ↦
+          let parts = and_parts (is_dust (w (over (beside p side)))) (not (conducts (w (over p)))) at.0 in
+          let home : under (beside (over (beside p side)) (side_back side)) ≡ p = ap under (up_and_back p side) ∙ there_and_back p Up in (
+            subst (λ q. is_dust (w q) ≡ true) at.1 parts.0,
+            subst (λ q. Linked q (side_back side) p) at.1 (inr (inr (
+              both (is_dust (w (under (beside (over (beside p side)) (side_back side))))) (conducts (w (beside (over (beside p side)) (side_back side))))
+                  (ap (λ r. is_dust (w r)) home ∙ dust)
+                  (ap (λ r. conducts (w r)) (up_and_back p side) ∙ not_true (conducts (w (over p))) parts.1),
+              home,
+            ))),
+          )
       | inr at ↦
-        let parts = and_parts (is_dust (w (under (beside p side)))) (not (conducts (w (beside p side)))) at.0 in
-        let home : over (beside (under (beside p side)) (side_back side)) ≡ p = ap over (down_and_back p side) ∙ there_and_back p Down in (
-          subst (λ q. is_dust (w q) ≡ true) at.1 parts.0,
-          subst (λ q. Linked q (side_back side) p) at.1 (inr (inl (
-            both (is_dust (w (over (beside (under (beside p side)) (side_back side))))) (conducts (w (over (under (beside p side)))))
-            (ap (λ r. is_dust (w r)) home ∙ dust)
-            (ap (λ r. conducts (w r)) (there_and_back (beside p side) Down) ∙ not_true (conducts (w (beside p side))) parts.1),
-            home,
-          ))),
-        )
-      ]
+          let parts = and_parts (is_dust (w (under (beside p side)))) (not (conducts (w (beside p side)))) at.0 in
+          let home : over (beside (under (beside p side)) (side_back side)) ≡ p = ap over (down_and_back p side) ∙ there_and_back p Down in (
+            subst (λ q. is_dust (w q) ≡ true) at.1 parts.0,
+            subst (λ q. Linked q (side_back side) p) at.1 (inr (inl (
+              both (is_dust (w (over (beside (under (beside p side)) (side_back side))))) (conducts (w (over (under (beside p side)))))
+                  (ap (λ r. is_dust (w r)) home ∙ dust)
+                  (ap (λ r. conducts (w r)) (there_and_back (beside p side) Down) ∙ not_true (conducts (w (beside p side))) parts.1),
+              home,
+            ))),
+          )
     ]
+  ]
 
   -- links lead both ways
   pub links_lead_back : (p q : Pos) → IsAmong (links w p) q → IsAmong (links w q) p

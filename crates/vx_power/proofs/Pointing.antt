@@ -70,11 +70,11 @@ pub points_along : PointsAlong
 points_along w p side some none =
     let across = parts_false (joins w p (side_right side)) (joins w p (side_back (side_right side))) none in
     let none_back : joins_along w p (side_right (side_back side)) ≡ false =
-        ap (joins_along w p) (right_back side) ∙ along_back w p (side_right side) ∙ none in
+    ap (joins_along w p) (right_back side) ∙ along_back w p (side_right side) ∙ none in
     let some_right : joins_along w p (side_right (side_right side)) ≡ true =
-        ap (joins_along w p) (right_twice side) ∙ along_back w p side ∙ some in
+    ap (joins_along w p) (right_twice side) ∙ along_back w p side ∙ some in
     let some_left : joins_along w p (side_right (side_back (side_right side))) ≡ true =
-        ap (joins_along w p) (right_back (side_right side)) ∙ along_back w p (side_right (side_right side)) ∙ some_right in (
+    ap (joins_along w p) (right_back (side_right side)) ∙ along_back w p (side_right (side_right side)) ∙ some_right in (
       nothing_across w p side none,
       nothing_across w p (side_back side) none_back,
       something_across w p (side_right side) some_right ∙ across.0,

@@ -29,7 +29,7 @@ any_from test (y ∷ ys) x (inr among) passes = right (test y) (list_any test ys
 pub any_at : {X : Type 0} (test : X → Bool) (xs : List X) → list_any test xs ≡ true → (x : X) × IsAmong xs x × (test x ≡ true)
 any_at test [] any = absurd (false≢true any)
 any_at test (y ∷ ys) any = elim (either (test y) (list_any test ys) any) [
-  inl passes ↦ (y, inl refl, passes)
+  | inl passes ↦ (y, inl refl, passes)
   | inr further ↦ let found = any_at test ys further in (found.0, inr found.1, found.2)
 ]
 
@@ -37,7 +37,7 @@ split : (r n : ℕ) → r ≤ suc n → (r ≤ n) ⊎ (r ≡ suc n)
 split zero n least = inl (omega arith)
 split (suc r) zero least = inr (omega (arith, least))
 split (suc r) (suc n) least = elim (split r n (omega (arith, least))) [
-  inl less ↦ inl (omega (arith, less))
+  | inl less ↦ inl (omega (arith, less))
   | inr same ↦ inr (omega (arith, same))
 ]
 
@@ -60,14 +60,14 @@ module _ {X : Type 0} (fed : X → Bool) (links : X → List X) where
   unfolding within
   walk_from zero p h = ([], omega arith, h)
   walk_from (suc d) p h = elim (either (within fed links d p) (list_any (within fed links d) (links p)) h) [
-    inl near ↦ let walk = walk_from d p near in (walk.0, omega (arith, walk.1), walk.2)
+    | inl near ↦ let walk = walk_from d p near in (walk.0, omega (arith, walk.1), walk.2)
     | inr next ↦
-    let found = any_at (within fed links d) (links p) next in
-    let walk = walk_from d found.0 found.2 in (
-      found.0 ∷ walk.0,
-      omega (arith, walk.1),
-      (found.1, walk.2),
-    )
+        let found = any_at (within fed links d) (links p) next in
+        let walk = walk_from d found.0 found.2 in (
+          found.0 ∷ walk.0,
+          omega (arith, walk.1),
+          (found.1, walk.2),
+        )
   ]
 
   pub within_walk : (qs : List X) (p : X) → IsWalk fed links p qs → within fed links (length qs) p ≡ true
@@ -111,16 +111,16 @@ module _ {X : Type 0} (fed : X → Bool) (links : X → List X) where
   unfolding level_by
   keeps n p is old =
       let v : level_by fed links (suc n) p ≡ level_by fed links n p =
-          ap (λ b. if b then level_by fed links n p else if within fed links (suc n) p then 14 - n else 0) is in
+      ap (λ b. if b then level_by fed links n p else if within fed links (suc n) p then 14 - n else 0) is in
       record {
         most = omega (arith, v, old.most);
         reached = λ r least h. elim (split r n least) [
-          inl less ↦ let most = old.reached r less h in omega (arith, v, most)
-        | inr same ↦ let most = old.reached n (omega arith) is in omega (arith, v, most, same)
+          | inl less ↦ let most = old.reached r less h in omega (arith, v, most)
+          | inr same ↦ let most = old.reached n (omega arith) is in omega (arith, v, most, same)
         ];
         away = λ r least h. elim (split r n least) [
-          inl less ↦ let most = old.away r less h in omega (arith, v, most)
-        | inr same ↦ absurd (never (suc n) p (within_more n p is) (subst (λ k. within fed links k p ≡ false) same h))
+          | inl less ↦ let most = old.away r less h in omega (arith, v, most)
+          | inr same ↦ absurd (never (suc n) p (within_more n p is) (subst (λ k. within fed links k p ≡ false) same h))
         ];
       }
 
@@ -133,16 +133,16 @@ module _ {X : Type 0} (fed : X → Bool) (links : X → List X) where
     unfolding level_by
     gets is =
         let v : level_by fed links (suc n) p ≡ 14 - n =
-            ap (λ b. if b then level_by fed links n p else if within fed links (suc n) p then 14 - n else 0) not_yet ∙ ap (λ b. if b then 14 - n else 0) is in
+        ap (λ b. if b then level_by fed links n p else if within fed links (suc n) p then 14 - n else 0) not_yet ∙ ap (λ b. if b then 14 - n else 0) is in
         record {
           most = omega (arith, v);
           reached = λ r least h. elim (split r n least) [
-            inl less ↦ absurd (not_before r less h)
-          | inr same ↦ omega (arith, v, same, few)
+            | inl less ↦ absurd (not_before r less h)
+            | inr same ↦ omega (arith, v, same, few)
           ];
           away = λ r least h. elim (split r n least) [
-            inl less ↦ omega (arith, v, less, few)
-          | inr same ↦ absurd (never (suc n) p is (subst (λ k. within fed links k p ≡ false) same h))
+            | inl less ↦ omega (arith, v, less, few)
+            | inr same ↦ absurd (never (suc n) p is (subst (λ k. within fed links k p ≡ false) same h))
           ];
         }
 
@@ -150,12 +150,12 @@ module _ {X : Type 0} (fed : X → Bool) (links : X → List X) where
     unfolding level_by
     lacks is =
         let v : level_by fed links (suc n) p ≡ 0 =
-            ap (λ b. if b then level_by fed links n p else if within fed links (suc n) p then 14 - n else 0) not_yet ∙ ap (λ b. if b then 14 - n else 0) is in
+        ap (λ b. if b then level_by fed links n p else if within fed links (suc n) p then 14 - n else 0) not_yet ∙ ap (λ b. if b then 14 - n else 0) is in
         record {
           most = omega (arith, v);
           reached = λ r least h. elim (split r n least) [
-            inl less ↦ absurd (not_before r less h)
-          | inr same ↦ absurd (never (suc n) p (subst (λ k. within fed links k p ≡ true) same h) is)
+            | inl less ↦ absurd (not_before r less h)
+            | inr same ↦ absurd (never (suc n) p (subst (λ k. within fed links k p ≡ true) same h) is)
           ];
           away = λ r least h. omega (arith, v, least, few);
         }
@@ -163,10 +163,10 @@ module _ {X : Type 0} (fed : X → Bool) (links : X → List X) where
   pub tells : (n : ℕ) (p : X) → n ≤ 14 → Tells n p
   tells zero p few = elim (known (fed p)) [ inl is ↦ at_fed p is | inr is ↦ at_unfed p is ]
   tells (suc n) p few = elim (known (within fed links n p)) [
-    inl is ↦ keeps n p is (tells n p (omega (arith, few)))
+    | inl is ↦ keeps n p is (tells n p (omega (arith, few)))
     | inr not_yet ↦ elim (known (within fed links (suc n) p)) [
-      inl is ↦ gets n p few not_yet is
-    | inr is ↦ lacks n p few not_yet is
+      | inl is ↦ gets n p few not_yet is
+      | inr is ↦ lacks n p few not_yet is
     ]
   ]
 
@@ -179,8 +179,8 @@ module _ {X : Type 0} (fed : X → Bool) (links : X → List X) where
         most = told.most;
         walks = λ d few. (
           λ most. elim (known (within fed links d p)) [
-            inl near ↦ walk_from d p near
-          | inr away ↦ let less = told.away d (omega (arith, few)) away in absurd (omega (arith, less, most))
+            | inl near ↦ walk_from d p near
+            | inr away ↦ let less = told.away d (omega (arith, few)) away in absurd (omega (arith, less, most))
           ],
           λ walk. told.reached d (omega (arith, few)) (within_from d p walk),
         );
@@ -194,17 +194,17 @@ module _ {X : Type 0} (fed : X → Bool) (links : X → List X) where
       let of_p = tells 14 p (omega arith) in
       let of_q = tells 14 q (omega arith) in
       elim (known (nat_lt 1 v)) [
-        inr small ↦ let most = ltb-false 1 v small in omega (arith, most)
-      | inl large ↦
-        let least = ltb-true 1 v large in
-        elim (known (within fed links (15 - v) q)) [
-          inl near ↦
-          let next = any_from (within fed links (15 - v)) (links p) q linked near in
-          let reached = of_p.reached (suc (15 - v)) (omega (arith, least))
-              (right (within fed links (15 - v) p) (list_any (within fed links (15 - v)) (links p)) next) in
-          omega (arith, reached, of_q.most)
-        | inr away ↦
-          let less = of_q.away (15 - v) (omega (arith, least)) away in
-          absurd (omega (arith, less, of_q.most))
-        ]
+        | inr small ↦ let most = ltb-false 1 v small in omega (arith, most)
+        | inl large ↦
+            let least = ltb-true 1 v large in
+            elim (known (within fed links (15 - v) q)) [
+              | inl near ↦
+                  let next = any_from (within fed links (15 - v)) (links p) q linked near in
+                  let reached = of_p.reached (suc (15 - v)) (omega (arith, least))
+                  (right (within fed links (15 - v) p) (list_any (within fed links (15 - v)) (links p)) next) in
+                  omega (arith, reached, of_q.most)
+              | inr away ↦
+                  let less = of_q.away (15 - v) (omega (arith, least)) away in
+                  absurd (omega (arith, less, of_q.most))
+            ]
       ]

@@ -30,9 +30,7 @@ fn dust_powers<L: Leveled>(map: &Frozen<'_>, levels: &L, p: Pos, dir: Dir) -> bo
     ensures { result ≡ dust_powers (cell_on map.now) (L.level levels.now) p dir }
 {
     match map.next(p, dir) {
-        Some(next) => {
-            is_dust(map.cell(next)) && 0 < levels.at(next) && reaches(map, next, dir)
-        }
+        Some(next) => { is_dust(map.cell(next)) && 0 < levels.at(next) && reaches(map, next, dir) }
         None => false,
     }
 }

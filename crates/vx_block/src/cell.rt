@@ -88,12 +88,8 @@ impl Cell {
         ensures { result ≡ conducts self }
     {
         match self.kind() {
-            Kind::Stone
-            | Kind::Dirt
-            | Kind::Planks
-            | Kind::Obsidian
-            | Kind::Bedrock
-            | Kind::Lamp => true,
+            Kind::Stone | Kind::Dirt | Kind::Planks | Kind::Obsidian | Kind::Bedrock | Kind::Lamp =>
+                true,
             _ => false,
         }
     }

@@ -175,5 +175,9 @@ fn near(x: i64, y: i64, z: i64) -> Option<Pos>
 fn coordinate(c: i64) -> Option<i32>
     ensures { SomeIff result (is_below c far ≡ true) c }
 {
-    if 0 <= c && c < FAR { Some(c as i32) } else { None }
+    if 0 <= c && c < FAR {
+        Some(c as i32)
+    } else {
+        None
+    }
 }

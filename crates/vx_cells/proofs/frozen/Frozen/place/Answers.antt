@@ -26,7 +26,7 @@ pub returns-else-inside-clause-outside : goal.returns-else-inside-clause-outside
 returns-else-inside-clause-outside c none =
     let p : Pos = record { y = c.args.y; z = c.args.z; x = c.args.x } in
     let is : c.in_ok-p.p ≡ p =
-        (simp (signed, c.ranges.x, c.ranges.y, c.ranges.z) at c.in_ok-p.ensures).1 in
+    (simp (signed, c.ranges.x, c.ranges.y, c.ranges.z) at c.in_ok-p.ensures).1 in
     let away : is_inside c.args.self.now.sizes p ≡ false =
-        rw (← c.self.view_is) (ap (is_inside c.self.inside.bounds) (sym is) ∙ sym c.if-inside.ensures) in
+    rw (← c.self.view_is) (ap (is_inside c.self.inside.bounds) (sym is) ∙ sym c.if-inside.ensures) in
     outside_is_air c.args.self.now p (λ inside. true≢false (sym inside ∙ away))

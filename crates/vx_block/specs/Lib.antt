@@ -1,7 +1,9 @@
 pub mod Cell
 pub mod Cells
+pub mod Conductors
 pub mod Cut
 pub mod Kind
 pub mod Part
 pub mod Repeating
+pub mod Sides
 pub mod States

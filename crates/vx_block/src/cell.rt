@@ -1,5 +1,6 @@
 ghost use Rattle.std.specs.Prelude.{◌≡◌, Bool, if◌then◌else◌, [], ◌∷◌, ◌++◌, codes, IfSome, Some};
 ghost use Rattle.vx_block.specs.Cell.{kind_of, cell_state, cell_text, IsCell, IsSpelled};
+ghost use Rattle.vx_block.specs.Conductors.{conducts};
 ghost use Rattle.vx_block.specs.Cut.{colon, tail_of};
 ghost use Rattle.vx_block.specs.Kind.{kind_word};
 ghost use Rattle.vx_block.specs.States.{mount_dir, dir_word, on_word, out_word, grip_word};
@@ -79,6 +80,17 @@ impl Cell {
             Cell::Piston { sticky: true, .. } => Kind::StickyPiston,
             Cell::Piston { sticky: false, .. } => Kind::Piston,
             Cell::Head { .. } => Kind::Head,
+        }
+    }
+
+    /// Whether this cell takes power from its neighbors and hands it on (docs/RULES.md).
+    pub fn conducts(self) -> bool
+        ensures { result ≡ conducts self }
+    {
+        match self.kind() {
+            Kind::Stone | Kind::Dirt | Kind::Planks | Kind::Obsidian | Kind::Bedrock | Kind::Lamp =>
+                true,
+            _ => false,
         }
     }
 

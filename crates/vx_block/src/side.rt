@@ -1,4 +1,5 @@
 ghost use Rattle.std.specs.Prelude.{◌≡◌, IfSome, Some};
+ghost use Rattle.vx_block.specs.Sides.{same_side, side_back, side_right};
 ghost use Rattle.vx_block.specs.States.{side_dir, dir_word};
 
 use vx_geom::Dir;
@@ -13,6 +14,40 @@ pub enum Side {
 }
 
 impl Side {
+    /// The four sides.
+    pub const ALL: [Side; 4] = [Side::East, Side::West, Side::South, Side::North];
+
+    /// Whether both are one side.
+    pub fn is(self, other: Side) -> bool
+        ensures { result ≡ same_side self other }
+    {
+        self == other
+    }
+
+    /// The side that leads back.
+    pub fn back(self) -> Side
+        ensures { result ≡ side_back self }
+    {
+        match self {
+            Side::East => Side::West,
+            Side::West => Side::East,
+            Side::South => Side::North,
+            Side::North => Side::South,
+        }
+    }
+
+    /// The side to the right of one who looks to this side.
+    pub fn right(self) -> Side
+        ensures { result ≡ side_right self }
+    {
+        match self {
+            Side::East => Side::South,
+            Side::South => Side::West,
+            Side::West => Side::North,
+            Side::North => Side::East,
+        }
+    }
+
     /// The direction of this side.
     pub fn dir(self) -> Dir
         ensures { result ≡ side_dir self }

@@ -4,9 +4,11 @@
 mod cells;
 mod chests;
 mod code;
+mod frozen;
 mod laws;
 mod stack;
 
 pub use cells::Cells;
+pub use frozen::Frozen;
 pub use laws::{other_blocks_stay, set_block_is_read};
 pub use stack::{MAX_COUNT, SLOTS, Slot, Stack};

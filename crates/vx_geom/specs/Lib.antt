@@ -1,3 +1,4 @@
+pub mod Dirs
 pub mod Neighbor
 pub mod Order
 pub mod Outline

@@ -50,18 +50,23 @@ impl Bounds {
         Some(Bounds { sx, sz, s })
     }
 
+    /// What holds of every world's bounds: it has 1 to 8 sectors each way, of 1 or 2 chunks each way.
+    pub fn soundness(&self)
+        ensures { AreSizes self.now }
+    {
+        let _ = &self.s;
+    }
+
     /// How many columns a side of a sector has: 16 or 32.
     pub fn span(&self) -> u32
-        ensures value { result ≡ span self.now }
-        ensures valid { AreSizes self.now }
+        ensures { result ≡ span self.now }
     {
         16 * u32::from(self.s)
     }
 
     /// How many sectors there are: 1 to 64.
     pub fn sectors(&self) -> u32
-        ensures value { result ≡ sector_count self.now }
-        ensures valid { AreSizes self.now }
+        ensures { result ≡ sector_count self.now }
     {
         u32::from(self.sx) * u32::from(self.sz)
     }
@@ -86,6 +91,7 @@ impl Bounds {
         if !self.inside(p) {
             return None;
         }
+        self.soundness();
         let column = p.x.unsigned_abs() / self.span();
         let row = p.z.unsigned_abs() / self.span();
         Some(column + u32::from(self.sx) * row)
@@ -95,6 +101,7 @@ impl Bounds {
     pub fn sector_cells(&self) -> u32
         ensures { result ≡ sector_cells self.now }
     {
+        self.soundness();
         self.span() * self.span() * HEIGHT
     }
 
@@ -105,6 +112,7 @@ impl Bounds {
         ensures value { result ≡ index_in_sector self.now p }
         ensures within { result < sector_cells self.now }
     {
+        self.soundness();
         let span = self.span();
         let column = p.x.unsigned_abs() % span;
         let row = p.z.unsigned_abs() % span;

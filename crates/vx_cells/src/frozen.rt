@@ -1,0 +1,183 @@
+ghost use Rattle.std.specs.Prelude.{◌≡◌, true, None, SomeIff};
+ghost use Rattle.vx_block.specs.declared.cell.Cell.TheVariants.{Air};
+ghost use Rattle.vx_geom.specs.Neighbor.{neighbor};
+ghost use Rattle.vx_geom.specs.Sizes.{is_below, is_inside};
+ghost use Rattle.vx_geom.specs.declared.dir.Dir.TheVariants.{Up, Down};
+ghost use Rattle.vx_geom.specs.declared.pos.Pos.{Pos};
+ghost use Rattle.vx_cells.specs.Maps.{far, is_near};
+
+use crate::cells::Cells;
+use std::marker::Model;
+use vx_block::Cell;
+use vx_geom::{Bounds, Dir, Pos};
+
+/// No world is as wide or as high.
+const FAR: i64 = 512;
+
+/// The map as a tick begins: what stands at each position of the world, and air outside. The
+/// sectors are lent to it, and nothing is copied.
+#[derive(Drop)]
+pub struct Frozen<'a> {
+    bounds: Bounds,
+    sectors: &'a [Cells],
+}
+
+impl<'a> Model for Frozen<'a> {
+    ghost use Rattle.vx_cells.specs.Maps.{MapData, AreSectors};
+
+    ghost Value = { MapData };
+
+    ghost view = { λ a. record { sizes = a.bounds; sectors = a.sectors.now } };
+
+    ghost invariant = { λ a. AreSectors a.bounds a.sectors.now };
+}
+
+impl<'a> Frozen<'a> {
+    ghost use Rattle.vx_cells.specs.Maps.{AreSectors, cell_on};
+
+    /// The map of these sectors: those of a world of this size, in order of their numbers.
+    pub fn new(bounds: Bounds, sectors: &'a [Cells]) -> Frozen<'a>
+        requires { AreSectors bounds sectors.now }
+        ensures { result ≡ record { sizes = bounds; sectors = sectors.now } }
+    {
+        Frozen { bounds, sectors }
+    }
+
+    /// What holds of every map: it has all sectors of its world, each in its place.
+    pub fn soundness(&self)
+        ensures { AreSectors self.now.sizes self.now.sectors }
+    {
+        let _ = &self.bounds;
+    }
+
+    /// The bounds of the world.
+    pub fn bounds(&self) -> Bounds
+        ensures { result ≡ self.now.sizes }
+    {
+        self.bounds
+    }
+
+    /// The cell at a position; air outside the world.
+    #[tactic(auto, unfolding(crate::specs::Maps::cell_on))]
+    pub fn cell(&self, p: Pos) -> Cell
+        ensures { result ≡ cell_on self.now p }
+    {
+        let Some(number) = self.bounds.sector_of(p) else {
+            return Cell::Air;
+        };
+        match self.sectors.get(number as usize) {
+            Some(cells) => cells.get(p),
+            None => Cell::Air,
+        }
+    }
+
+    /// The cell at the next position on that side.
+    #[tactic(auto, using(vx_base::proofs::Signed::signed))]
+    pub fn beside(&self, p: Pos, dir: Dir) -> Cell
+        ensures { result ≡ cell_on self.now (neighbor p dir) }
+    {
+        let (x, y, z) = (i64::from(p.x), i64::from(p.y), i64::from(p.z));
+        match dir {
+            Dir::East => self.look(x + 1, y, z),
+            Dir::West => self.look(x - 1, y, z),
+            Dir::Up => self.look(x, y + 1, z),
+            Dir::Down => self.look(x, y - 1, z),
+            Dir::South => self.look(x, y, z + 1),
+            Dir::North => self.look(x, y, z - 1),
+        }
+    }
+
+    /// The cell over the next position on that side.
+    #[tactic(auto, using(vx_base::proofs::Signed::signed))]
+    pub fn above(&self, p: Pos, dir: Dir) -> Cell
+        ensures { result ≡ cell_on self.now (neighbor (neighbor p dir) Up) }
+    {
+        let (x, y, z) = (i64::from(p.x), i64::from(p.y), i64::from(p.z));
+        match dir {
+            Dir::East => self.look(x + 1, y + 1, z),
+            Dir::West => self.look(x - 1, y + 1, z),
+            Dir::Up => self.look(x, y + 1 + 1, z),
+            Dir::Down => self.look(x, y - 1 + 1, z),
+            Dir::South => self.look(x, y + 1, z + 1),
+            Dir::North => self.look(x, y + 1, z - 1),
+        }
+    }
+
+    /// The cell under the next position on that side.
+    #[tactic(auto, using(vx_base::proofs::Signed::signed))]
+    pub fn below(&self, p: Pos, dir: Dir) -> Cell
+        ensures { result ≡ cell_on self.now (neighbor (neighbor p dir) Down) }
+    {
+        let (x, y, z) = (i64::from(p.x), i64::from(p.y), i64::from(p.z));
+        match dir {
+            Dir::East => self.look(x + 1, y - 1, z),
+            Dir::West => self.look(x - 1, y - 1, z),
+            Dir::Up => self.look(x, y + 1 - 1, z),
+            Dir::Down => self.look(x, y - 1 - 1, z),
+            Dir::South => self.look(x, y - 1, z + 1),
+            Dir::North => self.look(x, y - 1, z - 1),
+        }
+    }
+
+    /// The next position on that side, where the world has one.
+    #[tactic(auto, using(vx_base::proofs::Signed::signed))]
+    pub fn next(&self, p: Pos, dir: Dir) -> Option<Pos>
+        ensures value { SomeIff result (is_inside self.now.sizes (neighbor p dir) ≡ true)
+            (neighbor p dir) }
+        ensures outside { result ≡ None → cell_on self.now (neighbor p dir) ≡ Air }
+    {
+        let (x, y, z) = (i64::from(p.x), i64::from(p.y), i64::from(p.z));
+        match dir {
+            Dir::East => self.place(x + 1, y, z),
+            Dir::West => self.place(x - 1, y, z),
+            Dir::Up => self.place(x, y + 1, z),
+            Dir::Down => self.place(x, y - 1, z),
+            Dir::South => self.place(x, y, z + 1),
+            Dir::North => self.place(x, y, z - 1),
+        }
+    }
+
+    // The position with these coordinates, where the world has one.
+    fn place(&self, x: i64, y: i64, z: i64) -> Option<Pos>
+        ensures value { let p : Pos = record { y = y; z = z; x = x } in
+            SomeIff result (is_inside self.now.sizes p ≡ true) p }
+        ensures outside { result ≡ None
+            → cell_on self.now (record { y = y; z = z; x = x }) ≡ Air }
+    {
+        self.soundness();
+        let p = near(x, y, z)?;
+        if self.bounds.inside(p) { Some(p) } else { None }
+    }
+
+    // The cell at these coordinates, which may lie past the ends of a position's.
+    fn look(&self, x: i64, y: i64, z: i64) -> Cell
+        ensures { result ≡ cell_on self.now (record { y = y; z = z; x = x }) }
+    {
+        self.soundness();
+        match near(x, y, z) {
+            Some(p) => self.cell(p),
+            None => Cell::Air,
+        }
+    }
+}
+
+// The position with these coordinates, where a world may have one.
+fn near(x: i64, y: i64, z: i64) -> Option<Pos>
+    ensures { let p : Pos = record { y = y; z = z; x = x } in SomeIff result (is_near p ≡ true) p }
+{
+    Some(Pos {
+        x: coordinate(x)?,
+        y: coordinate(y)?,
+        z: coordinate(z)?,
+    })
+}
+
+fn coordinate(c: i64) -> Option<i32>
+    ensures { SomeIff result (is_below c far ≡ true) c }
+{
+    if 0 <= c && c < FAR {
+        Some(c as i32)
+    } else {
+        None
+    }
+}

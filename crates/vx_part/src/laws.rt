@@ -1,0 +1,19 @@
+ghost use Rattle.vx_part.specs.Laws.{DustKeepsItsLevel, TorchesInvert, LockedRepeatersStay, RepeatersDelay, LampsGoOutLate};
+
+/// Dust keeps its level, and a torch inverts the power of its block, a tick later.
+pub fn dust_keeps_torches_invert()
+    ensures dust { DustKeepsItsLevel }
+    ensures torch { TorchesInvert }
+{}
+
+/// A locked repeater stays as it is; one at rest follows an input that stays the same after the
+/// ticks of its delay, and not before.
+pub fn repeaters_delay_and_lock()
+    ensures locked { LockedRepeatersStay }
+    ensures delay { RepeatersDelay }
+{}
+
+/// A lamp that loses its power stays lit for one tick more.
+pub fn lamps_go_out_late()
+    ensures { LampsGoOutLate }
+{}

@@ -1,0 +1,4 @@
+pub mod Dust
+pub mod Laws
+pub mod Signals
+pub mod Walks

@@ -1,0 +1,21 @@
+ghost use Rattle.vx_power.specs.Laws.{LevelsAreWalks, LevelsFallByOne, LinksLeadBack, PointsToAll, PointsAlong, PointsToJoins};
+
+/// The level of dust is 15 less the length of the shortest walk of links to fed dust, or 0; it
+/// falls by at most one with each link.
+pub fn levels_are_walks()
+    ensures walks { LevelsAreWalks }
+    ensures falls { LevelsFallByOne }
+{}
+
+/// Dust that links to other dust is linked to by it.
+pub fn links_lead_back()
+    ensures { LinksLeadBack }
+{}
+
+/// Dust points to all sides where it joins nothing, to both ends of an axis where it joins
+/// something on that axis alone, and else to what it joins.
+pub fn dust_points_as_it_joins()
+    ensures all { PointsToAll }
+    ensures along { PointsAlong }
+    ensures joins { PointsToJoins }
+{}

@@ -1,0 +1,14 @@
+//! The signals of redstone: what dust links to, what feeds it, and what its power reaches.
+#![tactic(auto)]
+
+mod dust;
+mod laws;
+mod leveled;
+mod power;
+mod signals;
+
+pub use dust::points;
+pub use laws::{dust_points_as_it_joins, levels_are_walks, links_lead_back};
+pub use leveled::Leveled;
+pub use power::{activates, active, powered};
+pub use signals::is_fed;

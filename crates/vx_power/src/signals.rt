@@ -1,0 +1,82 @@
+//! What feeds power, and which dust and conductors it feeds.
+ghost use Rattle.std.specs.Prelude.{◌≡◌};
+ghost use Rattle.vx_cells.specs.Maps.{cell_on};
+ghost use Rattle.vx_power.specs.Signals.{gives, drives, drives_from, is_driven, is_strong, feeds_from, has_feeder, is_fed};
+
+use crate::dust::is_dust;
+use vx_block::Cell;
+use vx_cells::Frozen;
+use vx_geom::{Dir, Pos};
+
+/// Whether a cell gives power to its neighbor in that direction.
+pub fn gives(cell: Cell, dir: Dir) -> bool
+    ensures { result ≡ gives cell dir }
+{
+    match cell {
+        Cell::Torch { facing, lit } => lit && !facing.dir().is(dir),
+        Cell::Lever { on, .. } => on,
+        Cell::Repeater(repeater) => repeater.is_on() && repeater.facing().dir().is(dir),
+        _ => false,
+    }
+}
+
+// Whether a cell drives a conductor that is its neighbor in that direction.
+fn drives(cell: Cell, dir: Dir) -> bool
+    ensures { result ≡ drives cell dir }
+{
+    match cell {
+        Cell::Torch { lit, .. } => lit && dir.is(Dir::Up),
+        Cell::Lever { facing, on } => on && facing.is(dir),
+        Cell::Repeater(repeater) => repeater.is_on() && repeater.facing().dir().is(dir),
+        _ => false,
+    }
+}
+
+#[tactic(auto, unfolding(crate::specs::Signals::drives_from))]
+fn drives_from(map: &Frozen<'_>, p: Pos, dir: Dir) -> bool
+    ensures { result ≡ drives_from (cell_on map.now) p dir }
+{
+    drives(map.beside(p, dir), dir.opposite())
+}
+
+/// Whether some neighbor drives what stands at a position.
+#[tactic(auto, unfolding(crate::specs::Signals::is_driven))]
+pub fn is_driven(map: &Frozen<'_>, p: Pos) -> bool
+    ensures { result ≡ is_driven (cell_on map.now) p }
+{
+    Dir::ALL.iter().any(|dir| drives_from(map, p, *dir))
+}
+
+/// Whether a conductor stands at a position that is strongly powered.
+#[tactic(auto, unfolding(crate::specs::Signals::is_strong))]
+pub fn is_strong(map: &Frozen<'_>, p: Pos) -> bool
+    ensures { result ≡ is_strong (cell_on map.now) p }
+{
+    map.cell(p).conducts() && is_driven(map, p)
+}
+
+#[tactic(auto, unfolding(crate::specs::Signals::feeds_from, crate::specs::Signals::is_strong))]
+fn feeds_from(map: &Frozen<'_>, p: Pos, dir: Dir) -> bool
+    ensures { result ≡ feeds_from (cell_on map.now) p dir }
+{
+    match map.next(p, dir) {
+        Some(next) => gives(map.cell(next), dir.opposite()) || is_strong(map, next),
+        None => false,
+    }
+}
+
+// Whether some neighbor feeds dust at a position.
+#[tactic(auto, unfolding(crate::specs::Signals::has_feeder))]
+fn has_feeder(map: &Frozen<'_>, p: Pos) -> bool
+    ensures { result ≡ has_feeder (cell_on map.now) p }
+{
+    Dir::ALL.iter().any(|dir| feeds_from(map, p, *dir))
+}
+
+/// Whether dust stands at a position that some neighbor feeds.
+#[tactic(auto, unfolding(crate::specs::Signals::is_fed))]
+pub fn is_fed(map: &Frozen<'_>, p: Pos) -> bool
+    ensures { result ≡ is_fed (cell_on map.now) p }
+{
+    is_dust(map.cell(p)) && has_feeder(map, p)
+}

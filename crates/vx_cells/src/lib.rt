@@ -8,5 +8,5 @@ mod laws;
 mod stack;
 
 pub use cells::Cells;
-pub use laws::{other_blocks_stay, set_block_is_read};
+pub use laws::{equal_is_the_same, other_blocks_stay, set_block_is_read};
 pub use stack::{MAX_COUNT, SLOTS, Slot, Stack};

@@ -24,10 +24,10 @@ use Rattle.vx_sector.proofs.ActingLemmas.{denied_by_the_policy}
 use Rattle.vx_sector.proofs.Outside.{elsewhere_is_refused, full_is_refused, answered_by_the_rules}
 use Rattle.vx_sector.proofs.WindowLemmas.{command_keeps_sector}
 use Rattle.vx_play.specs.Terrains.{TerrainData}
-use Rattle.vx_play.specs.Plays.{PlayData, cells_of, ticked, opened, opened_with, sector_asked, answered, answered_at, answer_in, left_in, renewed_by, next_version}
+use Rattle.vx_play.specs.Plays.{PlayData, cells_of, IsWorld, ticked, opened, opened_with, sector_asked, answered, answered_at, answer_in, left_in, renewed_by, next_version}
 use Rattle.vx_play.specs.Games.{Step, Command, Accepted, Tick, after_step, played, game, edits_of, ticks_of, version_after, AreJudgedBy, base_of}
-use Rattle.vx_play.specs.Laws.{TicksLeaveCells, NoEditCountsBeforeATick, EditsCountFromTheNextTick, IsJudged, IsDeniedBy, DeniedByTheOpening, DeniedByTheLastTick, StepsAreCounted, RecordsAreWindows, FirstWindowsBeginWithTheTerrain, WindowsBeginWithTheTick}
-use Rattle.vx_play.proofs.Whole.{cells_renewed}
+use Rattle.vx_play.specs.Laws.{GamesStayWhole, TicksLeaveCells, NoEditCountsBeforeATick, EditsCountFromTheNextTick, IsJudged, IsDeniedBy, DeniedByTheOpening, DeniedByTheLastTick, StepsAreCounted, RecordsAreWindows, FirstWindowsBeginWithTheTerrain, WindowsBeginWithTheTick}
+use Rattle.vx_play.proofs.Whole.{cells_renewed, worlds_begin_whole, commands_keep_worlds, ticks_keep_worlds}
 
 pub ticks_leave_cells : TicksLeaveCells
 ticks_leave_cells play = cells_renewed (next_version play) play.sectors
@@ -96,6 +96,15 @@ module _ {X : Type 0} (f : SectorData → X) (kept : (s : SectorData) (entry : E
   same_until_the_next_tick play (Command seat cmd ∷ steps) none = same_until_the_next_tick (after_step play (Command seat cmd)) steps none ∙ command_leaves play seat cmd
   same_until_the_next_tick play (Accepted edit ∷ steps) none = same_until_the_next_tick (after_step play (Accepted edit)) steps none
   same_until_the_next_tick play (Tick ∷ steps) none = cc
+
+still_whole : (play : PlayData) (steps : List Step) → IsWorld play → IsWorld (played play steps)
+still_whole play [] whole = whole
+still_whole play (Command seat cmd ∷ steps) whole = still_whole (after_step play (Command seat cmd)) steps (commands_keep_worlds play seat cmd whole)
+still_whole play (Accepted edit ∷ steps) whole = still_whole (after_step play (Accepted edit)) steps whole
+still_whole play (Tick ∷ steps) whole = still_whole (after_step play Tick) steps (ticks_keep_worlds play whole)
+
+pub games_stay_whole : GamesStayWhole
+games_stay_whole rs terrain names steps whole = still_whole (opened rs terrain names) steps (worlds_begin_whole rs terrain names whole)
 
 played_append : (play : PlayData) (before since : List Step) → played play (before ++ since) ≡ played (played play before) since
 played_append play [] since = refl

@@ -30,6 +30,11 @@ CommandsKeepWorlds = (play : PlayData) (seat : SeatData) (cmd : Cmd)
 abbrev pub TicksKeepWorlds : Type 0
 TicksKeepWorlds = (play : PlayData) → IsWorld play → IsWorld (ticked play)
 
+-- so in every game each sector stands in its place
+abbrev pub GamesStayWhole : Type 0
+GamesStayWhole = (rs : Regions) (terrain : TerrainData) (names : List (List ℕ))
+    (steps : List Step) → IsTerrain terrain → IsWorld (game rs terrain names steps)
+
 -- a command is out of the world exactly where its position is outside
 abbrev pub OutOfWorldIsOutside : Type 0
 OutOfWorldIsOutside = (play : PlayData) (seat : SeatData) (cmd : Cmd) → IsWorld play

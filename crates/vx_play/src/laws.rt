@@ -1,10 +1,12 @@
-ghost use Rattle.vx_play.specs.Laws.{WorldsBeginWhole, CommandsKeepWorlds, TicksKeepWorlds, OutOfWorldIsOutside, TicksLeaveCells, NoEditCountsBeforeATick, EditsCountFromTheNextTick, StepsAreCounted, DeniedByTheOpening, DeniedByTheLastTick, RecordsAreWindows, FirstWindowsBeginWithTheTerrain, WindowsBeginWithTheTick};
+ghost use Rattle.vx_play.specs.Laws.{WorldsBeginWhole, CommandsKeepWorlds, TicksKeepWorlds, GamesStayWhole, OutOfWorldIsOutside, TicksLeaveCells, NoEditCountsBeforeATick, EditsCountFromTheNextTick, StepsAreCounted, DeniedByTheOpening, DeniedByTheLastTick, RecordsAreWindows, FirstWindowsBeginWithTheTerrain, WindowsBeginWithTheTick};
 
-/// A world has each sector in its place: as it is made, after each command and after each tick.
+/// A world has each sector in its place: as it is made, after each command and after each tick, and
+/// so in every game.
 pub fn worlds_stay_whole()
     ensures begun { WorldsBeginWhole }
     ensures answered { CommandsKeepWorlds }
     ensures ticked { TicksKeepWorlds }
+    ensures game { GamesStayWhole }
 {}
 
 /// A command is out of the world exactly where its position is outside.

@@ -1,6 +1,5 @@
 -- What is read from a stored sector, and what a change of the store is to it.
-use Rattle.std.proofs.Common.{◌≡◌, ℕ, ◌<◌, Bool, true, false, not, ◌&&◌, nat_eq, List, [], length, get_or, set, slice_set, Option, Some, None, IsSome, unwrap_or, if◌then◌else◌, Decides, refl, ap, sym, ◌∙◌, true≢false, arith}
-use Rattle.std.proofs.lemmas.Bool.{and_parts, eqb-true}
+use Rattle.std.proofs.Common.{◌≡◌, ◌≢◌, ℕ, ◌<◌, Bool, true, false, not, ◌&&◌, nat_eq, List, [], length, get_or, set, slice_set, Option, Some, None, IsSome, unwrap_or, if◌then◌else◌, Decides, refl, ap, sym, ◌∙◌, true≢false, arith}
 use Rattle.std.proofs.lemmas.List.{set-get_or, length-set}
 use Rattle.std.proofs.lemmas.List.Elements.{All-replicate, All-set}
 use Rattle.vx_block.specs.declared.cell.Cell.{Cell}
@@ -9,7 +8,9 @@ use Rattle.vx_geom.specs.declared.pos.Pos.{Pos}
 use Rattle.vx_geom.specs.Sizes.{Sizes, sector_cells, index_in_sector}
 use Rattle.vx_cells.specs.declared.stack.Stack.{Stack}
 use Rattle.vx_cells.specs.Chests.{refilled, Slots, ChestData, slots_of_chest, no_content, Changes}
+use Rattle.vx_cells.specs.CellsLaws.{sizes_decided}
 use Rattle.vx_cells.specs.Codes.{code_count, cell_of}
+use Rattle.vx_cells.specs.SameCells.{same_sizes}
 use Rattle.vx_cells.specs.SectorCells.{IsSlot, is_chest, placed, block_at, cell_at, chest_at, with_block, with_cell, with_content, with_slot}
 use Rattle.vx_cells.specs.Stored.{block_of, blocks_from, stored, IsBeside, IsStored}
 use Rattle.vx_cells.proofs.StoredBlocks.{block-at, blocks-changed, stored-set, same-slots, same-blocks}
@@ -105,16 +106,19 @@ same-stored bounds rest sector number codes others chests more r held holds size
   λ same. decides.1 (same-slots bounds rest codes others chests more held holds (ap (λ c. c.blocks) same)),
 )
 
--- `!=` of two sizes says no where they are the same
+-- `!=` of two sizes says no where they are the same, and yes where not
 pub same-sizes : (v w : Sizes) → false ≡ not (nat_eq v.sx w.sx && (nat_eq v.sz w.sz && nat_eq v.s w.s)) → v ≡ w
-same-sizes v w e =
-    let all = and_parts (nat_eq v.sx w.sx) (nat_eq v.sz w.sz && nat_eq v.s w.s) (by _ e) in
-    let rest = and_parts (nat_eq v.sz w.sz) (nat_eq v.s w.s) all.1 in
-    let sx = eqb-true v.sx w.sx all.0 in
-    let sz = eqb-true v.sz w.sz rest.0 in
-    let s = eqb-true v.s w.s rest.1 in
-    λ i. record { sx = sx i; sz = sz i; s = s i }
+unfolding same_sizes
+same-sizes v w e = (sizes_decided v w).0 (by _ e)
   where
     by : (b : Bool) → false ≡ not b → b ≡ true
     by true e = refl
     by false e = cc
+
+pub other-sizes : (v w : Sizes) → true ≡ not (nat_eq v.sx w.sx && (nat_eq v.sz w.sz && nat_eq v.s w.s)) → v ≢ w
+unfolding same_sizes
+other-sizes v w e same = by _ e ((sizes_decided v w).1 same)
+  where
+    by : (b : Bool) → true ≡ not b → b ≢ true
+    by true e h = cc
+    by false e h = cc

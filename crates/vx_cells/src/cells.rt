@@ -65,13 +65,20 @@ impl Cells {
     /// Whether the position is of this sector.
     #[tactic(auto, unfolding(crate::specs::SectorCells::holds))]
     pub fn holds(&self, p: Pos) -> bool
-        ensures value { result ≡ holds self.now p }
-        ensures whole { IsWhole self.now }
+        ensures { result ≡ holds self.now p }
     {
         match self.bounds.sector_of(p) {
             Some(sector) => self.sector == sector,
             None => false,
         }
+    }
+
+    /// What holds of every sector of cells: something stands at each of its positions, each chest
+    /// has its 27 slots, each empty or with 1 to 64 of an item, and no other cell has any.
+    pub fn soundness(&self)
+        ensures { IsWhole self.now }
+    {
+        let _ = &self.store;
     }
 
     /// The cell at a position of this sector.
@@ -131,15 +138,29 @@ impl Cells {
             chests: self.chests.try_clone()?,
         })
     }
+}
+
+impl PartialEq for Cells {
+    ghost use Rattle.std.specs.Cmp.{partial_equiv_from_equiv};
+    ghost use Rattle.vx_cells.specs.CellsLaws.{cells_equiv};
+    ghost use Rattle.vx_cells.specs.SameCells.{same_cells};
+
+    ghost eq = { same_cells };
+
+    ghost laws = { partial_equiv_from_equiv cells_equiv };
 
     /// Whether both are the same sector of worlds of one size, with the same at each position,
     /// slots too.
-    pub fn same(&self, other: &Cells) -> bool
-        ensures { IsTrue result ↔ (self.now ≡ other.now) }
-    {
+    fn eq(&self, other: &Cells) -> bool {
         if self.bounds != other.bounds || self.sector != other.sector {
             return false;
         }
         self.store == other.store && self.chests.same(&other.chests)
     }
+}
+
+impl Eq for Cells {
+    ghost use Rattle.vx_cells.specs.CellsLaws.{cells_equiv};
+
+    ghost laws = { cells_equiv };
 }

@@ -1,3 +1,4 @@
+pub mod Playing
 pub mod Placed
 pub mod Renewals
 pub mod Whole

@@ -106,7 +106,7 @@ commands_keep_worlds play seat cmd whole = by (sector_asked play cmd)
     by None = whole
     by (Some k) = in_sector_of k (slice_get play.sectors k) refl
 
-cells_renewed : (v : Version) (ss : List SectorData) → map cells_of (map (renewed_by v) ss) ≡ map cells_of ss
+pub cells_renewed : (v : Version) (ss : List SectorData) → map cells_of (map (renewed_by v) ss) ≡ map cells_of ss
 unfolding renewed
 cells_renewed v [] = refl
 cells_renewed v (s ∷ ss) = ap (λ cs. s.cells ∷ cs) (cells_renewed v ss)

@@ -1,3 +1,4 @@
+pub mod Games
 pub mod Terrains
 pub mod Laws
 pub mod Plays

@@ -118,7 +118,8 @@ impl<J: Naming> Play<J> {
     /// Accepts an edit, which counts from the next tick on, or refuses it. A refusal, for want of
     /// memory too, leaves all as it was.
     pub fn edit(&mut self, alloc: Global, edit: Edit) -> Result<Edited, DeskError>
-        ensures answer { IsAnswer (policy_of self.old) (length self.old.accepted) (asked edit) result }
+        ensures answer { IsAnswer (policy_of self.old) (length self.old.accepted) (asked edit)
+            result }
         ensures ok { OnOk result
             (self.new ≡ record self.old { accepted = self.old.accepted ++ asked edit ∷ [] }) }
         ensures err { OnErr result (self.new ≡ self.old) }

@@ -2,4 +2,5 @@ pub mod ActingLemmas
 pub mod ChestLemmas
 pub mod ContentsLemmas
 pub mod Outside
+pub mod Transfers
 pub mod WindowLemmas

@@ -1,13 +1,16 @@
 -- One more entry at the end of a window.
-use Rattle.std.proofs.Common.{◌≡◌, ◌<◌, true, List, [], ◌∷◌, ◌++◌, length-append, refl, ap, sym, subst, arith, ◌∙◌}
+use Rattle.std.proofs.Common.{◌≡◌, ◌<◌, true, List, [], ◌∷◌, ◌++◌, length-append, refl, ap, sym, subst, arith, ◌∙◌, inl, inr}
+use Rattle.std.proofs.lemmas.Bool.{cases_Bool}
 use Rattle.vx_geom.specs.declared.pos.Pos.{Pos}
 use Rattle.vx_sector.specs.declared.effect.Effect.{Effect}
 use Rattle.vx_cells.specs.SectorCells.{SectorCells, holds}
 use Rattle.vx_region.specs.Regions.{Regions}
-use Rattle.vx_sector.specs.SectorData.{SectorData, EntryData}
+use Rattle.vx_sector.specs.SectorData.{SectorData, SeatData, EntryData}
 use Rattle.vx_sector.specs.Commands.{place_of}
 use Rattle.vx_sector.specs.Acting.{rules_answer, applied, effect_by, cells_by}
-use Rattle.vx_sector.specs.Windows.{cells_after, IsWindow, IsSector, most_entries, count_of, recorded}
+use Rattle.vx_sector.specs.Windows.{cells_after, IsWindow, IsSector, most_entries, count_of, is_full, answer_of, recorded, sector_after}
+use Rattle.vx_sector.specs.declared.cmd.Cmd.{Cmd}
+use Rattle.vx_sector.proofs.Outside.{elsewhere_is_refused, full_is_refused, answered_by_the_rules, after_answer, room_where_not_full}
 
 -- the entry has the answer that the rules give on the cells
 abbrev pub IsNext : Regions → SectorCells → EntryData → Type 0
@@ -44,3 +47,15 @@ sector_changed s t n entry p effect same sector next room there does base versio
     let cells_here : n.cells ≡ cells_by s.cells entry.cmd entry.answer = rw (← does_here, ← there) cells in
     let whole : n ≡ recorded s entry = λ i. record { base = base i; cells = cells_here i; version = version i; entries = entries i; closed = closed i } in
     subst IsSector (sym whole) (sector_recorded s entry sector next_here room_here)
+
+-- what a command leaves is a sector
+pub command_keeps_sector : (s : SectorData) (seat : SeatData) (cmd : Cmd) → IsSector s → IsSector (sector_after s seat cmd (answer_of s seat cmd))
+unfolding sector_after
+command_keeps_sector s seat cmd sector = elim (cases_Bool (holds s.cells (place_of cmd))) [
+  | inr other ↦ rw (elsewhere_is_refused s seat cmd other) sector
+  | inl held ↦ elim (cases_Bool (is_full s)) [
+    | inl full ↦ rw (full_is_refused s seat cmd held full) sector
+    | inr free ↦ rw (← answered_by_the_rules s seat cmd held free) (subst IsSector (after_answer s seat cmd _ refl)
+        (sector_recorded s (record { seat = seat; cmd = cmd; answer = rules_answer s.version.policy s.cells seat cmd }) sector (held, refl) (room_where_not_full s free)))
+  ]
+]

@@ -1,8 +1,10 @@
-use Rattle.std.specs.Prelude.{◌≡◌, ◌≢◌, ◌↔◌, true, false, Option, Some, List, Result, Ok, Err}
+use Rattle.std.specs.Prelude.{◌≡◌, ◌≢◌, ◌↔◌, ℕ, Bool, true, false, not, Option, Some, List, Result, Ok, Err}
+use Rattle.vx_geom.specs.declared.dir.Dir.{Dir}
 use Rattle.vx_geom.specs.declared.pos.Pos.{Pos}
 use Rattle.vx_geom.specs.Sizes.{AreSizes}
+use Rattle.vx_block.specs.declared.cell.Cell.TheVariants.{Chest, Lever}
 use Rattle.vx_cells.specs.declared.stack.Stack.{Stack}
-use Rattle.vx_cells.specs.SectorCells.{SectorCells, holds, block_at}
+use Rattle.vx_cells.specs.SectorCells.{SectorCells, IsWhole, holds, block_at, cell_at}
 use Rattle.vx_flag.specs.declared.action.Action.{Action}
 use Rattle.vx_flag.specs.declared.action.Action.TheVariants.{Reaching}
 use Rattle.vx_region.specs.Regions.{Regions}
@@ -10,9 +12,11 @@ use Rattle.vx_decide.specs.declared.rule.Rule.{Rule}
 use Rattle.vx_decide.specs.declared.verdict.Verdict.TheVariants.{Permit, Deny}
 use Rattle.vx_sector.specs.SectorData.{SectorData, SeatData}
 use Rattle.vx_sector.specs.Commands.{place_of, action_of}
-use Rattle.vx_sector.specs.Acting.{judged, slots_at, rules_answer}
+use Rattle.vx_sector.specs.Acting.{judged, slots_at, slot_at, rules_answer, cells_by}
+use Rattle.vx_sector.specs.Slots.{HoldsMore}
 use Rattle.vx_sector.specs.Windows.{answer_of, sector_after}
 use Rattle.vx_sector.specs.declared.cmd.Cmd.{Cmd}
+use Rattle.vx_sector.specs.declared.cmd.Cmd.TheVariants.{Look, Turn, OpenChest, Put, Take}
 use Rattle.vx_sector.specs.declared.reply.Reply.{Reply}
 use Rattle.vx_sector.specs.declared.reply.Reply.TheVariants.{Opened}
 use Rattle.vx_sector.specs.declared.refusal.Refusal.{Refusal}
@@ -51,3 +55,54 @@ ShownByLeave = (regions : Regions) (c : SectorCells) (seat : SeatData) (cmd : Cm
     → rules_answer regions c seat cmd ≡ Ok (Opened rule slots)
     → (judged regions seat Reaching (place_of cmd) ≡ Permit rule)
     × (slots ≡ slots_at c (place_of cmd))
+
+-- looking changes no cell and no slot, whatever is answered
+abbrev pub LookingChangesNothing : Type 0
+LookingChangesNothing = (s : SectorData) (seat : SeatData) (p : Pos) (answer : Result Reply Refusal)
+    → (sector_after s seat (Look p) answer).cells ≡ s.cells
+
+-- nor does opening a chest
+abbrev pub OpeningChangesNothing : Type 0
+OpeningChangesNothing = (s : SectorData) (seat : SeatData) (p : Pos) (answer : Result Reply Refusal)
+    → (sector_after s seat (OpenChest p) answer).cells ≡ s.cells
+
+-- the rules answer a command at a position of a sector of the world with a reply
+pub record IsAnswered (regions : Regions) (c : SectorCells) (seat : SeatData) (cmd : Cmd)
+    (reply : Reply) : Type 0 where
+  pub sizes : AreSizes c.bounds
+  pub whole : IsWhole c
+  pub held : holds c (place_of cmd) ≡ true
+  pub answer : rules_answer regions c seat cmd ≡ Ok reply
+
+-- at the position a chest was and is, and in every slot but one there is what there was
+pub record OtherSlotsStay (before after : SectorCells) (p : Pos) (slot : ℕ) : Type 0 where
+  pub was : cell_at before p ≡ Chest
+  pub is : cell_at after p ≡ Chest
+  pub others : (k : ℕ) → k ≢ slot → slot_at after p k ≡ slot_at before p k
+
+-- a put adds so many of the item to its slot, and leaves the other slots
+abbrev pub PuttingAddsSoMany : Type 0
+PuttingAddsSoMany = (regions : Regions) (before : SectorCells) (seat : SeatData) (p : Pos)
+    (slot item count : ℕ) (reply : Reply)
+    → IsAnswered regions before seat (Put p slot item count) reply
+    → let after = cells_by before (Put p slot item count) (Ok reply) in
+    HoldsMore item count (slot_at before p slot) (slot_at after p slot)
+    × OtherSlotsStay before after p slot
+
+-- a take leaves so many fewer of the item that was there in its slot, and leaves the other slots
+abbrev pub TakingLeavesSoManyFewer : Type 0
+TakingLeavesSoManyFewer = (regions : Regions) (before : SectorCells) (seat : SeatData) (p : Pos)
+    (slot count : ℕ) (reply : Reply)
+    → IsAnswered regions before seat (Take p slot count) reply
+    → let after = cells_by before (Take p slot count) (Ok reply) in
+    ((item : ℕ) × HoldsMore item count (slot_at after p slot) (slot_at before p slot))
+    × OtherSlotsStay before after p slot
+
+-- turning a lever that is on leaves it off, and the other way round, with the facing that it has
+abbrev pub TurningKeepsTheFacing : Type 0
+TurningKeepsTheFacing = (regions : Regions) (before : SectorCells) (seat : SeatData) (p : Pos)
+    (reply : Reply)
+    → IsAnswered regions before seat (Turn p) reply
+    → let after = cells_by before (Turn p) (Ok reply) in
+    (facing : Dir) × (on : Bool)
+    × (cell_at before p ≡ Lever facing on) × (cell_at after p ≡ Lever facing (not on))

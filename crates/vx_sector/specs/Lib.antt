@@ -1,7 +1,6 @@
 pub mod Acting
 pub mod Commands
 pub mod Laws
-pub mod SameSlots
 pub mod SectorData
 pub mod Slots
 pub mod Texts

@@ -1,5 +1,6 @@
-use Rattle.std.specs.Prelude.{ℕ, ◌+◌, ◌-◌, Bool, true, false, not, nat_eq, if◌then◌else◌, Option, Some, None}
+use Rattle.std.specs.Prelude.{◌≡◌, ℕ, ◌+◌, ◌-◌, Bool, true, false, not, nat_eq, if◌then◌else◌, Option, Some, None}
 use Rattle.vx_cells.specs.declared.stack.Stack.{Stack}
+use Rattle.vx_cells.specs.SectorCells.{IsSlot}
 
 -- how many items a slot holds
 abbrev pub count_in : Option Stack → ℕ
@@ -27,3 +28,15 @@ with_fewer count (Some stack) =
     if nat_eq stack.count count
     then None
     else Some (record stack { count = stack.count - count })
+
+-- a slot holds nothing but this item
+abbrev pub IsOf : ℕ → Option Stack → Type 0
+IsOf item None = Unit {0}
+IsOf item (Some stack) = stack.item ≡ item
+
+-- both are slots: the first holds nothing but this item, and the second so many more of it
+pub record HoldsMore (item count : ℕ) (low high : Option Stack) : Type 0 where
+  pub low_slot : IsSlot low
+  pub high_slot : IsSlot high
+  pub only : IsOf item low
+  pub more : high ≡ Some (record { item = item; count = count_in low + count })

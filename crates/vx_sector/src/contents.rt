@@ -54,20 +54,20 @@ impl Contents {
 
 impl PartialEq for Contents {
     ghost use Rattle.std.specs.Cmp.{partial_equiv_from_equiv};
-    ghost use Rattle.vx_sector.specs.SameSlots.{same_slots, slots_equiv};
+    ghost use Rattle.vx_cells.specs.SameSlots.{same_slots, slots_equiv};
 
     ghost eq = { same_slots };
 
     ghost laws = { partial_equiv_from_equiv slots_equiv };
 
-    #[tactic(auto, unfolding(crate::specs::SameSlots::same_slots))]
+    #[tactic(auto, unfolding(vx_cells::specs::SameSlots::same_slots))]
     fn eq(&self, other: &Contents) -> bool {
         *self.slots == *other.slots
     }
 }
 
 impl Eq for Contents {
-    ghost use Rattle.vx_sector.specs.SameSlots.{slots_equiv};
+    ghost use Rattle.vx_cells.specs.SameSlots.{slots_equiv};
 
     ghost laws = { slots_equiv };
 }

@@ -1,4 +1,4 @@
-ghost use Rattle.vx_sector.specs.Laws.{OnePlaceChanges, RefusalLeavesCells, OutsideIsRefused, DeniedByThePolicy, ShownByLeave};
+ghost use Rattle.vx_sector.specs.Laws.{OnePlaceChanges, RefusalLeavesCells, OutsideIsRefused, DeniedByThePolicy, ShownByLeave, LookingChangesNothing, OpeningChangesNothing, PuttingAddsSoMany, TakingLeavesSoManyFewer, TurningKeepsTheFacing};
 
 /// A command changes nothing but at the position that it speaks of, neither cells nor slots.
 pub fn one_place_changes()
@@ -24,4 +24,27 @@ pub fn denied_by_the_policy()
 /// Slots are shown only by leave to reach into the chest, and as they are.
 pub fn shown_by_leave()
     ensures { ShownByLeave }
+{}
+
+/// Looking and opening change no cell and no slot, whatever is answered.
+pub fn seeing_changes_nothing()
+    ensures look { LookingChangesNothing }
+    ensures open { OpeningChangesNothing }
+{}
+
+/// A put that the rules allow adds so many of its item to its slot, which held nothing else, and
+/// leaves every other slot of the chest as it was.
+pub fn putting_adds_so_many()
+    ensures { PuttingAddsSoMany }
+{}
+
+/// A take that the rules allow leaves exactly so many fewer of the one item that was in its slot,
+/// and every other slot of the chest as it was.
+pub fn taking_leaves_so_many_fewer()
+    ensures { TakingLeavesSoManyFewer }
+{}
+
+/// Turning a lever changes its state alone: it keeps its facing.
+pub fn turning_keeps_the_facing()
+    ensures { TurningKeepsTheFacing }
 {}

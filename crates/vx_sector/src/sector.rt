@@ -169,6 +169,7 @@ impl Sector {
         }
         let alloc = *self.entries.allocator();
         let regions = self.version.policy.regions();
+        self.cells.soundness();
         let outcome = outcome_of(alloc, regions, &self.cells, &seat, &cmd)?;
         let answer = copied(&outcome.answer)?;
         self.record(Entry { seat, cmd, answer }, outcome.effect)?;

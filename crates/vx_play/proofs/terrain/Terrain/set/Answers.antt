@@ -15,7 +15,7 @@ made c =
     part_is_set (record { sizes = i.bounds; sectors = i.sectors.items }) c.args.p c.args.part c.in-Some.number c.in-Some-get_mut.cells.now c.set.new.self
     (sym c.in-Some.ensures)
     (slice_get_read i.sectors.items (vec_len i.sectors) c.in-Some.number c.in-Some-get_mut.cells.now count (c.in-Some-get_mut.ensures.variant.0 refl) c.in-Some-get_mut.ensures.value)
-    (sym c.holds.ensures.value ∙ c.if-not-holds.false)
+    (sym c.holds.ensures ∙ c.if-not-holds.false)
     (c.in_ok-set.ensures.ok ∙ ap (with_cell c.in-Some-get_mut.cells.now c.args.p) c.cell.ensures)
 
 pub invariant_of-self-2 : goal.invariant_of-self-2

@@ -10,4 +10,5 @@ pub mod Numbers
 pub mod Removals
 pub mod Roles
 pub mod SameLists
+pub mod Spelling
 pub mod Walks

@@ -48,22 +48,22 @@ pub free_is_local : (rs : Regions) (id : List ℕ) → number_of rs id ≡ None 
 unfolding number_of
 free_is_local rs id free = not_global id _ free
 
-is_local : (id : List ℕ) → is_global_id id ≡ false → bytes_eq id global_id ≡ false
+pub is_local : (id : List ℕ) → is_global_id id ≡ false → bytes_eq id global_id ≡ false
 unfolding is_global_id
 is_local id local = local
 
 -- texts compare both ways alike
-same_turned : (a b : List ℕ) (c : Bool) → bytes_eq a b ≡ c → bytes_eq b a ≡ c
+pub same_turned : (a b : List ℕ) (c : Bool) → bytes_eq a b ≡ c → bytes_eq b a ≡ c
 same_turned a b true same = (bytes_eq-Decides b a).1 (sym ((bytes_eq-Decides a b).0 same))
 same_turned a b false other = not_true (bytes_eq b a) (λ same. cc ((bytes_eq-Decides a b).1 (sym ((bytes_eq-Decides b a).0 same))))
 
 -- where nothing was found, neither the first was it, nor is there one after it
-none_parts : (b : Bool) (n : ℕ) (o : Option ℕ) → cond b (Some n) o ≡ None → (b ≡ false) × (o ≡ None)
+pub none_parts : (b : Bool) (n : ℕ) (o : Option ℕ) → cond b (Some n) o ≡ None → (b ≡ false) × (o ≡ None)
 none_parts true n o none = cc
 none_parts false n o none = (refl, none)
 
 -- a region that the number finds has none of the ids that no region has
-no_such_id : (n : ℕ) (id : List ℕ) (r : RegionData) (es : List Entry) → first_with es id ≡ None → lookup (nat_eq n) es ≡ Some r → bytes_eq id r.id ≡ false
+pub no_such_id : (n : ℕ) (id : List ℕ) (r : RegionData) (es : List Entry) → first_with es id ≡ None → lookup (nat_eq n) es ≡ Some r → bytes_eq id r.id ≡ false
 no_such_id n id r [] none there = cc
 no_such_id n id r (e ∷ es) none there =
     by (nat_eq n e.0) there (none_parts (bytes_eq id e.1.id) e.0 (first_with es id) none) (no_such_id n id r es)

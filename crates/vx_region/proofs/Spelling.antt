@@ -1,11 +1,10 @@
 -- What is read is a word in lower case.
-use Rattle.std.proofs.Common.{◌≡◌, ℕ, ◌≤◌, Bool, true, false, IsTrue, not, ◌&&◌, ◌||◌, if◌then◌else◌, List, [], ◌∷◌, ◌++◌, map, length, drop, arith, refl, ap, sym, ◌∙◌, inl, inr}
-use Rattle.std.proofs.lemmas.Bool.{cases_Bool}
+use Rattle.std.proofs.Common.{◌≡◌, ℕ, ◌≤◌, Bool, true, false, not, ◌&&◌, List, [], ◌∷◌, ◌++◌, map, length, drop, arith, refl, ap, sym, ◌∙◌}
 use Rattle.std.proofs.lemmas.Bool.Decides.{nat_tests}
 use Rattle.std.proofs.lemmas.List.{append-nil, drop_all, length-map}
 use Rattle.std.specs.List.{list_all}
 use Rattle.vx_region.specs.Alphabet.{passes}
-use Rattle.vx_region.specs.Words.{is_amid, is_capital, is_name_byte, is_id_byte, lower, IsWord}
+use Rattle.vx_region.specs.Words.{is_capital, is_name_byte, is_id_byte, lower, IsWord}
 use Rattle.vx_region.specs.declared.word.Alphabet.{Alphabet}
 use Rattle.vx_region.specs.declared.word.Alphabet.TheVariants as alphabet
 

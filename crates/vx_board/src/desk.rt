@@ -33,7 +33,9 @@ impl<J: Naming> Desk<J> {
         ensures { (before : List Asked) × AreAccepted J.first before
             × IsAnswer (after J.first before) (length before) (asked edit) result }
     {
-        self.state.lock(rt).apply(alloc, edit)
+        let mut state = self.state.lock(rt);
+        state.soundness();
+        state.apply(alloc, edit)
     }
 
     /// The version of that number: the policy after the edits that stand accepted when the lock is
@@ -46,6 +48,8 @@ impl<J: Naming> Desk<J> {
               policy = after J.first accepted;
             })) }
     {
-        self.state.lock(rt).fix(tick)
+        let state = self.state.lock(rt);
+        state.soundness();
+        state.fix(tick)
     }
 }

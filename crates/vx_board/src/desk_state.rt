@@ -29,7 +29,7 @@ impl<J: Naming> Model for DeskState<J> {
 }
 
 impl<J: Naming> DeskState<J> {
-    ghost use Rattle.std.specs.Prelude.{◌≡◌, ◌++◌, ◌∷◌, [], length, IfOk, OnOk, OnErr};
+    ghost use Rattle.std.specs.Prelude.{◌≡◌, ◌++◌, ◌∷◌, [], length, map, IfOk, OnOk, OnErr};
     ghost use Rattle.vx_board.specs.Accepted.{IsAnswer};
     ghost use Rattle.vx_policy.specs.Asked.{asked};
     ghost use Rattle.vx_policy.specs.Edits.{after, AreAccepted};
@@ -53,7 +53,6 @@ impl<J: Naming> DeskState<J> {
         ensures answer { IsAnswer (after J.first self.old) (length self.old) (asked edit) result }
         ensures ok { OnOk result (self.new ≡ self.old ++ asked edit ∷ []) }
         ensures err { OnErr result (self.new ≡ self.old) }
-        ensures accepted { AreAccepted J.first self.old }
     {
         let ready = make_ready(alloc, &mut self.policy, &mut self.accepted, edit)?;
         Ok(settle(&mut self.accepted, ready))
@@ -62,12 +61,11 @@ impl<J: Naming> DeskState<J> {
     /// The version of that number: the policy after the edits that were accepted so far. It shares
     /// the regions.
     pub fn fix(&self, tick: u64) -> Result<Version, AllocError>
-        ensures version { IfOk result (λ version. version ≡ record {
+        ensures { IfOk result (λ version. version ≡ record {
           tick = tick;
           edits = length self.now;
           policy = after J.first self.now;
         }) }
-        ensures accepted { AreAccepted J.first self.now }
     {
         Ok(Version {
             tick,
@@ -78,9 +76,29 @@ impl<J: Naming> DeskState<J> {
 
     /// How many edits were accepted.
     pub fn count(&self) -> u64
-        ensures count { result ≡ length self.now }
-        ensures accepted { AreAccepted J.first self.now }
+        ensures { result ≡ length self.now }
     {
         self.accepted.len() as u64
+    }
+
+    /// The edits that were accepted, in their order.
+    pub fn accepted(&self) -> &[Edit]
+        ensures { map asked result.now ≡ self.now }
+    {
+        &self.accepted
+    }
+
+    /// The policy after the edits that were accepted.
+    pub fn policy(&self) -> &Policy
+        ensures { result.now ≡ after J.first self.now }
+    {
+        &self.policy
+    }
+
+    /// What holds of every desk: each of its edits was accepted in its turn, on its first policy.
+    pub fn soundness(&self)
+        ensures { AreAccepted J.first self.now }
+    {
+        let _accepted = &self.accepted;
     }
 }

@@ -89,6 +89,7 @@ impl Building<'_> {
         ensures { option_map (λ n. n.0) result
             ≡ first_failing (case_of self.now.contest.inquiry.now) }
     {
+        self.contest.inquiry.regions.soundness();
         for i in 0..self.contest.inquiry.regions.count() {
             let (number, region) = self.contest.inquiry.regions.nth(i);
             if self.is_failing(number, region) {
@@ -102,6 +103,7 @@ impl Building<'_> {
         ensures { option_map (λ n. n.0) result
             ≡ first_home (case_of self.now.contest.inquiry.now) }
     {
+        self.contest.inquiry.regions.soundness();
         for i in 0..self.contest.inquiry.regions.count() {
             let (number, region) = self.contest.inquiry.regions.nth(i);
             if self.is_home(number, region) {

@@ -120,6 +120,7 @@ impl Contest<'_> {
         ensures { option_map (λ n. n.0) result
             ≡ first_denying self.now.question (case_of self.now.inquiry.now) }
     {
+        self.inquiry.regions.soundness();
         for i in 0..self.inquiry.regions.count() {
             let (number, region) = self.inquiry.regions.nth(i);
             if self.is_denying(number, region) {
@@ -133,6 +134,7 @@ impl Contest<'_> {
         ensures { option_map (λ n. n.0) result
             ≡ first_taken self.now.question (case_of self.now.inquiry.now) }
     {
+        self.inquiry.regions.soundness();
         for i in 0..self.inquiry.regions.count() {
             let (number, region) = self.inquiry.regions.nth(i);
             if self.is_taken(number, region) {

@@ -1,4 +1,5 @@
 pub mod Accepted
+pub mod AtLarge
 pub mod Causes
 pub mod Numbers
 pub mod Others

@@ -5,7 +5,7 @@ use Rattle.vx_geom.specs.Written.{Written}
 use Rattle.vx_region.specs.Regions.{Regions, region_at, setting_at}
 use Rattle.vx_policy.specs.Asked.{Asked, Define, Reshape, target}
 use Rattle.vx_policy.specs.Edits.{edited, number_given, after, AreAccepted}
-use Rattle.vx_policy.specs.Refusals.{numbered, is_definition, holds, causes, refusal}
+use Rattle.vx_policy.specs.Refusals.{numbered, is_definition, is_at_large, holds, causes, refusal}
 use Rattle.vx_policy.specs.declared.edit_refusal.EditRefusal.{EditRefusal}
 
 -- the cause stands against the edit, and none of those before it does
@@ -70,3 +70,14 @@ LaterNumbersAreHigher = (rs : Regions) (e : Asked) (es : List Asked) (later : As
 abbrev pub FlagsSurviveAReshape : Type 0
 FlagsSurviveAReshape = (rs : Regions) (id : List ℕ) (shape : Written) (m : ℕ) (f : Flag)
     → setting_at (edited rs (Reshape id shape)) m f ≡ setting_at rs m f
+
+-- an edit that is not of the world at large leaves each flag of it as it was
+abbrev pub FlagsAtLargeAreKept : Type 0
+FlagsAtLargeAreKept = (rs : Regions) (e : Asked) (f : Flag)
+    → is_at_large rs (target e) ≡ false → setting_at (edited rs e) 0 f ≡ setting_at rs 0 f
+
+-- an edit of the world at large, where it is accepted, leaves all regions as they were
+abbrev pub RegionsAreKept : Type 0
+RegionsAreKept = (rs : Regions) (e : Asked)
+    → refusal rs e ≡ None → is_at_large rs (target e) ≡ true
+    → (edited rs e).entries ≡ rs.entries

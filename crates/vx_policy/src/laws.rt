@@ -1,5 +1,5 @@
 //! What follows from the definitions of an edit, whatever the regions.
-ghost use Rattle.vx_policy.specs.Laws.{RefusedByTheFirst, AcceptedWithoutCause, LastEditIsMade, LastEditIsAccepted, OthersAreKept, DefinitionKeepsOthers, NumberIsNew, NumberIsTheLast, LastIsKept, LaterNumbersAreHigher, FlagsSurviveAReshape};
+ghost use Rattle.vx_policy.specs.Laws.{RefusedByTheFirst, AcceptedWithoutCause, LastEditIsMade, LastEditIsAccepted, OthersAreKept, DefinitionKeepsOthers, NumberIsNew, NumberIsTheLast, LastIsKept, LaterNumbersAreHigher, FlagsSurviveAReshape, FlagsAtLargeAreKept, RegionsAreKept};
 
 /// An edit is refused for the first cause that stands against it, and accepted exactly where none
 /// does.
@@ -33,4 +33,11 @@ pub fn numbers_are_never_given_twice()
 /// Another shape leaves each flag of each region, and of the world at large, as it was.
 pub fn flags_survive_a_reshape()
     ensures { FlagsSurviveAReshape }
+{}
+
+/// An edit of a region leaves the flags of the world at large, and an edit of the world at large
+/// leaves the regions.
+pub fn world_at_large_is_apart()
+    ensures flags { FlagsAtLargeAreKept }
+    ensures regions { RegionsAreKept }
 {}

@@ -15,7 +15,7 @@ pub use edit_error::EditError;
 pub use edit_refusal::EditRefusal;
 pub use laws::{
     edits_in_turn, flags_survive_a_reshape, numbers_are_never_given_twice, one_region_is_edited,
-    refused_by_the_first_cause,
+    refused_by_the_first_cause, world_at_large_is_apart,
 };
 pub use listing::Listing;
 pub use policy::Policy;

@@ -1,6 +1,7 @@
 ghost use Rattle.std.specs.Prelude.{◌≡◌, IfOk};
 ghost use Rattle.std.specs.Bool.{Decides};
 ghost use Rattle.vx_region.specs.Regions.{no_regions};
+ghost use Rattle.vx_region.specs.SameRegions.{same_regions};
 
 mod changes;
 mod refusals;
@@ -51,11 +52,27 @@ impl Policy {
             regions: Arc::try_clone(&self.regions)?,
         })
     }
+}
+
+impl PartialEq for Policy {
+    ghost use Rattle.std.specs.Cmp.{partial_equiv_from_equiv};
+    ghost use Rattle.vx_region.specs.RegionsLaws.{regions_equiv};
+
+    ghost eq = { same_regions };
+
+    ghost laws = { partial_equiv_from_equiv regions_equiv };
 
     /// Whether both have the same regions, in every part, and the same flags of the world at large.
-    pub fn same(&self, other: &Policy) -> bool
-        ensures { Decides result (self.now ≡ other.now) }
+    fn eq(&self, other: &Policy) -> bool
+        ensures value { result ≡ same_regions self.now other.now }
+        ensures decides { Decides result (self.now ≡ other.now) }
     {
-        self.regions.same(&other.regions)
+        *self.regions() == *other.regions()
     }
+}
+
+impl Eq for Policy {
+    ghost use Rattle.vx_region.specs.RegionsLaws.{regions_equiv};
+
+    ghost laws = { regions_equiv };
 }

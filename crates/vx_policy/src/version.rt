@@ -15,6 +15,8 @@ pub struct Version {
 }
 
 impl Version {
+    ghost use Rattle.vx_policy.specs.SameVersions.{same_version};
+
     /// A copy of the version. It shares the regions, so that it costs the same for every policy.
     pub fn try_clone(&self) -> Result<Version, AllocError>
         ensures { IfOk result (λ copy. copy ≡ self.now) }
@@ -26,10 +28,34 @@ impl Version {
         })
     }
 
-    /// Whether both are the same in every part.
-    pub fn same(&self, other: &Version) -> bool
-        ensures { Decides result (self.now ≡ other.now) }
+    #[tactic(auto, unfolding(crate::specs::SameVersions::same_version))]
+    fn same_parts(&self, other: &Version) -> bool
+        ensures { result ≡ same_version self.now other.now }
     {
-        self.tick == other.tick && self.edits == other.edits && self.policy.same(&other.policy)
+        self.tick == other.tick && self.edits == other.edits && self.policy == other.policy
     }
+}
+
+impl PartialEq for Version {
+    ghost use Rattle.std.specs.Cmp.{partial_equiv_from_equiv};
+    ghost use Rattle.vx_policy.specs.SameVersions.{same_version};
+    ghost use Rattle.vx_policy.specs.VersionLaws.{version_equiv};
+
+    ghost eq = { same_version };
+
+    ghost laws = { partial_equiv_from_equiv version_equiv };
+
+    /// Whether both are the same in every part.
+    fn eq(&self, other: &Version) -> bool
+        ensures value { result ≡ same_version self.now other.now }
+        ensures decides { Decides result (self.now ≡ other.now) }
+    {
+        self.same_parts(other)
+    }
+}
+
+impl Eq for Version {
+    ghost use Rattle.vx_policy.specs.VersionLaws.{version_equiv};
+
+    ghost laws = { version_equiv };
 }

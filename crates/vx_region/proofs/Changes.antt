@@ -103,7 +103,7 @@ unfolding with_region
 region_kept rs id shape = region_before rs (fresh_region id shape)
 
 -- an id that has no number is not that of the world at large
-not_global : (id : List ℕ) (o : Option ℕ) → (if is_global_id id then Some 0 else o) ≡ None → is_global_id id ≡ false
+pub not_global : (id : List ℕ) (o : Option ℕ) → (if is_global_id id then Some 0 else o) ≡ None → is_global_id id ≡ false
 not_global id o none = by (is_global_id id) none
   where
     by : (b : Bool) → (if b then Some 0 else o) ≡ None → b ≡ false

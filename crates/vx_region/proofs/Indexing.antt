@@ -8,8 +8,8 @@ use Rattle.vx_region.specs.declared.id.Id.{Id}
 use Rattle.vx_region.specs.Ancestry.{has_child}
 use Rattle.vx_region.specs.Forest.{IsForest}
 use Rattle.vx_region.specs.IdIndex.{first_with, HaveOwnIds, same_id, IsSound}
-use Rattle.vx_region.specs.Regions.{RegionData, Entry, Regions, number_of, is_global_id}
-use Rattle.vx_region.proofs.Changes.{pushed, not_true}
+use Rattle.vx_region.specs.Regions.{RegionData, Entry, Regions, number_of, global_id, is_global_id}
+use Rattle.vx_region.proofs.Changes.{pushed, not_true, not_global}
 use Rattle.vx_region.proofs.Forests.{forest_empty, forest_pushed, forest_written}
 use Rattle.vx_region.proofs.Globals.{forest_with_flags}
 use Rattle.vx_region.proofs.Lookups.{lent_is}
@@ -43,18 +43,27 @@ free_is rs id free = first_is rs.entries id ∙ by (is_global_id id) (option_map
     by true o free = cc
     by false o free = free
 
+-- and is not that of the world at large
+pub free_is_local : (rs : Regions) (id : List ℕ) → number_of rs id ≡ None → is_global_id id ≡ false
+unfolding number_of
+free_is_local rs id free = not_global id _ free
+
+pub is_local : (id : List ℕ) → is_global_id id ≡ false → bytes_eq id global_id ≡ false
+unfolding is_global_id
+is_local id local = local
+
 -- texts compare both ways alike
-same_turned : (a b : List ℕ) (c : Bool) → bytes_eq a b ≡ c → bytes_eq b a ≡ c
+pub same_turned : (a b : List ℕ) (c : Bool) → bytes_eq a b ≡ c → bytes_eq b a ≡ c
 same_turned a b true same = (bytes_eq-Decides b a).1 (sym ((bytes_eq-Decides a b).0 same))
 same_turned a b false other = not_true (bytes_eq b a) (λ same. cc ((bytes_eq-Decides a b).1 (sym ((bytes_eq-Decides b a).0 same))))
 
 -- where nothing was found, neither the first was it, nor is there one after it
-none_parts : (b : Bool) (n : ℕ) (o : Option ℕ) → cond b (Some n) o ≡ None → (b ≡ false) × (o ≡ None)
+pub none_parts : (b : Bool) (n : ℕ) (o : Option ℕ) → cond b (Some n) o ≡ None → (b ≡ false) × (o ≡ None)
 none_parts true n o none = cc
 none_parts false n o none = (refl, none)
 
 -- a region that the number finds has none of the ids that no region has
-no_such_id : (n : ℕ) (id : List ℕ) (r : RegionData) (es : List Entry) → first_with es id ≡ None → lookup (nat_eq n) es ≡ Some r → bytes_eq id r.id ≡ false
+pub no_such_id : (n : ℕ) (id : List ℕ) (r : RegionData) (es : List Entry) → first_with es id ≡ None → lookup (nat_eq n) es ≡ Some r → bytes_eq id r.id ≡ false
 no_such_id n id r [] none there = cc
 no_such_id n id r (e ∷ es) none there =
     by (nat_eq n e.0) there (none_parts (bytes_eq id e.1.id) e.0 (first_with es id) none) (no_such_id n id r es)
@@ -172,16 +181,19 @@ pub sound_empty : (rs : Regions) (index : List (Id × ℕ)) → rs.entries ≡ [
 sound_empty rs index none bare = record {
   forest = forest_empty rs none;
   own_ids = subst HaveOwnIds (sym none) tt;
+  none_global = ap (λ es. first_with es global_id) none;
   indexed = λ id. ap (lookup (same_id id)) bare ∙ ap (λ es. first_with es id.text.bytes) (sym none);
 }
 
 -- one more region, without a parent, under the next number, and its id put into the index
 pub sound_pushed : (rs : Regions) (r : RegionData) (index new : List (Id × ℕ)) → r.parent ≡ None → first_with rs.entries r.id ≡ None
-    → ((id : Id) → lookup (same_id id) new ≡ cond (bytes_eq r.id id.text.bytes) (Some (rs.last + 1)) (lookup (same_id id) index))
+    → is_global_id r.id ≡ false → ((id : Id) → lookup (same_id id) new ≡ cond (bytes_eq r.id id.text.bytes) (Some (rs.last + 1)) (lookup (same_id id) index))
     → IsSound rs index → IsSound (pushed rs r) new
-sound_pushed rs r index new orphan free put sound = record {
+sound_pushed rs r index new orphan free local put sound = record {
   forest = forest_pushed rs r orphan sound.forest;
   own_ids = own_pushed (rs.last + 1) r rs.entries free sound.own_ids;
+  none_global = first_pushed (rs.last + 1) r global_id rs.entries free ∙ ap (λ b. cond b (Some (rs.last + 1)) (first_with rs.entries global_id)) (is_local r.id local)
+      ∙ sound.none_global;
   indexed = λ id. put id ∙ ap (cond (bytes_eq r.id id.text.bytes) (Some (rs.last + 1))) (sound.indexed id)
       ∙ sym (first_pushed (rs.last + 1) r id.text.bytes rs.entries free);
 }
@@ -195,6 +207,7 @@ sound_kept n rs index fs lent r w found is written kept forest sound =
     record {
       forest = forest;
       own_ids = subst HaveOwnIds (sym written) (own_written n r.now w kept rs.entries there sound.own_ids);
+      none_global = ap (λ es. first_with es global_id) written ∙ first_written n r.now w kept global_id rs.entries there ∙ sound.none_global;
       indexed = λ id. sound.indexed id ∙ sym (ap (λ es. first_with es id.text.bytes) written ∙ first_written n r.now w kept id.text.bytes rs.entries there);
     }
 
@@ -210,6 +223,7 @@ pub sound_with_flags : (rs : Regions) (index : List (Id × ℕ)) (flags : Settin
 sound_with_flags rs index flags sound = record {
   forest = forest_with_flags rs flags sound.forest;
   own_ids = sound.own_ids;
+  none_global = sound.none_global;
   indexed = sound.indexed;
 }
 
@@ -221,6 +235,7 @@ pub sound_without : (n : ℕ) (rs : Regions) (r : RegionData) (index new : List 
 sound_without n rs r index new fs childless there removed out sound = record {
   forest = subst IsForest (sym (removed_from rs n fs sound.forest removed)) (forest_without rs n childless sound.forest);
   own_ids = subst HaveOwnIds (sym removed) (own_without n rs.entries sound.own_ids);
+  none_global = ap (λ es. first_with es global_id) removed ∙ none_without n global_id rs.entries sound.none_global;
   indexed = λ id. out id ∙ ap (cond (bytes_eq r.id id.text.bytes) None) (sound.indexed id)
       ∙ sym (ap (λ es. first_with es id.text.bytes) removed ∙ first_without n r id.text.bytes rs.entries there sound.own_ids);
 }

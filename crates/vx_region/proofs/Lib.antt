@@ -3,6 +3,7 @@ pub mod Changes
 pub mod FlagChanges
 pub mod Forests
 pub mod Globals
+pub mod IdLemmas
 pub mod Indexing
 pub mod Lookups
 pub mod NameLemmas
@@ -10,4 +11,6 @@ pub mod Numbers
 pub mod Removals
 pub mod Roles
 pub mod SameLists
+pub mod Spelling
+pub mod Strangers
 pub mod Walks

@@ -2,7 +2,7 @@ use Rattle.std.specs.Prelude.{ℕ, ◌≡◌, Bool, cond, bytes_eq, List, [], �
 use Rattle.std.specs.Map.{lookup}
 use Rattle.vx_region.specs.declared.id.Id.{Id}
 use Rattle.vx_region.specs.Forest.{IsForest}
-use Rattle.vx_region.specs.Regions.{Entry, Regions}
+use Rattle.vx_region.specs.Regions.{Entry, Regions, global_id}
 
 -- the number of the first region that has this id
 abbrev pub first_with : List Entry → List ℕ → Option ℕ
@@ -13,6 +13,10 @@ first_with (e ∷ es) id = cond (bytes_eq id e.1.id) (Some e.0) (first_with es i
 abbrev pub HaveOwnIds : List Entry → Type 0
 HaveOwnIds [] = Unit {0}
 HaveOwnIds (e ∷ es) = (first_with es e.1.id ≡ None) × HaveOwnIds es
+
+-- no region is called `__global__`
+abbrev pub NoneIsGlobal : List Entry → Type 0
+NoneIsGlobal entries = first_with entries global_id ≡ None
 
 -- two ids are the same where their texts are
 abbrev pub same_id : Id → Id → Bool
@@ -26,4 +30,5 @@ Indexes index entries = (id : Id) → lookup (same_id id) index ≡ first_with e
 pub record IsSound (rs : Regions) (index : List (Id × ℕ)) : Type 0 where
   pub forest : IsForest rs
   pub own_ids : HaveOwnIds rs.entries
+  pub none_global : NoneIsGlobal rs.entries
   pub indexed : Indexes index rs.entries

@@ -1,9 +1,14 @@
 use Rattle.std.specs.Prelude.{ℕ, ◌≡◌, ◌≢◌, ◌+◌, ◌⊎◌, ◌↔◌, IsTrue, IsSome, IsSomeAnd, false, List, ◌∷◌, Some, None, slice_get, Option, option_map}
 use Rattle.vx_geom.specs.Outline.{Outline}
 use Rattle.vx_region.specs.Ancestry.{ancestors, from_parent, is_above}
+use Rattle.vx_region.specs.Association.{association}
 use Rattle.vx_region.specs.Forest.{IsNumbered, IsForest}
+use Rattle.vx_region.specs.IdIndex.{HaveOwnIds, NoneIsGlobal}
 use Rattle.vx_region.specs.Regions.{RegionData, Regions, region_at, parent_of, number_of, names, names_of, fresh_region, with_region, without_region, with_name, without_name, setting_at, HasSettings, changed, with_flag}
+use Rattle.vx_region.specs.Subjects.{Actor}
+use Rattle.vx_region.specs.Words.{IsName, IsId, read_name, read_id}
 use Rattle.vx_region.specs.declared.role.Role.{Role}
+use Rattle.vx_flag.specs.declared.association.Association.TheVariants.{Stranger}
 use Rattle.vx_flag.specs.declared.flag.Flag.{Flag}
 use Rattle.vx_flag.specs.declared.setting.Setting.{Setting}
 
@@ -32,6 +37,12 @@ DefinedIsFound = (rs : Regions) (id : List ℕ) (shape : Outline)
 abbrev pub DefinitionKeepsIds : Type 0
 DefinitionKeepsIds = (rs : Regions) (id other : List ℕ) (shape : Outline)
     → other ≢ id → number_of (with_region rs id shape) other ≡ number_of rs other
+
+-- a region is found by its id, where no two have the same and none that of the world at large
+abbrev pub IdFindsItsRegion : Type 0
+IdFindsItsRegion = (rs : Regions) (n : ℕ) (r : RegionData)
+    → HaveOwnIds rs.entries → NoneIsGlobal rs.entries
+    → region_at rs n ≡ Some r → number_of rs r.id ≡ Some n
 
 -- exactly those are named that were before, and this one
 abbrev pub NamesOneMore : List (List ℕ) → List ℕ → List (List ℕ) → Type 0
@@ -86,6 +97,18 @@ RemovalKeepsOthers = (rs : Regions) (n m : ℕ)
 abbrev pub RemovalKeepsLast : Type 0
 RemovalKeepsLast = (rs : Regions) (n : ℕ) → (without_region rs n).last ≡ rs.last
 
+-- its id is free again
+abbrev pub RemovalFreesTheId : Type 0
+RemovalFreesTheId = (rs : Regions) (n : ℕ) (r : RegionData)
+    → HaveOwnIds rs.entries → NoneIsGlobal rs.entries
+    → region_at rs n ≡ Some r → number_of (without_region rs n) r.id ≡ None
+
+-- each other id is found as before
+abbrev pub RemovalKeepsIds : Type 0
+RemovalKeepsIds = (rs : Regions) (n : ℕ) (r : RegionData) (other : List ℕ)
+    → IsNumbered rs → region_at rs n ≡ Some r → other ≢ r.id
+    → number_of (without_region rs n) other ≡ number_of rs other
+
 -- exactly those are named that were before, without this one
 abbrev pub NamesOneLess : List (List ℕ) → List ℕ → List (List ℕ) → Type 0
 NamesOneLess old name new = (other : List ℕ)
@@ -130,3 +153,45 @@ FlagIsSet = (rs : Regions) (n : ℕ) (f : Flag) (o : Option Setting)
 abbrev pub FlagKeepsOthers : Type 0
 FlagKeepsOthers = (rs : Regions) (n m : ℕ) (f g : Flag) (o : Option Setting)
     → (m ≢ n) ⊎ (g ≢ f) → setting_at (with_flag rs n f o) m g ≡ setting_at rs m g
+
+-- everyone, player or machine, is a stranger to the world at large
+abbrev pub StrangerAtLarge : Type 0
+StrangerAtLarge = (rs : Regions) (actor : Actor) → IsNumbered rs → association rs actor 0 ≡ Stranger
+
+-- the flags of the world at large are the same in both
+abbrev pub SameFlagsAtLarge : Regions → Regions → Type 0
+SameFlagsAtLarge rs s = (f : Flag) → setting_at s 0 f ≡ setting_at rs 0 f
+
+-- a change of a region leaves the flags of the world at large
+abbrev pub ChangeKeepsTheWorld : Type 0
+ChangeKeepsTheWorld = (change : RegionData → RegionData) (rs : Regions) (n : ℕ)
+    → SameFlagsAtLarge rs (changed change n rs)
+
+-- so does a definition
+abbrev pub DefinitionKeepsTheWorld : Type 0
+DefinitionKeepsTheWorld = (rs : Regions) (id : List ℕ) (shape : Outline)
+    → SameFlagsAtLarge rs (with_region rs id shape)
+
+-- so does a removal
+abbrev pub RemovalKeepsTheWorld : Type 0
+RemovalKeepsTheWorld = (rs : Regions) (n : ℕ) → SameFlagsAtLarge rs (without_region rs n)
+
+-- so does a flag of a region
+abbrev pub FlagKeepsTheWorld : Type 0
+FlagKeepsTheWorld = (rs : Regions) (n : ℕ) (f : Flag) (o : Option Setting)
+    → n ≢ 0 → SameFlagsAtLarge rs (with_flag rs n f o)
+
+-- what is read is a name
+abbrev pub NameIsRead : Type 0
+NameIsRead = (text name : List ℕ) → read_name text ≡ Some name → IsName name
+
+-- and a name is read as itself
+abbrev pub NameReadsAsItself : Type 0
+NameReadsAsItself = (name : List ℕ) → IsName name → read_name name ≡ Some name
+
+-- the same of ids
+abbrev pub IdIsRead : Type 0
+IdIsRead = (text id : List ℕ) → read_id text ≡ Some id → IsId id
+
+abbrev pub IdReadsAsItself : Type 0
+IdReadsAsItself = (id : List ℕ) → IsId id → read_id id ≡ Some id

@@ -1,5 +1,5 @@
--- The test of two sets of regions answers yes exactly where they are one, and so meets the laws of
--- `==`.
+-- The tests of two regions, and of two sets of regions, answer yes exactly where they are one, and
+-- so meet the laws of `==`.
 use Rattle.std.specs.Prelude.{◌≡◌, ℕ, List, Option, Some, None, refl}
 use Rattle.std.specs.Bool.{Decides}
 use Rattle.std.specs.Cmp.{IsEquivalence, decided}
@@ -75,6 +75,9 @@ region_decided a b =
     (Decides-and _ _
     (Decides-and _ _ (place_decided a b) (people_decided a b))
     (settings_decided a.settings b.settings))
+
+pub region_equiv : IsEquivalence same_region
+region_equiv = decided same_region region_decided
 
 entry_decided : (d e : Entry) → Decides (same_entry d e) (d ≡ e)
 unfolding same_entry

@@ -1,5 +1,5 @@
 ghost use Rattle.std.specs.Prelude.{◌≡◌, Some, None, MatchResult};
-ghost use Rattle.vx_region.specs.Words.{read_id};
+ghost use Rattle.vx_region.specs.Words.{IsId, read_id};
 
 use crate::word::{Alphabet, read_word};
 use arrayvec::ArrayString;
@@ -13,6 +13,7 @@ const MAX_ID_BYTES: usize = 32;
 #[derive(Clone, Copy, Debug, PartialEq, Eq, Hash)]
 pub struct Id {
     text: ArrayString<MAX_ID_BYTES>,
+    pub ghost spelled: { IsId text.bytes },
 }
 
 /// The text spells no id. Nothing here prints the words; they are for callers that pass it on.
@@ -33,6 +34,11 @@ impl Id {
             None => Err(BadId),
         }
     }
+
+    /// What holds of every id: it is 1 to 32 small letters, digits, `_` or `-`.
+    pub fn spelling(&self)
+        ensures { IsId self.now.text.bytes }
+    {}
 
     /// The id in lower case.
     pub fn as_str(&self) -> &str

@@ -1,8 +1,13 @@
-ghost use Rattle.vx_region.specs.Laws.{AncestryIsWhole, NoCycles, ParentsAreThere, RemovedIsGone, RemovalKeepsOthers, RemovalKeepsLast, EachHasItsNumber, DefinedIsFresh, DefinitionKeepsOthers, DefinedIsFound, DefinitionKeepsIds, NameIsAdded, AddingKeepsOthers, NameIsDropped, DroppingKeepsOthers, ChangeIsThere, ChangeKeepsOthers, FlagIsSet, FlagKeepsOthers};
+ghost use Rattle.vx_region.specs.Laws.{AncestryIsWhole, NoCycles, ParentsAreThere, RemovedIsGone, RemovalKeepsOthers, RemovalKeepsLast, EachHasItsNumber, DefinedIsFresh, DefinitionKeepsOthers, DefinedIsFound, DefinitionKeepsIds, NameIsAdded, AddingKeepsOthers, NameIsDropped, DroppingKeepsOthers, ChangeIsThere, ChangeKeepsOthers, FlagIsSet, FlagKeepsOthers, IdFindsItsRegion, RemovalFreesTheId, RemovalKeepsIds, StrangerAtLarge, ChangeKeepsTheWorld, DefinitionKeepsTheWorld, RemovalKeepsTheWorld, FlagKeepsTheWorld, NameIsRead, NameReadsAsItself, IdIsRead, IdReadsAsItself};
 
 /// The region at a place in order of number is the region of the number there.
 pub fn each_has_its_number()
     ensures { EachHasItsNumber }
+{}
+
+/// The id of a region leads to its number.
+pub fn id_finds_its_region()
+    ensures { IdFindsItsRegion }
 {}
 
 /// A definition adds one region, under a new number and a free id, and changes no other.
@@ -35,11 +40,14 @@ pub fn parents_are_there()
     ensures { ParentsAreThere }
 {}
 
-/// A removal takes away that one region and no other, and its number is not given again.
+/// A removal takes away that one region and no other. Its id is free again, and its number is not
+/// given again.
 pub fn removal_takes_one()
     ensures gone { RemovedIsGone }
     ensures others { RemovalKeepsOthers }
     ensures last { RemovalKeepsLast }
+    ensures id { RemovalFreesTheId }
+    ensures ids { RemovalKeepsIds }
 {}
 
 /// Dropping an owner or a member takes that one name in that role out of that one region.
@@ -59,4 +67,25 @@ pub fn one_region_changes()
 pub fn one_setting_changes()
     ensures set { FlagIsSet }
     ensures others { FlagKeepsOthers }
+{}
+
+/// Everyone is a stranger to the world at large.
+pub fn stranger_at_large()
+    ensures { StrangerAtLarge }
+{}
+
+/// What is done to a region leaves the flags of the world at large as they were.
+pub fn world_at_large_is_kept()
+    ensures change { ChangeKeepsTheWorld }
+    ensures definition { DefinitionKeepsTheWorld }
+    ensures removal { RemovalKeepsTheWorld }
+    ensures flag { FlagKeepsTheWorld }
+{}
+
+/// What is read as a name is one, and each name is read as itself. So it is with ids.
+pub fn words_read_as_themselves()
+    ensures name { NameIsRead }
+    ensures name_again { NameReadsAsItself }
+    ensures id { IdIsRead }
+    ensures id_again { IdReadsAsItself }
 {}

@@ -14,8 +14,10 @@ mod word;
 
 pub use id::{BadId, Id};
 pub use laws::{
-    ancestry_is_whole, definition_adds_one, each_has_its_number, name_is_added, name_is_dropped,
-    no_cycles, one_region_changes, one_setting_changes, parents_are_there, removal_takes_one,
+    ancestry_is_whole, definition_adds_one, each_has_its_number, id_finds_its_region,
+    name_is_added, name_is_dropped, no_cycles, one_region_changes, one_setting_changes,
+    parents_are_there, removal_takes_one, stranger_at_large, words_read_as_themselves,
+    world_at_large_is_kept,
 };
 pub use name::{BadName, Name};
 pub use region::Region;

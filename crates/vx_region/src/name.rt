@@ -1,5 +1,5 @@
 ghost use Rattle.std.specs.Prelude.{◌≡◌, Some, None, MatchResult};
-ghost use Rattle.vx_region.specs.Words.{read_name};
+ghost use Rattle.vx_region.specs.Words.{IsName, read_name};
 
 use crate::word::{Alphabet, read_word};
 use arrayvec::ArrayString;
@@ -13,6 +13,7 @@ const MAX_NAME_BYTES: usize = 16;
 #[derive(Clone, Copy, Debug, PartialEq, Eq, Hash)]
 pub struct Name {
     text: ArrayString<MAX_NAME_BYTES>,
+    pub ghost spelled: { IsName text.bytes },
 }
 
 /// The text spells no name. Nothing here prints the words; they are for callers that pass it on.
@@ -33,6 +34,11 @@ impl Name {
             None => Err(BadName),
         }
     }
+
+    /// What holds of every name: it is 1 to 16 small letters, digits or `_`.
+    pub fn spelling(&self)
+        ensures { IsName self.now.text.bytes }
+    {}
 
     /// The name in lower case.
     pub fn as_str(&self) -> &str

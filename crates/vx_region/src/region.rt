@@ -181,15 +181,6 @@ impl Region {
 }
 
 impl Region {
-    /// Whether both are the same in every part: id, shape, priority and parent, the owners and the
-    /// members in their order, and what is set for each flag.
-    pub fn same(&self, other: &Region) -> bool
-        ensures value { result ≡ same_region self.now other.now }
-        ensures decides { Decides result (self.now ≡ other.now) }
-    {
-        self.same_parts(other)
-    }
-
     #[tactic(auto, unfolding(crate::specs::SameRegions::same_region))]
     fn same_parts(&self, other: &Region) -> bool
         ensures { result ≡ same_region self.now other.now }
@@ -204,7 +195,7 @@ impl Region {
         if self.id != other.id {
             return false;
         }
-        if !self.shape.same(&other.shape) {
+        if self.shape != other.shape {
             return false;
         }
         if self.priority() != other.priority() {
@@ -222,6 +213,30 @@ impl Region {
         }
         same_names(self.members.as_slice(), other.members.as_slice())
     }
+}
+
+impl PartialEq for Region {
+    ghost use Rattle.std.specs.Cmp.{partial_equiv_from_equiv};
+    ghost use Rattle.vx_region.specs.RegionsLaws.{region_equiv};
+
+    ghost eq = { same_region };
+
+    ghost laws = { partial_equiv_from_equiv region_equiv };
+
+    /// Whether both are the same in every part: id, shape, priority and parent, the owners and the
+    /// members in their order, and what is set for each flag.
+    fn eq(&self, other: &Region) -> bool
+        ensures value { result ≡ same_region self.now other.now }
+        ensures decides { Decides result (self.now ≡ other.now) }
+    {
+        self.same_parts(other)
+    }
+}
+
+impl Eq for Region {
+    ghost use Rattle.vx_region.specs.RegionsLaws.{region_equiv};
+
+    ghost laws = { region_equiv };
 }
 
 impl Clone for Region {

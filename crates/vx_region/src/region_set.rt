@@ -3,6 +3,7 @@ ghost use Rattle.std.specs.Prelude.{◌≡◌, ◌+◌, ◌-◌, ◌^◌, ◌<�
 ghost use Rattle.vx_region.specs.Ancestry.{ancestors, is_under, is_above};
 ghost use Rattle.vx_region.specs.Association.{has_name, has_name_along, player_association, machine_association, holds_place, association};
 ghost use Rattle.vx_region.specs.Forest.{IsForest};
+ghost use Rattle.vx_region.specs.IdIndex.{HaveOwnIds, NoneIsGlobal};
 ghost use Rattle.vx_region.specs.Regions.{no_regions, region_at, number_of, parent_of, setting_at, is_global_id, with_region, with_name};
 ghost use Rattle.vx_region.specs.Subjects.{actor_of};
 
@@ -59,10 +60,20 @@ impl RegionSet {
         }
     }
 
+    /// What holds of every set of regions: numbers ascend from 1 to the last one given, each parent
+    /// is there and each chain of parents ends, no two regions have the same id, and none has that
+    /// of the world at large.
+    pub fn soundness(&self)
+        ensures forest { IsForest self.now }
+        ensures ids { HaveOwnIds self.now.entries }
+        ensures global { NoneIsGlobal self.now.entries }
+    {
+        let _last = &self.last;
+    }
+
     /// How many regions there are, `__global__` not counted.
     pub fn count(&self) -> u32
-        ensures value { result ≡ length self.now.entries }
-        ensures valid { IsForest self.now }
+        ensures { result ≡ length self.now.entries }
     {
         let count = self.regions.len();
         prove!(count <= self.last as usize);

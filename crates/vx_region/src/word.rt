@@ -1,6 +1,6 @@
-ghost use Rattle.std.specs.Prelude.{◌≡◌, ◌<◌, true};
+ghost use Rattle.std.specs.Prelude.{◌≡◌, ◌<◌, true, IfSome};
 ghost use Rattle.std.specs.Option.{option_map};
-ghost use Rattle.vx_region.specs.Words.{is_amid, is_name_byte, is_id_byte, lower, read_word};
+ghost use Rattle.vx_region.specs.Words.{IsWord, is_amid, is_name_byte, is_id_byte, lower, read_word};
 ghost use Rattle.vx_region.specs.Alphabet.{passes};
 
 use arrayvec::ArrayString;
@@ -29,7 +29,8 @@ impl Alphabet {
 /// The word in lower case that the text spells: 1 to `N` bytes that all pass.
 #[tactic(auto, unfolding(crate::specs::Words::read_word))]
 pub fn read_word<const N: usize>(text: &str, alphabet: Alphabet) -> Option<ArrayString<N>>
-    ensures { option_map (λ w. w.bytes) result ≡ read_word (passes alphabet) N text.now }
+    ensures value { option_map (λ w. w.bytes) result ≡ read_word (passes alphabet) N text.now }
+    ensures word { IfSome result (λ w. IsWord (passes alphabet) N w.bytes) }
 {
     if !(1..=N).contains(&text.len()) {
         return None;

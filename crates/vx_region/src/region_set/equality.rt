@@ -8,15 +8,6 @@ use crate::region::Region;
 use crate::region_no::RegionNo;
 
 impl RegionSet {
-    /// Whether both have the same regions under the same numbers, in every part, the same number
-    /// given last and the same flags of the world at large.
-    pub fn same(&self, other: &RegionSet) -> bool
-        ensures value { result ≡ same_regions self.now other.now }
-        ensures decides { Decides result (self.now ≡ other.now) }
-    {
-        self.same_parts(other)
-    }
-
     #[tactic(auto, unfolding(crate::specs::SameRegions::same_regions))]
     fn same_parts(&self, other: &RegionSet) -> bool
         ensures { result ≡ same_regions self.now other.now }
@@ -46,7 +37,7 @@ impl RegionSet {
 fn same_entry(number: RegionNo, region: &Region, other_number: RegionNo, other: &Region) -> bool
     ensures { result ≡ same_entry (number.0, region.now) (other_number.0, other.now) }
 {
-    number == other_number && region.same(other)
+    number == other_number && *region == *other
 }
 
 impl PartialEq for RegionSet {
@@ -57,8 +48,13 @@ impl PartialEq for RegionSet {
 
     ghost laws = { partial_equiv_from_equiv regions_equiv };
 
-    fn eq(&self, other: &RegionSet) -> bool {
-        self.same(other)
+    /// Whether both have the same regions under the same numbers, in every part, the same number
+    /// given last and the same flags of the world at large.
+    fn eq(&self, other: &RegionSet) -> bool
+        ensures value { result ≡ same_regions self.now other.now }
+        ensures decides { Decides result (self.now ≡ other.now) }
+    {
+        self.same_parts(other)
     }
 }
 

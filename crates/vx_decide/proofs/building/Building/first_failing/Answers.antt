@@ -11,7 +11,7 @@ loop-i-init c = refl
 pub returns-then-is_failing : goal.returns-then-is_failing
 returns-then-is_failing c =
     sym (least_here (is_failing (case_of c.args.self.now.contest.inquiry.now)) 0 c.args.self.now.contest.inquiry.now.regions.now.entries c.loop-i.i _
-    c.count-i-end.ensures.valid.numbered.ascending c.nth.ensures (sym c.is_failing.ensures ∙ c.if-is_failing.true)) ∙ c.loop-i.invariant
+    c.soundness.ensures.forest.numbered.ascending c.nth.ensures (sym c.is_failing.ensures ∙ c.if-is_failing.true)) ∙ c.loop-i.invariant
 
 pub loop-i-preserved : goal.loop-i-preserved
 loop-i-preserved c =

@@ -11,7 +11,7 @@ loop-i-init c = refl
 pub returns-then-is_denying : goal.returns-then-is_denying
 returns-then-is_denying c =
     sym (least_here (is_denying c.args.self.now.question (case_of c.args.self.now.inquiry.now)) 0 c.args.self.now.inquiry.now.regions.now.entries c.loop-i.i _
-    c.count-i-end.ensures.valid.numbered.ascending c.nth.ensures (sym c.is_denying.ensures ∙ c.if-is_denying.true)) ∙ c.loop-i.invariant
+    c.soundness.ensures.forest.numbered.ascending c.nth.ensures (sym c.is_denying.ensures ∙ c.if-is_denying.true)) ∙ c.loop-i.invariant
 
 pub loop-i-preserved : goal.loop-i-preserved
 loop-i-preserved c =

@@ -11,7 +11,7 @@ loop-i-init c = refl
 pub returns-then-is_taken : goal.returns-then-is_taken
 returns-then-is_taken c =
     sym (least_here (is_taken c.args.self.now.question (case_of c.args.self.now.inquiry.now)) 0 c.args.self.now.inquiry.now.regions.now.entries c.loop-i.i _
-    c.count-i-end.ensures.valid.numbered.ascending c.nth.ensures (sym c.is_taken.ensures ∙ c.if-is_taken.true)) ∙ c.loop-i.invariant
+    c.soundness.ensures.forest.numbered.ascending c.nth.ensures (sym c.is_taken.ensures ∙ c.if-is_taken.true)) ∙ c.loop-i.invariant
 
 pub loop-i-preserved : goal.loop-i-preserved
 loop-i-preserved c =

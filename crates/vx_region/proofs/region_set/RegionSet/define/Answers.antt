@@ -2,9 +2,9 @@ use Rattle.std.proofs.Common.{Some, cond, bytes_eq, nat_eq, ◌+◌, ◌++◌, �
 use Rattle.indexmap.proofs.CallerLemmas.{insert_entry-new}
 use Rattle.std.specs.Map.{lookup}
 use Rattle.vx_region.specs.IdIndex.{first_with, same_id}
-use Rattle.vx_region.specs.Regions.{Entry, Regions, with_region}
+use Rattle.vx_region.specs.Regions.{Entry, Regions, is_global_id, with_region}
 use Rattle.vx_region.specs.contracts.region_set.RegionSet.{the_view}
-use Rattle.vx_region.proofs.Indexing.{free_is, sound_pushed}
+use Rattle.vx_region.proofs.Indexing.{free_is, free_is_local, sound_pushed}
 use Rattle.vx_region.proofs.Lookups.{lookup_above}
 use Rattle.vx_region.proofs.region_set.RegionSet.define.Goals as goal
 
@@ -23,8 +23,9 @@ invariant_of-self-2 c =
     let absent = lookup_above last (last + 1) old.entries c.self.invariant.forest.numbered.given (omega arith) in
     let number = Some (last + 1) in
     let free = ap (λ r. first_with old.entries r.id) c.new.ensures ∙ free_is rs c.args.id.text.bytes (rw c.self.view_is c.requires.free) in
+    let local = ap (λ r. is_global_id r.id) c.new.ensures ∙ free_is_local rs c.args.id.text.bytes (rw c.self.view_is c.requires.free) in
     rw (c.in_ok-_replaced.ensures.entries, insert_entry-new nat_eq old (last + 1) c.new.result absent)
-    (sound_pushed rs c.new.result index _ (ap (λ r. r.parent) c.new.ensures) free
+    (sound_pushed rs c.new.result index _ (ap (λ r. r.parent) c.new.ensures) free local
     (λ q. (rw c.unwrap-indexed.ensures at c.insert-2.ensures.updates).0 q
     ∙ ap (λ es. cond (bytes_eq c.args.id.text.bytes q.text.bytes) number (lookup (same_id q) es)) c.reserve.ensures.entries
     ∙ ap (λ r. cond (bytes_eq r.id q.text.bytes) number (lookup (same_id q) index)) (sym c.new.ensures))

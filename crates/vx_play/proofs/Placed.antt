@@ -5,25 +5,14 @@ use Rattle.std.proofs.lemmas.List.{length-append}
 use Rattle.vx_geom.specs.declared.pos.Pos.{Pos}
 use Rattle.vx_geom.specs.Sizes.{Sizes, sector_of}
 use Rattle.vx_cells.specs.SectorCells.{SectorCells, only_air, holds}
-use Rattle.vx_play.specs.Terrains.{airs, AreFrom}
+use Rattle.vx_cells.specs.Maps.{AreFrom}
+use Rattle.vx_cells.proofs.MapLemmas.{placed_at}
+use Rattle.vx_play.specs.Terrains.{airs}
 
 pub from_push : (sizes : Sizes) (k : ℕ) (cs : List SectorCells) (c : SectorCells) → AreFrom sizes k cs → c.bounds ≡ sizes → c.sector ≡ k + length cs
     → AreFrom sizes k (cs ++ c ∷ [])
 from_push sizes k [] c each bounds sector = (bounds, omega (arith, sector), tt)
 from_push sizes k (d ∷ cs) c each bounds sector = (each.0, each.1, from_push sizes (suc k) cs c each.2 bounds (omega (arith, sector)))
-
--- what is found at a place is the sector of that number
-pub placed_at : (sizes : Sizes) (k i : ℕ) (cs : List SectorCells) (c : SectorCells) → AreFrom sizes k cs → slice_get cs i ≡ Some c
-    → (c.bounds ≡ sizes) × (c.sector ≡ k + i)
-placed_at sizes k i [] c each found = cc
-placed_at sizes k zero (d ∷ cs) c each found =
-    let same : d ≡ c = cc in
-    let sector : c.sector ≡ k = ap (λ s. s.sector) (sym same) ∙ each.1 in (
-      ap (λ s. s.bounds) (sym same) ∙ each.0,
-      omega (arith, sector),
-    )
-placed_at sizes k (suc i) (d ∷ cs) c each found =
-    let further = placed_at sizes (suc k) i cs c each.2 found in (further.0, omega (arith, further.1))
 
 -- another in its place, of the same number
 pub placed_again : (sizes : Sizes) (k i : ℕ) (cs : List SectorCells) (c d : SectorCells) → AreFrom sizes k cs → slice_get cs i ≡ Some c

@@ -22,10 +22,12 @@ use Rattle.vx_sector.specs.declared.reply.Reply.{Reply}
 use Rattle.vx_sector.specs.declared.refusal.Refusal.{Refusal}
 use Rattle.vx_sector.specs.declared.refusal.Refusal.TheVariants.{OutOfWorld}
 use Rattle.vx_sector.proofs.Outside.{inside_is_not_refused}
-use Rattle.vx_play.specs.Terrains.{TerrainData, bare, set_in, with_part, AreSectors, IsTerrain}
+use Rattle.vx_cells.specs.Maps.{AreSectors}
+use Rattle.vx_play.specs.Terrains.{TerrainData, bare, set_in, with_part, IsTerrain}
 use Rattle.vx_play.specs.Plays.{PlayData, cells_of, IsWorld, opened_by, sector_asked, answered, answered_at, answer_in, left_in, renewed_by, next_version}
 use Rattle.vx_play.specs.Laws.{WorldsBeginWhole, CommandsKeepWorlds, TicksKeepWorlds, OutOfWorldIsOutside}
-use Rattle.vx_play.proofs.Placed.{placed_at, placed_again, airs_count, airs_placed, holds_found, found_within}
+use Rattle.vx_cells.proofs.MapLemmas.{placed_at}
+use Rattle.vx_play.proofs.Placed.{placed_again, airs_count, airs_placed, holds_found, found_within}
 use Rattle.vx_play.proofs.Renewals.{changed_up_to}
 
 -- another sector in the place of one, with the same number

@@ -13,7 +13,8 @@ use Rattle.vx_sector.specs.declared.cmd.Cmd.{Cmd}
 use Rattle.vx_sector.specs.declared.reply.Reply.{Reply}
 use Rattle.vx_sector.specs.declared.refusal.Refusal.{Refusal}
 use Rattle.vx_sector.specs.declared.refusal.Refusal.TheVariants.{OutOfWorld}
-use Rattle.vx_play.specs.Terrains.{TerrainData, AreSectors}
+use Rattle.vx_cells.specs.Maps.{AreSectors}
+use Rattle.vx_play.specs.Terrains.{TerrainData}
 
 -- a world at play: its size and its sectors, its players' names in order of their seats, the policy
 -- that it opened with, the edits accepted since, and how many ticks there were

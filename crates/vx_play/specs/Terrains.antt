@@ -4,12 +4,12 @@ use Rattle.vx_block.specs.declared.part.Part.{Part}
 use Rattle.vx_block.specs.Part.{part_cell}
 use Rattle.vx_geom.specs.declared.pos.Pos.{Pos}
 use Rattle.vx_geom.specs.Sizes.{Sizes, AreSizes, sector_count, sector_of}
+use Rattle.vx_cells.specs.Maps.{MapData, AreSectors}
 use Rattle.vx_cells.specs.SectorCells.{SectorCells, only_air, holds, with_cell}
 
--- the cells of a world before anybody plays: its size, and its sectors in order of their numbers
-pub record TerrainData : Type 0 where
-  pub sizes : Sizes
-  pub sectors : List SectorCells
+-- the cells of a world before anybody plays
+abbrev pub TerrainData : Type 0
+TerrainData = MapData
 
 -- so many sectors of a world of this size, from the first on, with nothing but air
 abbrev pub airs : Sizes → ℕ → List SectorCells
@@ -32,17 +32,6 @@ set_in g p part k (Some cells) =
 unfoldable pub with_part : TerrainData → Pos → Part → Option TerrainData
 with_part g p part =
     option_and_then (λ k. set_in g p part k (slice_get g.sectors k)) (sector_of g.sizes p)
-
--- these are the sectors of a world of this size, in order, from number k on
-abbrev pub AreFrom : Sizes → ℕ → List SectorCells → Type 0
-AreFrom sizes k [] = Unit {0}
-AreFrom sizes k (c ∷ cs) = (c.bounds ≡ sizes) × (c.sector ≡ k) × AreFrom sizes (suc k) cs
-
--- these are all the sectors of a world of this size, in order
-pub record AreSectors (sizes : Sizes) (cs : List SectorCells) : Type 0 where
-  pub valid : AreSizes sizes
-  pub all : length cs ≡ sector_count sizes
-  pub each : AreFrom sizes 0 cs
 
 -- a terrain has each sector of its size in its place
 abbrev pub IsTerrain : TerrainData → Type 0

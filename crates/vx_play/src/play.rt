@@ -33,7 +33,7 @@ pub struct Play<J: Naming> {
 impl<J: Naming> Model for Play<J> {
     ghost use Rattle.std.specs.Prelude.{◌≤◌, vec_len, map};
     ghost use Rattle.vx_region.specs.Texts.{texts};
-    ghost use Rattle.vx_play.specs.Terrains.{AreSectors};
+    ghost use Rattle.vx_cells.specs.Maps.{AreSectors};
     ghost use Rattle.vx_play.specs.Plays.{PlayData, cells_of, most_ticks};
     ghost use Rattle.vx_play.specs.declared.play.TheConstants.{MAX_PLAYERS};
 

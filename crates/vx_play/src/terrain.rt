@@ -16,7 +16,8 @@ pub struct Terrain {
 }
 
 impl Model for Terrain {
-    ghost use Rattle.vx_play.specs.Terrains.{TerrainData, AreSectors};
+    ghost use Rattle.vx_cells.specs.Maps.{AreSectors};
+    ghost use Rattle.vx_play.specs.Terrains.{TerrainData};
 
     ghost Value = { TerrainData };
 
@@ -72,6 +73,7 @@ fn all_air(alloc: Global, bounds: Bounds) -> Result<Vec<Cells>, AllocError>
     ensures cells { IfOk result (λ sectors. sectors.items ≡ airs bounds (sector_count bounds)) }
     ensures valid { AreSizes bounds }
 {
+    bounds.soundness();
     let mut sectors = Vec::new(alloc);
     for number in 0..bounds.sectors() {
         sectors.push(Cells::new(alloc, bounds, number)?)?;

@@ -6,7 +6,7 @@ use Rattle.vx_region.specs.Texts.{texts}
 use Rattle.vx_sector.specs.Commands.{place_of}
 use Rattle.vx_sector.specs.SectorData.{SectorData, seat_of}
 use Rattle.vx_sector.specs.Windows.{sector_after}
-use Rattle.vx_play.specs.Terrains.{AreSectors}
+use Rattle.vx_cells.specs.Maps.{AreSectors}
 use Rattle.vx_play.specs.Plays.{PlayData, cells_of}
 use Rattle.vx_play.proofs.Whole.{answered_there, answer_keeps_world}
 use Rattle.vx_play.proofs.play.Play.act.Given.{Over}

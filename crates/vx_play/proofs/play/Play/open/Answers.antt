@@ -1,5 +1,5 @@
 use Rattle.std.proofs.Common.{map, sym, ap, ◌∙◌, subst, lit≤}
-use Rattle.vx_play.specs.Terrains.{AreSectors}
+use Rattle.vx_cells.specs.Maps.{AreSectors}
 use Rattle.vx_play.specs.Plays.{cells_of}
 use Rattle.vx_play.proofs.Whole.{cells_opened}
 use Rattle.vx_play.proofs.play.Play.open.Goals as goal

@@ -1,5 +1,5 @@
 use Rattle.std.proofs.Common.{sym, subst}
-use Rattle.vx_play.specs.Terrains.{AreSectors}
+use Rattle.vx_cells.specs.Maps.{AreSectors}
 use Rattle.vx_play.proofs.Whole.{air_is_terrain}
 use Rattle.vx_play.proofs.terrain.Terrain.new.Goals as goal
 

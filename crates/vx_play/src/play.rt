@@ -144,10 +144,16 @@ impl<J: Naming> Play<J> {
         Ok(self.ticks)
     }
 
+    /// What holds of every world at play: it has each sector of its size in its place.
+    pub fn soundness(&self)
+        ensures { IsWorld self.now }
+    {
+        let _ = &self.bounds;
+    }
+
     /// How many ticks there were.
     pub fn ticks(&self) -> u64
-        ensures value { result ≡ self.now.ticks }
-        ensures whole { IsWorld self.now }
+        ensures { result ≡ self.now.ticks }
     {
         self.ticks
     }

@@ -25,7 +25,10 @@ fn edit_and_fix(rt: &impl Abort, alloc: Global, desk: &mut DeskState<Brand>) -> 
     let known = Err(DeskError::Refused(EditRefusal::Known));
     assert_eq!(rt; desk.apply(alloc, define(alloc, "PLOT")?), known);
     assert_eq!(rt; (desk.count(), seen(&desk.fix(2)?)), (2, (2, 2, 2)));
-    assert_eq!(rt; (desk.accepted().len(), desk.policy().regions().count()), (2, 2));
+    assert_eq!(rt;
+        (desk.accepted().len(), desk.policy().regions().count()),
+        (2, 2)
+    );
     assert_eq!(rt; [seen(&opening), seen(&first)], [(1, 0, 0), (1, 1, 1)]);
     Ok(())
 }

@@ -50,7 +50,7 @@ impl Bounds {
         Some(Bounds { sx, sz, s })
     }
 
-    /// What holds of every world's bounds: it has 1 to 8 sectors each way, of 1 or 2 chunks each way.
+    /// What holds of all bounds: there are 1 to 8 sectors each way, of 1 or 2 chunks each way.
     pub fn soundness(&self)
         ensures { AreSizes self.now }
     {

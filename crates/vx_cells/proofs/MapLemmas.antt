@@ -1,5 +1,5 @@
 -- What is found on a map.
-use Rattle.std.proofs.Common.{◌≡◌, ℕ, zero, suc, ◌+◌, ◌<◌, ◌≤◌, true, false, List, [], ◌∷◌, length, nat_eq, nat_lt, get_or, slice_get, Option, Some, None, ℤ, pos, ◌*◌, Bool, ◌&&◌, ◌⊎◌, inl, inr, if◌then◌else◌, refl, sym, ap, ◌∙◌, arith}
+use Rattle.std.proofs.Common.{◌≡◌, ℕ, zero, suc, ◌+◌, ◌<◌, ◌≤◌, true, false, List, [], ◌∷◌, length, nat_eq, nat_lt, get_or, slice_get, Some, None, ℤ, pos, ◌*◌, Bool, if◌then◌else◌, refl, sym, ap, ◌∙◌, arith}
 use Rattle.std.specs.Option.{option_map_or}
 use Rattle.std.proofs.lemmas.Bool.{eq-eqb, ltb-true, and_from}
 use Rattle.std.proofs.lemmas.Int.{ints}
@@ -7,7 +7,7 @@ use Rattle.std.proofs.lemmas.Nat.{mul-le}
 use Rattle.std.proofs.lemmas.Option.{slice_get_past, slice_get_read}
 use Rattle.vx_block.specs.declared.cell.Cell.TheVariants.{Air}
 use Rattle.vx_geom.specs.declared.pos.Pos.{Pos}
-use Rattle.vx_geom.specs.Sizes.{Sizes, AreSizes, span, height, is_below, is_inside, sector_number, sector_of}
+use Rattle.vx_geom.specs.Sizes.{Sizes, AreSizes, is_below, is_inside, sector_number, sector_of}
 use Rattle.vx_geom.proofs.SectorLemmas.{below_from, inside_at}
 use Rattle.vx_cells.specs.SectorCells.{SectorCells, holds, cell_at}
 use Rattle.vx_cells.specs.Maps.{MapData, AreFrom, AreSectors, sector_at, cell_in, cell_on, far, is_near}

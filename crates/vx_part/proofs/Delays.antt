@@ -1,5 +1,5 @@
 -- How a repeater counts.
-use Rattle.std.proofs.Common.{◌≡◌, ℕ, zero, suc, ◌<◌, Bool, true, false, refl, sym, ap, ◌∙◌, subst, arith}
+use Rattle.std.proofs.Common.{◌≡◌, ℕ, zero, suc, ◌<◌, Bool, true, false, refl, sym, subst, arith}
 use Rattle.vx_block.specs.declared.delay.Delay.{Delay}
 use Rattle.vx_block.specs.declared.delay.Delay.TheVariants.{One, Two, Three, Four}
 use Rattle.vx_block.specs.declared.side.Side.{Side}

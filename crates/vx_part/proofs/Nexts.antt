@@ -1,5 +1,5 @@
 -- What a part is after a tick, by its kind.
-use Rattle.std.proofs.Common.{◌≡◌, ℕ, Bool, true, false, not, if◌then◌else◌, refl, sym, ap, ◌∙◌}
+use Rattle.std.proofs.Common.{◌≡◌, not, if◌then◌else◌, sym, ap, ◌∙◌}
 use Rattle.vx_geom.specs.Neighbor.{neighbor}
 use Rattle.vx_block.specs.declared.cell.Cell.TheVariants as cell
 use Rattle.vx_block.specs.States.{mount_dir, side_dir}

@@ -1,4 +1,4 @@
-use Rattle.std.proofs.Common.{◌≡◌, sym, ◌∙◌}
+use Rattle.std.proofs.Common.{sym, ◌∙◌}
 use Rattle.std.proofs.lemmas.Bool.{ltb-false}
 use Rattle.vx_cells.proofs.MapLemmas.{is_held, cell_found, no_cell, there}
 use Rattle.vx_cells.proofs.frozen.Frozen.cell.Goals as goal

@@ -1,4 +1,3 @@
-use Rattle.std.proofs.Common.{◌≡◌}
 use Rattle.vx_base.proofs.Signed.{signed}
 use Rattle.vx_cells.proofs.MapLemmas.{far_is_air}
 use Rattle.vx_cells.proofs.frozen.Frozen.look.Goals as goal

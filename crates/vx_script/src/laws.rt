@@ -1,6 +1,7 @@
 ghost use Rattle.vx_script.specs.FirstFault.{FirstFault};
 ghost use Rattle.vx_script.specs.Laws.{ScriptFaults};
 ghost use Rattle.vx_script.specs.Openings.{SizesAreSound, HeadersKeepTerrain};
+ghost use Rattle.vx_script.specs.Played.{ScriptsAreGames};
 
 /// A script faults at its first faulty line, which it has, whatever follows that line.
 pub fn first_fault()
@@ -16,4 +17,10 @@ pub fn script_faults()
 pub fn headers_stay_whole()
     ensures sizes { SizesAreSound }
     ensures header { HeadersKeepTerrain }
+{}
+
+/// A script without fault writes nothing, or what it writes ends in the last line of a game, whose
+/// steps are those of the lines of its body.
+pub fn scripts_are_games()
+    ensures { ScriptsAreGames }
 {}

@@ -1,5 +1,6 @@
 pub mod Cell
 pub mod Cells
+pub mod Components
 pub mod Conductors
 pub mod Cut
 pub mod Kind

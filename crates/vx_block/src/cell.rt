@@ -1,5 +1,6 @@
 ghost use Rattle.std.specs.Prelude.{◌≡◌, Bool, if◌then◌else◌, [], ◌∷◌, ◌++◌, codes, IfSome, Some};
 ghost use Rattle.vx_block.specs.Cell.{kind_of, cell_state, cell_text, IsCell, IsSpelled};
+ghost use Rattle.vx_block.specs.Components.{is_dust, is_device};
 ghost use Rattle.vx_block.specs.Conductors.{conducts};
 ghost use Rattle.vx_block.specs.Cut.{colon, tail_of};
 ghost use Rattle.vx_block.specs.Kind.{kind_word};
@@ -92,6 +93,28 @@ impl Cell {
                 true,
             _ => false,
         }
+    }
+
+    /// Whether this cell is dust.
+    pub fn is_dust(self) -> bool
+        ensures { result ≡ is_dust self }
+    {
+        matches!(self, Cell::Dust(_))
+    }
+
+    /// Whether this cell is a component of machines other than dust: a torch, a lever, a repeater,
+    /// a lamp or a piston.
+    pub fn is_device(self) -> bool
+        ensures { result ≡ is_device self }
+    {
+        matches!(
+            self,
+            Cell::Torch { .. }
+                | Cell::Lever { .. }
+                | Cell::Repeater(_)
+                | Cell::Lamp(_)
+                | Cell::Piston { .. }
+        )
     }
 
     /// The text of this cell, as replies write it (docs/FORMATS.md).

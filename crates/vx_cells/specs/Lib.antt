@@ -2,7 +2,9 @@ pub mod CellsLaws
 pub mod Chests
 pub mod Codes
 pub mod Laws
+pub mod Listed
 pub mod Maps
+pub mod Marks
 pub mod SameCells
 pub mod SameSlots
 pub mod SectorCells

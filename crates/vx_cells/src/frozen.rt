@@ -1,12 +1,14 @@
-ghost use Rattle.std.specs.Prelude.{◌≡◌, true, None, SomeIff};
+ghost use Rattle.std.specs.Prelude.{◌≡◌, ◌<◌, true, None, IfOk, SomeIff};
 ghost use Rattle.vx_block.specs.declared.cell.Cell.TheVariants.{Air};
 ghost use Rattle.vx_geom.specs.Neighbor.{neighbor};
-ghost use Rattle.vx_geom.specs.Sizes.{is_below, is_inside};
+ghost use Rattle.vx_geom.specs.Sizes.{is_below, is_inside, sector_count};
 ghost use Rattle.vx_geom.specs.declared.dir.Dir.TheVariants.{Up, Down};
 ghost use Rattle.vx_geom.specs.declared.pos.Pos.{Pos};
+ghost use Rattle.vx_cells.specs.Listed.{components_on, devices_on};
 ghost use Rattle.vx_cells.specs.Maps.{far, is_near};
 
 use crate::cells::Cells;
+use std::alloc::{AllocError, Global};
 use std::marker::Model;
 use vx_block::Cell;
 use vx_geom::{Bounds, Dir, Pos};
@@ -135,6 +137,23 @@ impl<'a> Frozen<'a> {
             Dir::South => self.place(x, y, z + 1),
             Dir::North => self.place(x, y, z - 1),
         }
+    }
+
+    /// The positions of a sector where a component of machines stands, in order. It costs what
+    /// stands there.
+    pub fn components(&self, alloc: Global, sector: u32) -> Result<Vec<Pos>, AllocError>
+        requires { sector < sector_count self.now.sizes }
+        ensures { IfOk result (λ found. found.items ≡ components_on self.now sector) }
+    {
+        Err(AllocError)
+    }
+
+    /// The positions of a sector where a device stands, in order. It costs what stands there.
+    pub fn devices(&self, alloc: Global, sector: u32) -> Result<Vec<Pos>, AllocError>
+        requires { sector < sector_count self.now.sizes }
+        ensures { IfOk result (λ found. found.items ≡ devices_on self.now sector) }
+    {
+        Err(AllocError)
     }
 
     // The position with these coordinates, where the world has one.

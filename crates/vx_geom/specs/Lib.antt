@@ -3,6 +3,7 @@ pub mod Neighbor
 pub mod Order
 pub mod Outline
 pub mod OutlineLaws
+pub mod Places
 pub mod Polygon
 pub mod SameOutline
 pub mod Sectors

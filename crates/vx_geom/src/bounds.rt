@@ -34,6 +34,7 @@ impl Model for Bounds {
 }
 
 impl Bounds {
+    ghost use Rattle.vx_geom.specs.Places.{west, north, first_near, end_near, position_in_sector};
     ghost use Rattle.vx_geom.specs.Sizes.{Sizes, AreSizes, span, sector_count, is_inside, sector_of, sector_cells, index_in_sector};
 
     /// A world of `sx` by `sz` sectors, 1 to 8 each, of `s` by `s` chunks, `s` being 1 or 2.
@@ -117,6 +118,63 @@ impl Bounds {
         let column = p.x.unsigned_abs() % span;
         let row = p.z.unsigned_abs() % span;
         cell_index(span, column, p.y.unsigned_abs(), row)
+    }
+
+    /// The first column of a sector, counted from the west.
+    pub fn west(&self, sector: u32) -> u32
+        requires { sector < sector_count self.now }
+        ensures value { result ≡ west self.now sector }
+        ensures within { result < 256 }
+    {
+        self.soundness();
+        self.span() * (sector % u32::from(self.sx))
+    }
+
+    /// The first column of a sector, counted from the north.
+    pub fn north(&self, sector: u32) -> u32
+        requires { sector < sector_count self.now }
+        ensures value { result ≡ north self.now sector }
+        ensures within { result < 256 }
+    {
+        self.soundness();
+        self.span() * (sector / u32::from(self.sx))
+    }
+
+    /// The position of the cell of that index in a sector.
+    #[tactic(auto, unfolding(crate::specs::Places::position_in_sector))]
+    pub fn position_in_sector(&self, sector: u32, index: u32) -> Pos
+        requires sector { sector < sector_count self.now }
+        requires index { index < sector_cells self.now }
+        ensures { result ≡ position_in_sector self.now sector index }
+    {
+        self.soundness();
+        let span = self.span();
+        let row = index / span;
+        Pos {
+            y: (row / span) as i32,
+            z: (self.north(sector) + row % span) as i32,
+            x: (self.west(sector) + index % span) as i32,
+        }
+    }
+
+    /// The least number that a sector has that is at most two columns and two rows of sectors off
+    /// this one.
+    pub fn first_near(&self, sector: u32) -> u32
+        requires { sector < sector_count self.now }
+        ensures value { result ≡ first_near self.now sector }
+        ensures within { result ≤ sector }
+    {
+        sector.saturating_sub(2 * (u32::from(self.sx) + 1))
+    }
+
+    /// One more than the greatest number that such a sector has.
+    pub fn end_near(&self, sector: u32) -> u32
+        requires { sector < sector_count self.now }
+        ensures value { result ≡ end_near self.now sector }
+        ensures within { result ≤ sector_count self.now }
+    {
+        self.soundness();
+        (sector + 2 * (u32::from(self.sx) + 1) + 1).min(self.sectors())
     }
 }
 

@@ -1,5 +1,6 @@
 ghost use Rattle.std.specs.Prelude.{◌≡◌, Some};
 ghost use Rattle.vx_geom.specs.declared.pos.Pos.{Pos};
+ghost use Rattle.vx_geom.specs.Places.{IndicesArePlaces};
 ghost use Rattle.vx_geom.specs.Order.{PositionsAreOrdered, compared};
 ghost use Rattle.vx_geom.specs.Sectors.{SectorsDivide, IndicesDiffer};
 
@@ -26,4 +27,10 @@ pub fn sectors_divide()
 /// No two positions of a sector have one index among its cells.
 pub fn indices_differ()
     ensures { IndicesDiffer }
+{}
+
+/// Each index of a sector has a position there, and each position there has its index; in the
+/// order of their indices positions come in order.
+pub fn indices_are_places()
+    ensures { IndicesArePlaces }
 {}

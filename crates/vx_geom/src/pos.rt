@@ -6,7 +6,7 @@ use crate::dir::Dir;
 
 /// A position in the world: x grows east, y up and z south. Positions are ordered by y, then z,
 /// then x.
-#[derive(Clone, Copy, Debug, PartialEq, Eq, PartialOrd, Ord, Hash)]
+#[derive(Clone, Copy, Debug, Default, PartialEq, Eq, PartialOrd, Ord, Hash)]
 pub struct Pos {
     pub y: i32,
     pub z: i32,

@@ -7,10 +7,11 @@ use Rattle.vx_geom.proofs.Positions.{there_and_back}
 use Rattle.vx_block.specs.declared.cell.Cell.{Cell}
 use Rattle.vx_block.specs.declared.side.Side.{Side}
 use Rattle.vx_block.specs.declared.side.Side.TheVariants.{East, West, South, North}
+use Rattle.vx_block.specs.Components.{is_dust}
 use Rattle.vx_block.specs.Conductors.{conducts}
 use Rattle.vx_block.specs.Sides.{side_back}
 use Rattle.vx_block.specs.States.{side_dir}
-use Rattle.vx_power.specs.Dust.{is_dust, beside, over, under, links_beside, links_up, links_down, links_on, links}
+use Rattle.vx_power.specs.Dust.{beside, over, under, links_beside, links_up, links_down, links_on, links}
 use Rattle.vx_power.specs.Walks.{IsAmong}
 
 -- an element of one of two lists

@@ -6,15 +6,11 @@ use Rattle.vx_geom.specs.Neighbor.{neighbor}
 use Rattle.vx_block.specs.declared.side.Side.{Side}
 use Rattle.vx_block.specs.declared.side.Side.TheVariants.{East, West, South, North}
 use Rattle.vx_block.specs.declared.cell.Cell.{Cell}
-use Rattle.vx_block.specs.declared.cell.Cell.TheVariants.{Dust, Torch, Lever, Repeater}
+use Rattle.vx_block.specs.declared.cell.Cell.TheVariants.{Torch, Lever, Repeater}
+use Rattle.vx_block.specs.Components.{is_dust}
 use Rattle.vx_block.specs.Conductors.{conducts}
 use Rattle.vx_block.specs.Sides.{side_back, side_right, same_side}
 use Rattle.vx_block.specs.States.{side_dir}
-
--- the cell is dust
-abbrev pub is_dust : Cell → Bool
-is_dust (Dust level) = true
-is_dust _ = false
 
 -- the position beside, and those over and under it
 abbrev pub beside : Pos → Side → Pos

@@ -9,9 +9,10 @@ use Rattle.vx_geom.specs.Neighbor.{neighbor}
 use Rattle.vx_block.specs.declared.side.Side.TheVariants as side
 use Rattle.vx_block.specs.declared.cell.Cell.{Cell}
 use Rattle.vx_block.specs.declared.cell.Cell.TheVariants.{Torch, Lever, Repeater}
+use Rattle.vx_block.specs.Components.{is_dust}
 use Rattle.vx_block.specs.Conductors.{conducts}
 use Rattle.vx_block.specs.States.{mount_dir, side_dir}
-use Rattle.vx_power.specs.Dust.{is_dust, points}
+use Rattle.vx_power.specs.Dust.{points}
 
 -- a cell gives power to its neighbor in that direction: a lit torch to each but the block that it
 -- is mounted on, a lever that is on to each, a repeater that is on to the one at its front

@@ -1,25 +1,18 @@
 //! Dust: what it links to, and where it points.
 ghost use Rattle.std.specs.Prelude.{◌≡◌};
 ghost use Rattle.vx_cells.specs.Maps.{cell_on};
-ghost use Rattle.vx_power.specs.Dust.{is_dust, links_beside, links_up, links_down, is_joined, joins, points};
+ghost use Rattle.vx_power.specs.Dust.{links_beside, links_up, links_down, is_joined, joins, points};
 
 use vx_block::{Cell, Side};
 use vx_cells::Frozen;
 use vx_geom::{Dir, Pos};
-
-/// Whether a cell is dust.
-pub fn is_dust(cell: Cell) -> bool
-    ensures { result ≡ is_dust cell }
-{
-    matches!(cell, Cell::Dust(_))
-}
 
 /// Whether dust at a position links to dust beside it.
 #[tactic(auto, unfolding(crate::specs::Dust::links_beside))]
 pub fn links_beside(map: &Frozen<'_>, p: Pos, side: Side) -> bool
     ensures { result ≡ links_beside (cell_on map.now) p side }
 {
-    is_dust(map.beside(p, side.dir()))
+    map.beside(p, side.dir()).is_dust()
 }
 
 /// Whether dust at a position climbs to dust one higher on that side.
@@ -27,7 +20,7 @@ pub fn links_beside(map: &Frozen<'_>, p: Pos, side: Side) -> bool
 pub fn links_up(map: &Frozen<'_>, p: Pos, side: Side) -> bool
     ensures { result ≡ links_up (cell_on map.now) p side }
 {
-    is_dust(map.above(p, side.dir())) && !map.beside(p, Dir::Up).conducts()
+    map.above(p, side.dir()).is_dust() && !map.beside(p, Dir::Up).conducts()
 }
 
 /// Whether dust at a position runs down to dust one lower on that side.
@@ -35,7 +28,7 @@ pub fn links_up(map: &Frozen<'_>, p: Pos, side: Side) -> bool
 pub fn links_down(map: &Frozen<'_>, p: Pos, side: Side) -> bool
     ensures { result ≡ links_down (cell_on map.now) p side }
 {
-    is_dust(map.below(p, side.dir())) && !map.beside(p, side.dir()).conducts()
+    map.below(p, side.dir()).is_dust() && !map.beside(p, side.dir()).conducts()
 }
 
 // Whether dust joins this cell, which stands on that side of it, and is no dust.

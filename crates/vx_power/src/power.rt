@@ -4,7 +4,7 @@ ghost use Rattle.std.specs.Prelude.{◌≡◌};
 ghost use Rattle.vx_cells.specs.Maps.{cell_on};
 ghost use Rattle.vx_power.specs.Signals.{reaches, dust_powers, is_dust_powered, is_powered, activates, is_front, is_active};
 
-use crate::dust::{is_dust, points};
+use crate::dust::points;
 use crate::leveled::Leveled;
 use crate::signals::{gives, is_driven};
 use vx_block::Side;
@@ -30,7 +30,7 @@ fn dust_powers<L: Leveled>(map: &Frozen<'_>, levels: &L, p: Pos, dir: Dir) -> bo
     ensures { result ≡ dust_powers (cell_on map.now) (L.level levels.now) p dir }
 {
     match map.next(p, dir) {
-        Some(next) => { is_dust(map.cell(next)) && 0 < levels.at(next) && reaches(map, next, dir) }
+        Some(next) => { map.cell(next).is_dust() && 0 < levels.at(next) && reaches(map, next, dir) }
         None => false,
     }
 }

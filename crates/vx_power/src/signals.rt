@@ -3,7 +3,6 @@ ghost use Rattle.std.specs.Prelude.{◌≡◌};
 ghost use Rattle.vx_cells.specs.Maps.{cell_on};
 ghost use Rattle.vx_power.specs.Signals.{gives, drives, drives_from, is_driven, is_strong, feeds_from, has_feeder, is_fed};
 
-use crate::dust::is_dust;
 use vx_block::Cell;
 use vx_cells::Frozen;
 use vx_geom::{Dir, Pos};
@@ -78,5 +77,5 @@ fn has_feeder(map: &Frozen<'_>, p: Pos) -> bool
 pub fn is_fed(map: &Frozen<'_>, p: Pos) -> bool
     ensures { result ≡ is_fed (cell_on map.now) p }
 {
-    is_dust(map.cell(p)) && has_feeder(map, p)
+    map.cell(p).is_dust() && has_feeder(map, p)
 }

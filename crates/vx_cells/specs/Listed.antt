@@ -1,0 +1,23 @@
+-- The components of machines in a sector, in order.
+use Rattle.std.specs.Prelude.{ℕ, List}
+use Rattle.std.specs.List.{filter}
+use Rattle.vx_block.specs.Components.{is_device, is_component}
+use Rattle.vx_geom.specs.declared.pos.Pos.{Pos}
+use Rattle.vx_geom.specs.Places.{positions}
+use Rattle.vx_cells.specs.Maps.{MapData, cell_on}
+use Rattle.vx_cells.specs.SectorCells.{SectorCells, cell_at}
+
+-- the positions of a sector where a component stands
+unfoldable pub components_of : SectorCells → List Pos
+components_of c = filter (λ p. is_component (cell_at c p)) (positions c.bounds c.sector)
+
+-- those where a device stands
+unfoldable pub devices_of : SectorCells → List Pos
+devices_of c = filter (λ p. is_device (cell_at c p)) (positions c.bounds c.sector)
+
+-- the same of a sector of a map
+unfoldable pub components_on : MapData → ℕ → List Pos
+components_on m k = filter (λ p. is_component (cell_on m p)) (positions m.sizes k)
+
+unfoldable pub devices_on : MapData → ℕ → List Pos
+devices_on m k = filter (λ p. is_device (cell_on m p)) (positions m.sizes k)

@@ -1,0 +1,53 @@
+-- Levels of dust, as a table has them, near a sector.
+use Rattle.std.specs.Prelude.{◌≡◌, ℕ, ◌×◌, ◌+◌, ◌≤◌, Bool, true, ◌&&◌, List, pos, ◌-ℤ◌, int_le, int_lt, unwrap_or}
+use Rattle.std.specs.List.{list_any}
+use Rattle.std.specs.Map.{lookup}
+use Rattle.std.specs.Ordering.{int_eq}
+use Rattle.vx_geom.specs.declared.pos.Pos.{Pos}
+use Rattle.vx_geom.specs.Places.{west, north}
+use Rattle.vx_geom.specs.Sizes.{Sizes, span}
+use Rattle.vx_cells.specs.Maps.{MapData, cell_on}
+use Rattle.vx_power.specs.declared.columns.Columns.{Columns}
+use Rattle.vx_power.specs.Laws.{dust_level}
+
+-- they are one position
+abbrev pub same_place : Pos → Pos → Bool
+same_place a b = int_eq a.y b.y && (int_eq a.z b.z && int_eq a.x b.x)
+
+-- the position is in the list
+abbrev pub has : List Pos → Pos → Bool
+has ps p = list_any (same_place p) ps
+
+-- positions, each beside its level
+abbrev pub LevelTable : Type 0
+LevelTable = List (Pos × ℕ)
+
+-- the level that a table has for a position; 0 where it has none
+abbrev pub level_in : LevelTable → Pos → ℕ
+level_in table p = unwrap_or (lookup (same_place p) table) 0
+
+-- no level is over 15
+abbrev pub AreMost : LevelTable → Type 0
+AreMost table = (p : Pos) → level_in table p ≤ 15
+
+-- the position is in one of these columns
+abbrev pub is_in : Columns → Pos → Bool
+is_in c p = (int_le c.west p.x && int_lt p.x c.east) && (int_le c.north p.z && int_lt p.z c.south)
+
+-- the columns of a sector, and those up to d columns off it
+abbrev pub columns_around : Sizes → ℕ → ℕ → Columns
+columns_around v k d = record {
+  west = pos (west v k) -ℤ pos d;
+  east = pos (west v k + span v + d);
+  north = pos (north v k) -ℤ pos d;
+  south = pos (north v k + span v + d);
+}
+
+-- how many columns off a sector levels are told: a next part reads no level further off
+abbrev pub told_columns : ℕ
+told_columns = 2
+
+-- the table has the level of each dust of a sector and of those near it
+abbrev pub AreLevels : MapData → ℕ → (Pos → ℕ) → Type 0
+AreLevels m k level = (p : Pos) → is_in (columns_around m.sizes k told_columns) p ≡ true
+    → level p ≡ dust_level (cell_on m) p

@@ -1,0 +1,88 @@
+-- How levels spread from the dust that is fed, link by link, within some columns.
+use Rattle.std.specs.Prelude.{◌≡◌, ℕ, zero, suc, ◌-◌, Bool, true, false, not, ◌&&◌, ◌||◌, nat_lt, if◌then◌else◌, List, [], ◌∷◌, ◌++◌}
+use Rattle.std.specs.List.{filter, list_any}
+use Rattle.vx_geom.specs.declared.pos.Pos.{Pos}
+use Rattle.vx_geom.specs.declared.dir.Dir.{Dir}
+use Rattle.vx_geom.specs.declared.dir.Dir.TheVariants.{East, West, Up, Down, South, North}
+use Rattle.vx_geom.specs.Dirs.{all_dirs}
+use Rattle.vx_geom.specs.Neighbor.{neighbor}
+use Rattle.vx_block.specs.declared.cell.Cell.{Cell}
+use Rattle.vx_block.specs.Components.{is_dust}
+use Rattle.vx_block.specs.Conductors.{conducts}
+use Rattle.vx_cells.specs.Listed.{devices_on}
+use Rattle.vx_cells.specs.Maps.{MapData}
+use Rattle.vx_power.specs.declared.columns.Columns.{Columns}
+use Rattle.vx_power.specs.Dust.{links}
+use Rattle.vx_power.specs.Levels.{LevelTable, has, level_in, is_in}
+use Rattle.vx_power.specs.Signals.{gives, drives, is_fed}
+use Rattle.vx_power.specs.Walks.{within, level_by}
+
+-- the dust beside a position in one direction, if there is any
+unfoldable pub dust_at : (Pos → Cell) → Pos → Dir → List Pos
+dust_at w p d = if is_dust (w (neighbor p d)) then neighbor p d ∷ [] else []
+
+-- what f gives for each direction, joined
+abbrev pub each_dir : (Dir → List Pos) → List Pos
+each_dir f = f East ++ (f West ++ (f Up ++ (f Down ++ (f South ++ f North))))
+
+-- the dust that a device at s feeds in one direction: what it gives to, and what lies around a
+-- conductor that it drives
+unfoldable pub fed_towards : (Pos → Cell) → Pos → Dir → List Pos
+fed_towards w s d =
+    (if gives (w s) d then dust_at w s d else [])
+    ++ (if drives (w s) d && conducts (w (neighbor s d)) then each_dir (dust_at w (neighbor s d)) else [])
+
+-- all the dust that it feeds
+unfoldable pub fed_from : (Pos → Cell) → Pos → List Pos
+fed_from w s = each_dir (fed_towards w s)
+
+-- all the dust that these devices feed
+abbrev pub fed_by : (Pos → Cell) → List Pos → List Pos
+fed_by w [] = []
+fed_by w (s ∷ ss) = fed_from w s ++ fed_by w ss
+
+-- and the devices of so many sectors of a map, from one on
+abbrev pub fed_by_sectors : MapData → (Pos → Cell) → ℕ → ℕ → List Pos
+fed_by_sectors m w k zero = []
+fed_by_sectors m w k (suc n) = fed_by w (devices_on m k) ++ fed_by_sectors m w (suc k) n
+
+-- all that these positions link to
+abbrev pub linked_to : (Pos → Cell) → List Pos → List Pos
+linked_to w [] = []
+linked_to w (p ∷ ps) = links w p ++ linked_to w ps
+
+-- the dust in these columns that is fed, and the links of the dust in them
+unfoldable pub fed_in : (Pos → Cell) → Columns → Pos → Bool
+fed_in w c p = is_in c p && is_fed w p
+
+unfoldable pub links_in : (Pos → Cell) → Columns → Pos → List Pos
+links_in w c p = if is_in c p then links w p else []
+
+-- the columns to which levels spread, a table of levels, and the positions that it got last
+pub record SpreadData : Type 0 where
+  pub columns : Columns
+  pub table : LevelTable
+  pub reached : List Pos
+
+-- each of these positions that lies in the columns and had no level got this one, and is noted
+pub record Reaches (level : ℕ) (old new : SpreadData) (ps : List Pos) : Type 0 where
+  pub columns : new.columns ≡ old.columns
+  pub levels : (p : Pos) → level_in new.table p ≡ (if nat_lt 0 (level_in old.table p)
+      then level_in old.table p
+      else if is_in old.columns p && has ps p then level else 0)
+  pub reached : (p : Pos) → has new.reached p
+      ≡ (has old.reached p
+      || (not (nat_lt 0 (level_in old.table p)) && (is_in old.columns p && has ps p)))
+
+-- walks of less than so many links lead from the place to a fed one
+abbrev pub before : {X : Type 0} → (X → Bool) → (X → List X) → ℕ → X → Bool
+before fed links zero p = false
+before fed links (suc n) p = within fed links n p
+
+-- the table tells what walks of so many links tell, and the last of them reached these positions
+pub record IsSpread (w : Pos → Cell) (n : ℕ) (s : SpreadData) : Type 0 where
+  pub levels : (p : Pos)
+      → level_in s.table p ≡ level_by (fed_in w s.columns) (links_in w s.columns) n p
+  pub reached : (p : Pos) → has s.reached p
+      ≡ (within (fed_in w s.columns) (links_in w s.columns) n p
+      && not (before (fed_in w s.columns) (links_in w s.columns) n p))

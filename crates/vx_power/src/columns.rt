@@ -1,0 +1,40 @@
+ghost use Rattle.std.specs.Prelude.{◌≡◌, ◌<◌, ◌≤◌};
+ghost use Rattle.vx_geom.specs.Sizes.{sector_count};
+ghost use Rattle.vx_power.specs.Levels.{columns_around, is_in};
+
+use vx_geom::{Bounds, Pos};
+
+/// Columns of a world and past its borders: those from `west` up to below `east`, and from `north`
+/// up to below `south`.
+#[derive(Clone, Copy, Debug)]
+pub struct Columns {
+    pub west: i32,
+    pub east: i32,
+    pub north: i32,
+    pub south: i32,
+}
+
+impl Columns {
+    /// The columns of a sector, and those up to so many columns off it.
+    pub fn around(bounds: Bounds, sector: u32, off: u32) -> Columns
+        requires held { sector < sector_count bounds }
+        requires few { off ≤ 64 }
+        ensures { result ≡ columns_around bounds sector off }
+    {
+        let (west, north) = (bounds.west(sector), bounds.north(sector));
+        let more = (bounds.span() + off) as i32;
+        Columns {
+            west: west as i32 - off as i32,
+            east: west as i32 + more,
+            north: north as i32 - off as i32,
+            south: north as i32 + more,
+        }
+    }
+
+    /// Whether a position lies in one of these columns.
+    pub fn hold(self, p: Pos) -> bool
+        ensures { result ≡ is_in self p }
+    {
+        self.west <= p.x && p.x < self.east && self.north <= p.z && p.z < self.south
+    }
+}

@@ -1,2 +1,4 @@
+pub mod Changing
 pub mod Delays
 pub mod Nexts
+pub mod Reading

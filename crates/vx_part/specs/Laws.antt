@@ -1,4 +1,4 @@
-use Rattle.std.specs.Prelude.{◌≡◌, ℕ, zero, suc, ◌<◌, Bool, true, false}
+use Rattle.std.specs.Prelude.{◌≡◌, ℕ, zero, suc, ◌<◌, Bool, true, false, List}
 use Rattle.vx_geom.specs.declared.pos.Pos.{Pos}
 use Rattle.vx_geom.specs.Neighbor.{neighbor}
 use Rattle.vx_block.specs.declared.cell.Cell.{Cell}
@@ -7,6 +7,7 @@ use Rattle.vx_block.specs.declared.mount.Mount.{Mount}
 use Rattle.vx_block.specs.declared.lamp.Lamp.TheVariants as lamp
 use Rattle.vx_block.specs.Repeating.{Repeating}
 use Rattle.vx_block.specs.States.{mount_dir, ticks_of}
+use Rattle.vx_power.specs.Local.{within_steps, sees, AreAlike}
 use Rattle.vx_power.specs.Signals.{is_powered}
 use Rattle.vx_part.specs.Parts.{is_locked, counted, next_lamp, next_part}
 
@@ -47,3 +48,12 @@ abbrev pub LampsGoOutLate : Type 0
 LampsGoOutLate =
     (next_lamp lamp.Lit false ≡ lamp.Cooling) × (next_lamp lamp.Cooling false ≡ lamp.Off)
     × (next_lamp lamp.Off true ≡ lamp.Lit)
+
+-- the cells that decide what stands at p after a tick
+abbrev pub reads : Pos → List Pos
+reads p = within_steps 4 p
+
+-- these cells and the levels nearby decide it, and nothing else does
+abbrev pub PartsRead : Type 0
+PartsRead = (w v : Pos → Cell) (a b : Pos → ℕ) (p : Pos)
+    → AreAlike (reads p) w v → AreAlike (sees p) a b → next_part w a p ≡ next_part v b p

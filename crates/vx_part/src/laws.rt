@@ -1,4 +1,4 @@
-ghost use Rattle.vx_part.specs.Laws.{DustKeepsItsLevel, TorchesInvert, LockedRepeatersStay, RepeatersDelay, LampsGoOutLate};
+ghost use Rattle.vx_part.specs.Laws.{DustKeepsItsLevel, TorchesInvert, LockedRepeatersStay, RepeatersDelay, LampsGoOutLate, PartsRead};
 
 /// Dust keeps its level, and a torch inverts the power of its block, a tick later.
 pub fn dust_keeps_torches_invert()
@@ -16,4 +16,10 @@ pub fn repeaters_delay_and_lock()
 /// A lamp that loses its power stays lit for one tick more.
 pub fn lamps_go_out_late()
     ensures { LampsGoOutLate }
+{}
+
+/// What stands at a position after a tick is decided by the cells that four steps lead to and the
+/// levels that two steps lead to.
+pub fn parts_read_four_steps()
+    ensures { PartsRead }
 {}

@@ -1,9 +1,13 @@
 //! What each part of a machine is after a tick: dust, torches, repeaters and lamps.
 #![tactic(auto)]
 
+mod changes;
 mod laws;
 mod parts;
 mod repeaters;
 
-pub use laws::{dust_keeps_torches_invert, lamps_go_out_late, repeaters_delay_and_lock};
+pub use changes::next_parts;
+pub use laws::{
+    dust_keeps_torches_invert, lamps_go_out_late, parts_read_four_steps, repeaters_delay_and_lock,
+};
 pub use parts::next_part;

@@ -1,3 +1,4 @@
 pub mod Linking
+pub mod Local
 pub mod Pointing
 pub mod Reach

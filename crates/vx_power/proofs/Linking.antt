@@ -20,12 +20,12 @@ among_either [] ys x among = inr among
 among_either (y ∷ xs) ys x (inl same) = inl (inl same)
 among_either (y ∷ xs) ys x (inr among) = elim (among_either xs ys x among) [ inl here ↦ inl (inr here) | inr there ↦ inr there ]
 
-among_left : {X : Type 0} (xs ys : List X) (x : X) → IsAmong xs x → IsAmong (xs ++ ys) x
+pub among_left : {X : Type 0} (xs ys : List X) (x : X) → IsAmong xs x → IsAmong (xs ++ ys) x
 among_left [] ys x among = absurd among
 among_left (y ∷ xs) ys x (inl same) = inl same
 among_left (y ∷ xs) ys x (inr among) = inr (among_left xs ys x among)
 
-among_right : {X : Type 0} (xs ys : List X) (x : X) → IsAmong ys x → IsAmong (xs ++ ys) x
+pub among_right : {X : Type 0} (xs ys : List X) (x : X) → IsAmong ys x → IsAmong (xs ++ ys) x
 among_right [] ys x among = among
 among_right (y ∷ xs) ys x among = inr (among_right xs ys x among)
 

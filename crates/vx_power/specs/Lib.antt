@@ -1,6 +1,7 @@
 pub mod Dust
 pub mod Laws
 pub mod Levels
+pub mod Local
 pub mod Signals
 pub mod Spreading
 pub mod Walks

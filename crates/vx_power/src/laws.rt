@@ -1,3 +1,4 @@
+ghost use Rattle.vx_power.specs.Local.{DustSees, PowerSees, ActivitySees};
 ghost use Rattle.vx_power.specs.Laws.{LevelsAreWalks, LevelsFallByOne, LinksLeadBack, PointsToAll, PointsAlong, PointsToJoins};
 
 /// The level of dust is 15 less the length of the shortest walk of links to fed dust, or 0; it
@@ -18,4 +19,12 @@ pub fn dust_points_as_it_joins()
     ensures all { PointsToAll }
     ensures along { PointsAlong }
     ensures joins { PointsToJoins }
+{}
+
+/// What dust links to and whether it is fed is decided within two steps of it, power at a position
+/// within three, and what is active there within four; each reads levels two steps nearer.
+pub fn signals_see_few_steps()
+    ensures dust { DustSees }
+    ensures power { PowerSees }
+    ensures activity { ActivitySees }
 {}

@@ -11,7 +11,9 @@ mod signals;
 mod spread;
 
 pub use dust::points;
-pub use laws::{dust_points_as_it_joins, levels_are_walks, links_lead_back};
+pub use laws::{
+    dust_points_as_it_joins, levels_are_walks, links_lead_back, signals_see_few_steps,
+};
 pub use leveled::Leveled;
 pub use levels::Levels;
 pub use power::{activates, active, powered};

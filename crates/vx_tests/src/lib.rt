@@ -9,6 +9,8 @@ mod desk;
 #[cfg(test)]
 mod files;
 #[cfg(test)]
+mod game;
+#[cfg(test)]
 mod machines;
 #[cfg(test)]
 mod policies;
@@ -16,5 +18,7 @@ mod policies;
 mod sectors;
 #[cfg(test)]
 mod shapes;
+#[cfg(test)]
+mod signals;
 #[cfg(test)]
 mod words;

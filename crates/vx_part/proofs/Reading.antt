@@ -1,0 +1,56 @@
+-- How far a part reads, and what that means for levels that are told near a sector.
+use Rattle.std.proofs.Common.{◌≡◌, ℕ, zero, suc, not, ◌||◌, if◌then◌else◌, None, refl, ap, ◌∙◌}
+use Rattle.vx_geom.specs.declared.pos.Pos.{Pos}
+use Rattle.vx_geom.specs.Neighbor.{neighbor}
+use Rattle.vx_block.specs.declared.side.Side.{Side}
+use Rattle.vx_block.specs.declared.cell.Cell.{Cell}
+use Rattle.vx_block.specs.declared.cell.Cell.TheVariants as cell
+use Rattle.vx_block.specs.Repeating.{Repeating}
+use Rattle.vx_block.specs.Sides.{side_back, side_right}
+use Rattle.vx_block.specs.States.{mount_dir, side_dir}
+use Rattle.vx_power.specs.Local.{AreAlike}
+use Rattle.vx_power.proofs.Local.{Near, near_from, here, is_powered_same, activates_same, is_active_same}
+use Rattle.vx_part.specs.Laws.{PartsRead}
+use Rattle.vx_part.specs.Parts.{next_lamp, is_on_towards, locks_from, is_locked, counted, next_repeater, next_of, next_part}
+
+module _ (w v : Pos → Cell) (a b : Pos → ℕ) (p : Pos) (cells : Near 4 p w v) (levels : Near 2 p a b) where
+  locks_same : (s : Side) → locks_from w p s ≡ locks_from v p s
+  unfolding locks_from
+  locks_same s = λ i. is_on_towards (side_back s) (here w v 3 (neighbor p (side_dir s)) (cells.1 (side_dir s)) i)
+
+  locked_same : (facing : Side) → is_locked w p facing ≡ is_locked v p facing
+  unfolding is_locked
+  locked_same facing = λ i. locks_same (side_right facing) i || locks_same (side_back (side_right facing)) i
+
+  repeater_same : (r : Repeating) → next_repeater w a p r ≡ next_repeater v b p r
+  unfolding next_repeater
+  repeater_same r = λ i.
+      if locked_same r.facing i
+      then r
+      else counted r (activates_same w v a b p (side_dir (side_back r.facing)) cells levels i)
+
+  next_same : (c : Cell) → next_of w a p c ≡ next_of v b p c
+  unfolding next_of
+  next_same (cell.Dust old) = λ i. cell.Dust (here a b 2 p levels i)
+  next_same (cell.Torch facing lit) = λ i. cell.Torch facing
+      (not (is_powered_same w v a b (neighbor p (mount_dir facing)) (cells.1 (mount_dir facing)) (levels.1 (mount_dir facing)) i))
+  next_same (cell.Lamp old) = λ i. cell.Lamp (next_lamp old (is_active_same w v a b None p cells levels i))
+  next_same (cell.Repeater r) = λ i. cell.Repeater (repeater_same r i)
+  next_same cell.Air = refl
+  next_same cell.Stone = refl
+  next_same cell.Dirt = refl
+  next_same cell.Planks = refl
+  next_same cell.Glass = refl
+  next_same cell.Obsidian = refl
+  next_same cell.Bedrock = refl
+  next_same cell.Chest = refl
+  next_same (cell.Lever facing on) = refl
+  next_same (cell.Piston facing sticky extended) = refl
+  next_same (cell.Head facing sticky) = refl
+
+  -- near cells and levels that are alike have one next part
+  pub part_same : next_part w a p ≡ next_part v b p
+  part_same = ap (next_of w a p) (here w v 4 p cells) ∙ next_same (v p)
+
+pub parts_read : PartsRead
+parts_read w v a b p cells levels = part_same w v a b p (near_from w v 4 p cells) (near_from a b 2 p levels)

@@ -1,0 +1,54 @@
+//! What a tick changes in a sector, pistons left out.
+ghost use Rattle.std.specs.Prelude.{◌≡◌, ◌<◌, IfOk};
+ghost use Rattle.vx_cells.specs.Maps.{cell_on};
+ghost use Rattle.vx_geom.specs.Places.{positions};
+ghost use Rattle.vx_geom.specs.Sizes.{sector_count};
+ghost use Rattle.vx_part.specs.Changes.{change_at, changes};
+ghost use Rattle.vx_power.specs.Laws.{dust_level};
+ghost use Rattle.vx_power.specs.Levels.{AreLevels};
+
+use crate::parts::next_part;
+use std::alloc::{AllocError, Global};
+use vx_block::Cell;
+use vx_cells::Frozen;
+use vx_geom::Pos;
+use vx_power::Leveled;
+
+/// The cells of a sector that are others after the tick, pistons left out, each beside its
+/// position, in order. The levels are those of this map near the sector. It costs what the
+/// components of the sector are.
+pub fn next_parts<L: Leveled>(
+    alloc: Global,
+    map: &Frozen<'_>,
+    levels: &L,
+    sector: u32,
+) -> Result<Vec<(Pos, Cell)>, AllocError>
+    requires { sector < sector_count map.now.sizes }
+    ensures by_levels { IfOk result (λ found. found.items
+        ≡ changes (cell_on map.now) (L.level levels.now) (positions map.now.sizes sector)) }
+    ensures exact { AreLevels map.now sector (L.level levels.now)
+        → IfOk result (λ found. found.items
+            ≡ changes (cell_on map.now) (dust_level (cell_on map.now)) (positions map.now.sizes sector)) }
+{
+    let mut found = Vec::new_in(alloc);
+    let components = map.components(alloc, sector)?;
+    for p in &components {
+        if let Some(cell) = change(map, levels, *p) {
+            found.push((*p, cell))?;
+        }
+    }
+    Ok(found)
+}
+
+// What stands at a position after the tick, where that is another cell.
+#[tactic(auto, unfolding(crate::specs::Changes::change_at))]
+fn change<L: Leveled>(map: &Frozen<'_>, levels: &L, p: Pos) -> Option<Cell>
+    ensures { result ≡ change_at (cell_on map.now) (L.level levels.now) p }
+{
+    let next = next_part(map, levels, p);
+    if next == map.cell(p) {
+        None
+    } else {
+        Some(next)
+    }
+}

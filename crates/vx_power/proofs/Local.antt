@@ -1,0 +1,168 @@
+-- How far the signals at a position see: each from the cells that so many steps lead to.
+use Rattle.std.proofs.Common.{◌≡◌, ℕ, zero, suc, not, ◌&&◌, ◌||◌, nat_lt, List, [], ◌∷◌, ◌++◌, if◌then◌else◌, inl, inr, Option, refl, sym, subst}
+use Rattle.std.specs.List.{list_any}
+use Rattle.vx_geom.specs.declared.pos.Pos.{Pos}
+use Rattle.vx_geom.specs.declared.dir.Dir.{Dir}
+use Rattle.vx_geom.specs.declared.dir.Dir.TheVariants.{East, West, Up, Down, South, North}
+use Rattle.vx_geom.specs.Dirs.{all_dirs, opposite}
+use Rattle.vx_geom.specs.Neighbor.{neighbor}
+use Rattle.vx_block.specs.declared.cell.Cell.{Cell}
+use Rattle.vx_block.specs.declared.side.Side.{Side}
+use Rattle.vx_block.specs.declared.side.Side.TheVariants as side
+use Rattle.vx_block.specs.Components.{is_dust}
+use Rattle.vx_block.specs.Conductors.{conducts}
+use Rattle.vx_block.specs.Sides.{side_back, side_right}
+use Rattle.vx_block.specs.States.{side_dir}
+use Rattle.vx_power.specs.Dust.{beside, over, under, links_beside, links_up, links_down, links_on, links, is_joined, joins, points}
+use Rattle.vx_power.specs.Local.{around, within_steps, AreAlike, DustSees, PowerSees, ActivitySees}
+use Rattle.vx_power.specs.Signals.{gives, drives, drives_from, is_driven, is_strong, feeds_from, has_feeder, is_fed, reaches, dust_powers, is_dust_powered, is_powered, activates, is_front, is_active}
+use Rattle.vx_power.specs.Walks.{IsAmong}
+use Rattle.vx_power.proofs.Linking.{among_left, among_right}
+
+-- the two have the same at p, and wherever so many steps lead from it
+abbrev pub Near : {X : Type 0} → ℕ → Pos → (Pos → X) → (Pos → X) → Type 0
+Near zero p f g = f p ≡ g p
+Near (suc n) p f g = Near n p f g × ((d : Dir) → Near n (neighbor p d) f g)
+
+-- each direction is one of the six
+one_of_six : (d : Dir) → IsAmong all_dirs d
+one_of_six East = inl refl
+one_of_six West = inr (inl refl)
+one_of_six Up = inr (inr (inl refl))
+one_of_six Down = inr (inr (inr (inl refl)))
+one_of_six South = inr (inr (inr (inr (inl refl))))
+one_of_six North = inr (inr (inr (inr (inr (inl refl)))))
+
+among_around : (f : Pos → List Pos) (p q : Pos) (ds : List Dir) (d : Dir)
+    → IsAmong ds d → IsAmong (f (neighbor p d)) q → IsAmong (around f p ds) q
+among_around f p q [] d none there = absurd none
+among_around f p q (e ∷ ds) d (inl same) there =
+    among_left (f (neighbor p e)) (around f p ds) q (subst (λ e. IsAmong (f (neighbor p e)) q) (sym same) there)
+among_around f p q (e ∷ ds) d (inr further) there =
+    among_right (f (neighbor p e)) (around f p ds) q (among_around f p q ds d further there)
+
+module _ {X : Type 0} (f g : Pos → X) where
+  pub near_from : (n : ℕ) (p : Pos) → AreAlike (within_steps n p) f g → Near n p f g
+  near_from zero p alike = alike p (inl refl)
+  near_from (suc n) p alike = (
+    near_from n p (λ q among. alike q (among_left (within_steps n p) (around (within_steps n) p all_dirs) q among)),
+    λ d. near_from n (neighbor p d) (λ q among. alike q
+        (among_right (within_steps n p) (around (within_steps n) p all_dirs) q
+        (among_around (within_steps n) p q all_dirs d (one_of_six d) among))),
+  )
+
+  pub here : (n : ℕ) (p : Pos) → Near n p f g → f p ≡ g p
+  here zero p near = near
+  here (suc n) p near = here n p near.0
+
+module _ (w v : Pos → Cell) where
+  -- the cell at p, one step off it, and two steps off
+  at : (n : ℕ) (p : Pos) → Near n p w v → w p ≡ v p
+  at = here w v
+
+  links_beside_same : (p : Pos) (s : Side) → Near 2 p w v → links_beside w p s ≡ links_beside v p s
+  unfolding links_beside
+  links_beside_same p s near = λ i. is_dust (at 1 (beside p s) (near.1 (side_dir s)) i)
+
+  links_up_same : (p : Pos) (s : Side) → Near 2 p w v → links_up w p s ≡ links_up v p s
+  unfolding links_up
+  links_up_same p s near =
+      λ i. is_dust (at 0 (over (beside p s)) ((near.1 (side_dir s)).1 Up) i) && not (conducts (at 1 (over p) (near.1 Up) i))
+
+  links_down_same : (p : Pos) (s : Side) → Near 2 p w v → links_down w p s ≡ links_down v p s
+  unfolding links_down
+  links_down_same p s near =
+      λ i. is_dust (at 0 (under (beside p s)) ((near.1 (side_dir s)).1 Down) i) && not (conducts (at 1 (beside p s) (near.1 (side_dir s)) i))
+
+  links_on_same : (p : Pos) (s : Side) → Near 2 p w v → links_on w p s ≡ links_on v p s
+  unfolding links_on
+  links_on_same p s near = λ i.
+      (if links_beside_same p s near i then beside p s ∷ [] else [])
+      ++ ((if links_up_same p s near i then over (beside p s) ∷ [] else [])
+      ++ (if links_down_same p s near i then under (beside p s) ∷ [] else []))
+
+  pub links_same : (p : Pos) → Near 2 p w v → links w p ≡ links v p
+  unfolding links
+  links_same p near = λ i.
+      if is_dust (at 2 p near i)
+      then links_on_same p side.East near i ++ (links_on_same p side.West near i
+      ++ (links_on_same p side.South near i ++ links_on_same p side.North near i))
+      else []
+
+  joins_same : (p : Pos) (s : Side) → Near 2 p w v → joins w p s ≡ joins v p s
+  unfolding joins
+  joins_same p s near = λ i.
+      links_beside_same p s near i || links_up_same p s near i || links_down_same p s near i
+      || is_joined s (at 1 (beside p s) (near.1 (side_dir s)) i)
+
+  points_same : (p : Pos) (s : Side) → Near 2 p w v → points w p s ≡ points v p s
+  unfolding points
+  points_same p s near = λ i.
+      joins_same p s near i
+      || not (joins_same p (side_right s) near i || joins_same p (side_back (side_right s)) near i)
+
+  is_driven_same : (p : Pos) → Near 1 p w v → is_driven w p ≡ is_driven v p
+  unfolding is_driven drives_from
+  is_driven_same p near = λ i. list_any (λ d. drives (at 0 (neighbor p d) (near.1 d) i) (opposite d)) all_dirs
+
+  is_strong_same : (p : Pos) → Near 1 p w v → is_strong w p ≡ is_strong v p
+  unfolding is_strong
+  is_strong_same p near = λ i. conducts (at 1 p near i) && is_driven_same p near i
+
+  feeds_from_same : (p : Pos) (d : Dir) → Near 2 p w v → feeds_from w p d ≡ feeds_from v p d
+  unfolding feeds_from
+  feeds_from_same p d near = λ i.
+      gives (at 1 (neighbor p d) (near.1 d) i) (opposite d) || is_strong_same (neighbor p d) (near.1 d) i
+
+  pub is_fed_same : (p : Pos) → Near 2 p w v → is_fed w p ≡ is_fed v p
+  unfolding is_fed has_feeder
+  is_fed_same p near = λ i. is_dust (at 2 p near i) && list_any (λ d. feeds_from_same p d near i) all_dirs
+
+  reaches_same : (n : Pos) (d : Dir) → Near 2 n w v → reaches w n d ≡ reaches v n d
+  reaches_same n East near = points_same n side.West near
+  reaches_same n West near = points_same n side.East near
+  reaches_same n Up near = refl
+  reaches_same n Down near = refl
+  reaches_same n South near = points_same n side.North near
+  reaches_same n North near = points_same n side.South near
+
+  module _ (a b : Pos → ℕ) where
+    level : (n : ℕ) (p : Pos) → Near n p a b → a p ≡ b p
+    level = here a b
+
+    dust_powers_same : (p : Pos) (d : Dir) → Near 3 p w v → Near 1 p a b → dust_powers w a p d ≡ dust_powers v b p d
+    unfolding dust_powers
+    dust_powers_same p d near levels = λ i.
+        is_dust (at 2 (neighbor p d) (near.1 d) i) && nat_lt 0 (level 0 (neighbor p d) (levels.1 d) i)
+        && reaches_same (neighbor p d) d (near.1 d) i
+
+    pub is_powered_same : (p : Pos) → Near 3 p w v → Near 1 p a b → is_powered w a p ≡ is_powered v b p
+    unfolding is_powered is_dust_powered
+    is_powered_same p near levels = λ i.
+        conducts (at 3 p near i)
+        && (is_driven_same p near.0.0 i || list_any (λ d. dust_powers_same p d near levels i) all_dirs)
+
+    pub activates_same : (p : Pos) (d : Dir) → Near 4 p w v → Near 2 p a b → activates w a p d ≡ activates v b p d
+    unfolding activates
+    activates_same p d near levels = λ i.
+        gives (at 3 (neighbor p d) (near.1 d) i) (opposite d)
+        || is_powered_same (neighbor p d) (near.1 d) (levels.1 d) i
+        || dust_powers_same p d near.0 levels.0 i
+
+    pub is_active_same : (front : Option Dir) (p : Pos) → Near 4 p w v → Near 2 p a b
+        → is_active w a front p ≡ is_active v b front p
+    unfolding is_active
+    is_active_same front p near levels = λ i.
+        list_any (λ d. not (is_front front d) && activates_same p d near levels i) all_dirs
+
+pub dust_sees : DustSees
+dust_sees w v p alike =
+    let near = near_from w v 2 p alike in (is_fed_same w v p near, links_same w v p near)
+
+pub power_sees : PowerSees
+power_sees w v a b p cells levels =
+    is_powered_same w v a b p (near_from w v 3 p cells) (near_from a b 1 p levels)
+
+pub activity_sees : ActivitySees
+activity_sees w v a b front p cells levels =
+    is_active_same w v a b front p (near_from w v 4 p cells) (near_from a b 2 p levels)

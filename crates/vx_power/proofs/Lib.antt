@@ -1,5 +1,7 @@
 pub mod Around
 pub mod Carried
+pub mod Feeders
+pub mod Feeding
 pub mod Having
 pub mod Linking
 pub mod Pointing

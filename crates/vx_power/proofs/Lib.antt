@@ -1,4 +1,10 @@
+pub mod Around
+pub mod Carried
+pub mod Feeders
+pub mod Feeding
+pub mod Having
 pub mod Linking
 pub mod Local
 pub mod Pointing
 pub mod Reach
+pub mod Rounds

@@ -2,6 +2,7 @@
 ghost use Rattle.std.specs.Prelude.{◌≡◌, ◌+◌, ◌*◌, ◌/◌, ◌<◌, ◌≤◌};
 ghost use Rattle.vx_block.specs.declared.cell.Cell.TheVariants.{Torch, Lever, Piston, Head};
 ghost use Rattle.vx_cells.specs.Codes.{code_count, is_odd, plain_at, side_at, mount_at, dir_at, delay_at, wait_at, repeater_at, lamp_at, cell_with_state, cell_of};
+ghost use Rattle.vx_cells.specs.SameCells.{same_cell};
 ghost use Rattle.vx_cells.specs.SectorCells.{is_chest};
 ghost use Rattle.vx_block.specs.States.{ticks_of};
 
@@ -225,6 +226,13 @@ pub fn encode(cell: Cell) -> u8
         } => piston_code(two(dir_code(facing), extended), sticky),
         Cell::Head { facing, sticky } => 153 + two(dir_code(facing), sticky),
     }
+}
+
+/// Whether both are one cell.
+pub fn is_same(a: &Cell, b: &Cell) -> bool
+    ensures { result ≡ same_cell a.now b.now }
+{
+    encode(*a) == encode(*b)
 }
 
 // A code and a bit, as one number.

@@ -9,6 +9,7 @@ mod laws;
 mod stack;
 
 pub use cells::Cells;
+pub use code::is_same;
 pub use frozen::Frozen;
 pub use laws::{equal_is_the_same, other_blocks_stay, set_block_is_read};
 pub use stack::{MAX_COUNT, SLOTS, Slot, Stack};

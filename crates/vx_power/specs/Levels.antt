@@ -1,5 +1,5 @@
 -- Levels of dust, as a table has them, near a sector.
-use Rattle.std.specs.Prelude.{◌≡◌, ℕ, ◌×◌, ◌+◌, ◌≤◌, Bool, true, ◌&&◌, List, pos, ◌-ℤ◌, int_le, int_lt, unwrap_or}
+use Rattle.std.specs.Prelude.{◌≡◌, ℕ, ◌+◌, ◌≤◌, Bool, true, ◌&&◌, List, pos, ◌-ℤ◌, int_le, int_lt, unwrap_or}
 use Rattle.std.specs.List.{list_any}
 use Rattle.std.specs.Map.{lookup}
 use Rattle.std.specs.Ordering.{int_eq}

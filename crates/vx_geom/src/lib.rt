@@ -13,7 +13,9 @@ mod shape_spec;
 pub use bad_shape::BadShape;
 pub use bounds::Bounds;
 pub use dir::Dir;
-pub use laws::{indices_are_places, indices_differ, order_is_derived, positions_are_ordered, sectors_divide};
+pub use laws::{
+    indices_are_places, indices_differ, order_is_derived, positions_are_ordered, sectors_divide,
+};
 pub use pos::Pos;
 pub use shape::Shape;
 pub use shape_spec::ShapeSpec;

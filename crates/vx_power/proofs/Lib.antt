@@ -1,6 +1,12 @@
+pub mod Around
+pub mod Carried
+pub mod Feeders
+pub mod Feeding
+pub mod Having
 pub mod Linking
 pub mod Pointing
 pub mod Reach
 pub mod Reaching
+pub mod Rounds
 pub mod Stepping
 pub mod Tables

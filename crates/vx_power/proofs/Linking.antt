@@ -41,7 +41,7 @@ if_among false y is = absurd (false≢true is)
 
 module _ (w : Pos → Cell) where
   -- how dust at p links to q on one side
-  pub Linked : Pos → Side → Pos → Type 0
+  unfoldable pub Linked : Pos → Side → Pos → Type 0
   Linked p side q =
       ((links_beside w p side ≡ true) × (beside p side ≡ q))
       ⊎ (((links_up w p side ≡ true) × (over (beside p side) ≡ q))

@@ -1,0 +1,70 @@
+-- Positions in a list, and in lists that are joined.
+use Rattle.std.proofs.Common.{◌≡◌, true, ◌&&◌, ◌||◌, List, [], ◌∷◌, ◌++◌, inl, inr, refl, sym, ap, ◌∙◌, subst}
+use Rattle.std.specs.Ordering.{int_eq}
+use Rattle.std.proofs.lemmas.Bool.{and_parts, and_from, or_cases, or_left, or_right, false≢true}
+use Rattle.std.proofs.lemmas.Bool.Decides.{Decides-int_eq}
+use Rattle.std.proofs.lemmas.List.Folds.{list_any-append}
+use Rattle.vx_geom.specs.declared.pos.Pos.{Pos}
+use Rattle.vx_geom.proofs.Positions.{same_pos}
+use Rattle.vx_power.specs.Levels.{same_place, has}
+use Rattle.vx_power.specs.Walks.{IsAmong}
+use Rattle.vx_power.proofs.Reach.{any_from, any_at}
+
+-- the test on places tells that they are one
+pub place_is : (a b : Pos) → same_place a b ≡ true → a ≡ b
+place_is a b same =
+    let parts = and_parts (int_eq a.y b.y) (int_eq a.z b.z && int_eq a.x b.x) same in
+    let rest = and_parts (int_eq a.z b.z) (int_eq a.x b.x) parts.1 in
+    same_pos a b ((Decides-int_eq a.y b.y).0 parts.0) ((Decides-int_eq a.z b.z).0 rest.0)
+    ((Decides-int_eq a.x b.x).0 rest.1)
+
+-- and a place is the same as itself
+pub own_place : (p : Pos) → same_place p p ≡ true
+own_place p =
+    and_from (int_eq p.y p.y) (int_eq p.z p.z && int_eq p.x p.x) ((Decides-int_eq p.y p.y).1 refl)
+    (and_from (int_eq p.z p.z) (int_eq p.x p.x) ((Decides-int_eq p.z p.z).1 refl)
+    ((Decides-int_eq p.x p.x).1 refl))
+
+-- the list has the positions that are among its elements
+pub has_at : (ps : List Pos) (p : Pos) → has ps p ≡ true → IsAmong ps p
+has_at ps p is =
+    let found = any_at (same_place p) ps is in
+    subst (IsAmong ps) (sym (place_is p found.0 found.2)) found.1
+
+-- and those alone
+pub has_from : (ps : List Pos) (p : Pos) → IsAmong ps p → has ps p ≡ true
+has_from ps p among = any_from (same_place p) ps p among (own_place p)
+
+-- two lists joined have what either has
+pub has_joined : (ps qs : List Pos) (p : Pos) → has (ps ++ qs) p ≡ (has ps p || has qs p)
+has_joined ps qs p = list_any-append (same_place p) ps qs
+
+-- all joins the lists that each gives for the elements of a list
+module _ {X : Type 0} (each : X → List Pos) (all : List X → List Pos)
+    (none : all [] ≡ [])
+    (more : (x : X) (xs : List X) → all (x ∷ xs) ≡ each x ++ all xs)
+  where
+    -- one list more
+    has_more : (x : X) (xs : List X) (p : Pos) → has (all (x ∷ xs)) p ≡ (has (each x) p || has (all xs) p)
+    has_more x xs p = ap (λ ps. has ps p) (more x xs) ∙ has_joined (each x) (all xs) p
+
+    -- what they have together, one of them has
+    pub all_at : (xs : List X) (p : Pos) → has (all xs) p ≡ true
+        → (x : X) × IsAmong xs x × (has (each x) p ≡ true)
+    all_at [] p is = absurd (false≢true (sym (ap (λ ps. has ps p) none) ∙ is))
+    all_at (x ∷ xs) p is =
+        elim (or_cases (has (each x) p) (has (all xs) p) (sym (has_more x xs p) ∙ is)) [
+          | inl here ↦ (x, inl refl, here)
+          | inr further ↦ let found = all_at xs p further in (found.0, inr found.1, found.2)
+        ]
+
+    -- what one of them has, they have together
+    pub all_from : (xs : List X) (p : Pos) (x : X) → IsAmong xs x → has (each x) p ≡ true
+        → has (all xs) p ≡ true
+    all_from [] p x among is = absurd among
+    all_from (y ∷ xs) p x (inl same) is =
+        has_more y xs p
+        ∙ or_left (has (each y) p) (has (all xs) p) (ap (λ z. has (each z) p) same ∙ is)
+    all_from (y ∷ xs) p x (inr among) is =
+        has_more y xs p
+        ∙ or_right (has (each y) p) (has (all xs) p) (all_from xs p x among is)

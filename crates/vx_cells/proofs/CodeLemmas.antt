@@ -1,5 +1,5 @@
 -- Each code below 165 is of another cell.
-use Rattle.std.proofs.Common.{◌≡◌, ℕ, ◌+◌, ◌-◌, ◌*◌, ◌/◌, ◌<◌, Bool, true, false, cond, nat_eq, get_or, refl, sym, ap, ◌∙◌, arith, true≢false, nat_lt, ◌≤◌, if◌then◌else◌}
+use Rattle.std.proofs.Common.{◌≡◌, ℕ, ◌+◌, ◌-◌, ◌*◌, ◌/◌, ◌<◌, Bool, true, false, cond, nat_eq, get_or, refl, sym, ap, ◌∙◌, arith, true≢false, nat_lt, nat_le, ◌&&◌, ◌≤◌, if◌then◌else◌}
 use Rattle.std.proofs.lemmas.Bool.{eqb-true}
 use Rattle.std.proofs.lemmas.List.FromFn.{get_or-range_with_len, length-range_with_len}
 use Rattle.std.proofs.lemmas.List.Folds.{list_all_at}
@@ -18,6 +18,7 @@ use Rattle.vx_block.specs.declared.cell.Cell.{Cell}
 use Rattle.vx_block.specs.declared.cell.Cell.TheVariants as cell
 use Rattle.std.specs.Cmp.{booleans_Decides}
 use Rattle.std.specs.Bool.{beq}
+use Rattle.vx_block.specs.Components.{is_dust, is_device}
 use Rattle.vx_cells.specs.SectorCells.{is_chest}
 use Rattle.vx_cells.specs.Codes.{code_count, is_odd, dir_at, lamp_at, repeater_at, cell_with_state, cell_of}
 
@@ -154,3 +155,27 @@ each_told = refl
 pub chest_code : (n : ℕ) → n < code_count → is_chest (cell_of n) ≡ nat_eq n 7
 unfolding told
 chest_code n small = (booleans_Decides _ _).0 (passes told each_told n small)
+
+told_dust : ℕ → Bool
+told_dust n = beq (is_dust (cell_of n)) (nat_le 8 n && nat_lt n 24)
+
+each_dust : list_all told_dust (range_with_len 0 code_count) ≡ true
+unfolding cell_of cell_with_state told_dust
+each_dust = refl
+
+-- 8 to 23 are the codes of dust
+pub dust_code : (n : ℕ) → n < code_count → is_dust (cell_of n) ≡ (nat_le 8 n && nat_lt n 24)
+unfolding told_dust
+dust_code n small = (booleans_Decides _ _).0 (passes told_dust each_dust n small)
+
+told_device : ℕ → Bool
+told_device n = beq (is_device (cell_of n)) (nat_le 24 n && nat_lt n 153)
+
+each_device : list_all told_device (range_with_len 0 code_count) ≡ true
+unfolding cell_of cell_with_state told_device
+each_device = refl
+
+-- 24 to 152 are the codes of devices
+pub device_code : (n : ℕ) → n < code_count → is_device (cell_of n) ≡ (nat_le 24 n && nat_lt n 153)
+unfolding told_device
+device_code n small = (booleans_Decides _ _).0 (passes told_device each_device n small)

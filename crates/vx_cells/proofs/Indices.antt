@@ -1,13 +1,11 @@
 -- Positions that a sector holds, and the indices of their cells.
-use Rattle.std.proofs.Common.{◌≡◌, ℕ, ◌+◌, ◌*◌, ◌%◌, ◌<◌, Bool, true, false, Option, Some, None, nat_eq, if◌then◌else◌, unsigned_abs, refl, ap, sym, subst, arith}
+use Rattle.std.proofs.Common.{◌≡◌, ℕ, ◌<◌, Bool, true, false, Option, Some, None, nat_eq, if◌then◌else◌, refl, ap, sym}
 use Rattle.std.specs.Option.{option_map_or}
 use Rattle.std.proofs.lemmas.Bool.{eqb-true}
 use Rattle.vx_geom.specs.declared.pos.Pos.{Pos}
-use Rattle.vx_geom.specs.Sizes.{Sizes, AreSizes, span, height, sector_cells, is_inside, sector_number, sector_of, index_in_sector}
-use Rattle.vx_geom.proofs.Divisions.{number_below}
+use Rattle.vx_geom.specs.Sizes.{Sizes, AreSizes, sector_cells, is_inside, sector_number, sector_of, index_in_sector}
+use Rattle.vx_geom.proofs.Places as places
 use Rattle.vx_geom.proofs.SectorLemmas as geom
-use Rattle.std.proofs.lemmas.Nat.{mod_below}
-use Rattle.std.proofs.Common.{mul_assoc}
 use Rattle.vx_cells.specs.SectorCells.{SectorCells, holds}
 
 is_some_at : (n : ℕ) (o : Option ℕ) → option_map_or (nat_eq n) o false ≡ true → o ≡ Some n
@@ -33,13 +31,4 @@ inside_from_holds c p h = inside_at c.bounds p c.sector (sector_at c p h)
 
 -- every position of a sector has an index among its cells
 pub index_below : (v : Sizes) (p : Pos) → AreSizes v → is_inside v p ≡ true → index_in_sector v p < sector_cells v
-unfolding index_in_sector
-index_below v p sizes inside =
-    let wide : 0 < span v = omega (arith, sizes.s_least) in
-    let at = geom.inside_at v p inside in
-    let row = number_below (span v) height (unsigned_abs p.z % span v) (unsigned_abs p.y) (mod_below _ (span v) wide) at.y_below in
-    let below = number_below (span v) (span v * height) (unsigned_abs p.x % span v) (unsigned_abs p.z % span v + span v * unsigned_abs p.y) (mod_below _ (span v) wide) row in
-    subst (λ n. index v p < n) (sym (mul_assoc (span v) (span v) height)) below
-  where
-    index : Sizes → Pos → ℕ
-    index v p = unsigned_abs p.x % span v + span v * (unsigned_abs p.z % span v + span v * unsigned_abs p.y)
+index_below v p sizes inside = places.index_below v p sizes (geom.inside_at v p inside)

@@ -1,7 +1,11 @@
 pub mod CellLaws
 pub mod CodeLemmas
 pub mod Indices
+pub mod Listing
 pub mod MapLemmas
+pub mod Marking
 pub mod Stacks
 pub mod StoredBlocks
 pub mod StoredCells
+pub mod StoredMarks
+pub mod WordBits

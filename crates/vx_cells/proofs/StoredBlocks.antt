@@ -71,7 +71,8 @@ unfolding cell_of
 blocks-fresh index zero = refl
 blocks-fresh index (suc n) = ap (λ bs. placed Air ∷ bs) (blocks-fresh (index + 1) n)
 
-zero_at : (n k z : ℕ) → get_or (replicate n z) k z ≡ z
+-- what a list of one number has at an index
+pub zero_at : (n k z : ℕ) → get_or (replicate n z) k z ≡ z
 zero_at zero k z = refl
 zero_at (suc n) zero z = refl
 zero_at (suc n) (suc k) z = zero_at n k z

@@ -1,11 +1,13 @@
 -- The components of machines in a sector, in order.
-use Rattle.std.specs.Prelude.{ℕ, List}
+use Rattle.std.specs.Prelude.{ℕ, Bool, ◌&&◌, ◌||◌, List, slice_index_or}
 use Rattle.std.specs.List.{filter}
-use Rattle.vx_block.specs.Components.{is_device, is_component}
+use Rattle.vx_block.specs.declared.cell.Cell.{Cell}
+use Rattle.vx_block.specs.declared.cell.Cell.TheVariants.{Air}
+use Rattle.vx_block.specs.Components.{is_dust, is_device, is_component}
 use Rattle.vx_geom.specs.declared.pos.Pos.{Pos}
 use Rattle.vx_geom.specs.Places.{positions}
 use Rattle.vx_cells.specs.Maps.{MapData, cell_on}
-use Rattle.vx_cells.specs.SectorCells.{SectorCells, cell_at}
+use Rattle.vx_cells.specs.SectorCells.{SectorCells, placed, cell_at}
 
 -- the positions of a sector where a component stands
 unfoldable pub components_of : SectorCells → List Pos
@@ -15,7 +17,21 @@ components_of c = filter (λ p. is_component (cell_at c p)) (positions c.bounds 
 unfoldable pub devices_of : SectorCells → List Pos
 devices_of c = filter (λ p. is_device (cell_at c p)) (positions c.bounds c.sector)
 
--- the same of a sector of a map
+-- a cell is asked for: it is a device, or dust where dust is asked for too
+abbrev pub is_listed : Bool → Cell → Bool
+is_listed with_dust c = (with_dust && is_dust c) || is_device c
+
+-- what stands at an index of a sector is asked for
+abbrev pub is_listed_at : Bool → SectorCells → ℕ → Bool
+is_listed_at with_dust c index =
+    is_listed with_dust (slice_index_or c.blocks index (placed Air)).cell
+
+-- the positions of a sector where what is asked for stands
+abbrev pub listed_of : Bool → SectorCells → List Pos
+listed_of with_dust c =
+    filter (λ p. is_listed with_dust (cell_at c p)) (positions c.bounds c.sector)
+
+-- where a component stands in a sector of a map, and where a device does
 unfoldable pub components_on : MapData → ℕ → List Pos
 components_on m k = filter (λ p. is_component (cell_on m p)) (positions m.sizes k)
 

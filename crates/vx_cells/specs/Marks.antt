@@ -1,10 +1,14 @@
 -- Marks on the indices of a sector, a bit for each, in words of 64.
-use Rattle.std.specs.Prelude.{◌≡◌, ℕ, ◌*◌, ◌/◌, ◌%◌, ◌<◌, ◌≤◌, Bool, true, false, nat_eq, List, length, slice_index_or, Option, Some, None}
+use Rattle.std.specs.Prelude.{◌≡◌, ℕ, ◌*◌, ◌/◌, ◌%◌, ◌<◌, ◌≤◌, min, Bool, true, false, nat_eq, nat_lt, List, length, slice_index_or, Option, Some, None}
 use Rattle.std.specs.Int.{bit_at}
+
+-- the bit of a word is set
+abbrev pub is_set : ℕ → ℕ → Bool
+is_set word bit = nat_eq (bit_at word bit) 1
 
 -- the index is marked: its bit is set in its word
 unfoldable pub is_marked : List ℕ → ℕ → Bool
-is_marked words index = nat_eq (bit_at (slice_index_or words (index / 64) 0) (index % 64)) 1
+is_marked words index = is_set (slice_index_or words (index / 64) 0) (index % 64)
 
 -- none of these indices is marked, from one up to below another
 abbrev pub AreUnmarked : List ℕ → ℕ → ℕ → Type 0
@@ -16,3 +20,21 @@ IsFirstMarked words from None = AreUnmarked words from (64 * length words)
 IsFirstMarked words from (Some index) =
     (from ≤ index) × (index < 64 * length words) × (is_marked words index ≡ true)
     × AreUnmarked words from index
+
+-- the first of the indices from one up to below another that passes a test, if any does
+abbrev pub IsFirst : (ℕ → Bool) → ℕ → ℕ → Option ℕ → Type 0
+IsFirst test to from None = (index : ℕ) → from ≤ index → index < to → test index ≡ false
+IsFirst test to from (Some index) =
+    (from ≤ index) × (index < to) × (test index ≡ true)
+    × ((other : ℕ) → from ≤ other → other < index → test other ≡ false)
+
+-- the lesser of two numbers, where there are any
+abbrev pub lesser : Option ℕ → Option ℕ → Option ℕ
+lesser None b = b
+lesser (Some a) None = Some a
+lesser (Some a) (Some b) = Some (min a b)
+
+-- which words have a mark, one mark for each of them
+pub record AreFilled (words filled : List ℕ) : Type 0 where
+  pub room : length words ≤ 64 * length filled
+  pub each : (k : ℕ) → is_marked filled k ≡ nat_lt 0 (slice_index_or words k 0)

@@ -1,8 +1,12 @@
--- How a sector is stored: a byte for each cell, and the slots of the chests by their indices.
-use Rattle.std.specs.Prelude.{◌≡◌, ℕ, ◌+◌, ◌<◌, true, false, List, [], ◌∷◌, length, slice_index_or, All, Option, Some, None, unwrap_or}
-use Rattle.vx_geom.specs.Sizes.{Sizes, sector_cells}
+-- How a sector is stored: a byte for each cell, the slots of the chests by their indices, and marks
+-- where components stand.
+use Rattle.std.specs.Prelude.{◌≡◌, ℕ, ◌+◌, ◌*◌, ◌<◌, Bool, true, false, List, [], ◌∷◌, length, slice_index_or, All, Option, Some, None, unwrap_or}
+use Rattle.vx_block.specs.declared.cell.Cell.{Cell}
+use Rattle.vx_block.specs.Components.{is_dust, is_device}
+use Rattle.vx_geom.specs.Sizes.{Sizes, sector_count, sector_cells}
 use Rattle.vx_cells.specs.Chests.{Slots, ChestData, slots_of_chest}
 use Rattle.vx_cells.specs.Codes.{code_count, cell_of}
+use Rattle.vx_cells.specs.Marks.{is_marked}
 use Rattle.vx_cells.specs.SectorCells.{Block, SectorCells, is_chest, IsSlot}
 
 -- the block of a byte, with the slots that stand at its index
@@ -37,3 +41,17 @@ pub record IsStored (bounds : Sizes) (store : List ℕ) (slots : ChestData) : Ty
   pub whole : length store ≡ sector_cells bounds
   pub codes : All (λ code. code < code_count) store
   pub chests : (index : ℕ) → IsBeside (slice_index_or store index 0) (slots_of_chest slots index)
+
+-- marked are exactly the indices whose cell passes a test
+pub record AreMarks (test : Cell → Bool) (store marks : List ℕ) : Type 0 where
+  pub long : 64 * length marks ≡ length store
+  pub each : (index : ℕ)
+      → is_marked marks index ≡ test (cell_of (slice_index_or store index 0))
+
+-- a sector of a world is stored, with marks where dust stands and where devices do
+pub record IsKept (bounds : Sizes) (sector : ℕ) (store : List ℕ) (slots : ChestData)
+    (dust_marks device_marks : List ℕ) : Type 0 where
+  pub sector_low : sector < sector_count bounds
+  pub stored : IsStored bounds store slots
+  pub dust : AreMarks is_dust store dust_marks
+  pub devices : AreMarks is_device store device_marks

@@ -1,9 +1,12 @@
 ghost use Rattle.std.specs.Prelude.{◌≡◌, ◌<◌, ◌↔◌, true, false, IsTrue, IfOk, OnOk, OnErr, IfSome, IsOk};
 ghost use Rattle.std.specs.List.{All};
-ghost use Rattle.vx_geom.specs.Sizes.{sector_count};
+ghost use Rattle.vx_geom.specs.Sizes.{sector_count, sector_cells};
+ghost use Rattle.vx_cells.specs.Listed.{components_of, devices_of, listed_of, is_listed_at};
+ghost use Rattle.vx_cells.specs.Marks.{IsFirst, lesser};
 
 use crate::chests::Chests;
-use crate::code::{AIR, decode, encode, is_chest};
+use crate::code::{AIR, decode, encode, is_chest, is_device, is_dust};
+use crate::marks::Marks;
 use crate::stack::{SLOTS, Slot};
 use std::alloc::{AllocError, Global};
 use std::marker::Model;
@@ -11,40 +14,48 @@ use vx_block::Cell;
 use vx_geom::{Bounds, Pos};
 
 /// What stands in one sector of the world: a cell at each position, and the slots of each chest.
-// The cells are a byte each, in one block of memory; the chests stand beside it, by their indices.
+// The cells are a byte each, in one block of memory; the chests stand beside it, by their indices,
+// and marks where dust and devices stand.
 #[derive(Drop)]
 pub struct Cells {
     bounds: Bounds,
     sector: u32,
     store: Vec<u8>,
     chests: Chests,
+    dust: Marks,
+    devices: Marks,
 }
 
 impl Model for Cells {
     ghost use Rattle.vx_cells.specs.SectorCells.{SectorCells};
-    ghost use Rattle.vx_cells.specs.Stored.{stored, IsStored};
+    ghost use Rattle.vx_cells.specs.Stored.{stored, IsKept};
 
     ghost Value = { SectorCells };
 
     ghost view = { λ a. stored a.bounds a.sector a.store.items a.chests };
 
-    ghost invariant = { λ a. IsStored a.bounds a.store.items a.chests };
+    ghost invariant = { λ a. IsKept a.bounds a.sector a.store.items a.chests a.dust a.devices };
 }
 
 impl Cells {
     ghost use Rattle.vx_cells.specs.SectorCells.{holds, only_air, cell_at, chest_at, is_chest, with_cell, with_slot, IsWhole, IsSlot};
 
-    /// The sector of that number, with nothing but air. It takes 16,384 or 65,536 bytes.
+    /// The sector of that number, with nothing but air. It takes 16,384 or 65,536 bytes, and a
+    /// quarter of that for marks.
     pub fn new(alloc: Global, bounds: Bounds, sector: u32) -> Result<Cells, AllocError>
         requires { sector < sector_count bounds }
         ensures { IfOk result (λ cells. cells ≡ only_air bounds sector) }
     {
         let store = vec![in alloc; AIR; bounds.sector_cells() as usize]?;
+        let dust = Marks::new(alloc, bounds.sector_cells())?;
+        let devices = Marks::new(alloc, bounds.sector_cells())?;
         Ok(Cells {
             bounds,
             sector,
             store,
             chests: Chests::new(alloc),
+            dust,
+            devices,
         })
     }
 
@@ -102,6 +113,8 @@ impl Cells {
         let code = encode(cell);
         self.chests.replace(index, is_chest(was), is_chest(code))?;
         self.store[index as usize] = code;
+        self.dust.set(index, is_dust(code));
+        self.devices.set(index, is_device(code));
         Ok(())
     }
 
@@ -136,7 +149,65 @@ impl Cells {
             sector: self.sector,
             store: Vec::from_slice(*self.store.allocator(), &self.store)?,
             chests: self.chests.try_clone()?,
+            dust: self.dust.try_clone()?,
+            devices: self.devices.try_clone()?,
         })
+    }
+
+    /// The positions where a component of machines stands, in order. It costs what stands there.
+    #[tactic(auto, unfolding(crate::specs::Listed::components_of))]
+    pub fn components(&self, alloc: Global) -> Result<Vec<Pos>, AllocError>
+        ensures { IfOk result (λ found. found.items ≡ components_of self.now) }
+    {
+        self.listed(alloc, true)
+    }
+
+    /// The positions where a device stands, in order. It costs what stands there.
+    #[tactic(auto, unfolding(crate::specs::Listed::devices_of))]
+    pub fn devices(&self, alloc: Global) -> Result<Vec<Pos>, AllocError>
+        ensures { IfOk result (λ found. found.items ≡ devices_of self.now) }
+    {
+        self.listed(alloc, false)
+    }
+
+    // The positions of devices, and of dust where that is asked for too, in order.
+    fn listed(&self, alloc: Global, with_dust: bool) -> Result<Vec<Pos>, AllocError>
+        ensures { IfOk result (λ found. found.items ≡ listed_of with_dust self.now) }
+    {
+        self.bounds.soundness();
+        let mut found = Vec::new(alloc);
+        let mut from = 0;
+        while let Some(index) = self.next_listed(with_dust, from) {
+            let Ok(()) = found.push(self.bounds.position_in_sector(self.sector, index)) else {
+                return Err(AllocError);
+            };
+            from = index + 1;
+        }
+        Ok(found)
+    }
+
+    // The first index from one on of a device, or of dust where that is asked for too.
+    fn next_listed(&self, with_dust: bool, from: u32) -> Option<u32>
+        ensures { IsFirst (is_listed_at with_dust self.now) (sector_cells self.now.bounds) from
+            result }
+    {
+        let device = self.devices.first_from(from);
+        if with_dust {
+            lesser(self.dust.first_from(from), device)
+        } else {
+            device
+        }
+    }
+}
+
+// The lesser of two indices, where there are any.
+fn lesser(a: Option<u32>, b: Option<u32>) -> Option<u32>
+    ensures { result ≡ lesser a b }
+{
+    match (a, b) {
+        (Some(a), Some(b)) => Some(a.min(b)),
+        (Some(a), None) => Some(a),
+        (None, b) => b,
     }
 }
 

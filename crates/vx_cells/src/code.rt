@@ -1,5 +1,6 @@
 //! The bytes that stand for cells: each of the 165 cells has one, below 165.
 ghost use Rattle.std.specs.Prelude.{◌≡◌, ◌+◌, ◌*◌, ◌/◌, ◌<◌, ◌≤◌};
+ghost use Rattle.vx_block.specs.Components.{is_dust, is_device};
 ghost use Rattle.vx_block.specs.declared.cell.Cell.TheVariants.{Torch, Lever, Piston, Head};
 ghost use Rattle.vx_cells.specs.Codes.{code_count, is_odd, plain_at, side_at, mount_at, dir_at, delay_at, wait_at, repeater_at, lamp_at, cell_with_state, cell_of};
 ghost use Rattle.vx_cells.specs.SectorCells.{is_chest};
@@ -30,6 +31,24 @@ pub fn is_chest(code: u8) -> bool
     ensures { result ≡ is_chest (cell_of code) }
 {
     code == 7
+}
+
+/// Whether that byte is dust's.
+#[tactic(auto, using(crate::proofs::CodeLemmas::dust_code))]
+pub fn is_dust(code: u8) -> bool
+    requires { code < code_count }
+    ensures { result ≡ is_dust (cell_of code) }
+{
+    8 <= code && code < 24
+}
+
+/// Whether that byte is a device's: a torch's, a lever's, a repeater's, a lamp's or a piston's.
+#[tactic(auto, using(crate::proofs::CodeLemmas::device_code))]
+pub fn is_device(code: u8) -> bool
+    requires { code < code_count }
+    ensures { result ≡ is_device (cell_of code) }
+{
+    24 <= code && code < 153
 }
 
 fn plain(code: u8) -> Cell

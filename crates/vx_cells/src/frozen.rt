@@ -145,7 +145,7 @@ impl<'a> Frozen<'a> {
         requires { sector < sector_count self.now.sizes }
         ensures { IfOk result (λ found. found.items ≡ components_on self.now sector) }
     {
-        Err(AllocError)
+        self.sectors[sector as usize].components(alloc)
     }
 
     /// The positions of a sector where a device stands, in order. It costs what stands there.
@@ -153,7 +153,7 @@ impl<'a> Frozen<'a> {
         requires { sector < sector_count self.now.sizes }
         ensures { IfOk result (λ found. found.items ≡ devices_on self.now sector) }
     {
-        Err(AllocError)
+        self.sectors[sector as usize].devices(alloc)
     }
 
     // The position with these coordinates, where the world has one.

@@ -1,11 +1,13 @@
 //! The cells of one sector of the world, and the chests in it.
 #![tactic(auto)]
 
+mod bits;
 mod cells;
 mod chests;
 mod code;
 mod frozen;
 mod laws;
+mod marks;
 mod stack;
 
 pub use cells::Cells;

@@ -10,4 +10,4 @@ pub returns-clause-slots : goal.returns-clause-slots
 returns-clause-slots c =
     let s = c.self.inside in
     let within = c.index_in_sector.ensures.within in
-    rw (← c.self.view_is) (c.get.ensures ∙ chest-stored s.bounds s.sector s.store.items s.chests c.self.invariant c.args.p _ c.index_in_sector.ensures.value within)
+    rw (← c.self.view_is) (c.get.ensures ∙ chest-stored s.bounds s.sector s.store.items s.chests c.self.invariant.stored c.args.p _ c.index_in_sector.ensures.value within)

@@ -12,5 +12,5 @@ pub returns : goal.returns
 returns c =
     let s = c.self.inside in
     let within = c.index_in_sector.ensures.within in
-    let read = get_or_read s.store.items _ _ (omega (arith, within, c.self.invariant.whole)) c.index.ensures 0 in
-    rw (← c.self.view_is) (c.decode.ensures ∙ ap cell_of read ∙ cell-stored s.bounds s.sector s.store.items s.chests c.self.invariant c.args.p _ c.index_in_sector.ensures.value within)
+    let read = get_or_read s.store.items _ _ (omega (arith, within, c.self.invariant.stored.whole)) c.index.ensures 0 in
+    rw (← c.self.view_is) (c.decode.ensures ∙ ap cell_of read ∙ cell-stored s.bounds s.sector s.store.items s.chests c.self.invariant.stored c.args.p _ c.index_in_sector.ensures.value within)

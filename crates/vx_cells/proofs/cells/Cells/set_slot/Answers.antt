@@ -10,11 +10,11 @@ set-requires-clause-there c =
     let s = c.self.inside in
     let within = c.index_in_sector-index.ensures.within in
     let chest = rw (← c.self.view_is) at c.requires.chest in
-    chest-there s.bounds s.sector s.store.items s.chests c.self.invariant c.args.p _ c.index_in_sector-index.ensures.value within chest
+    chest-there s.bounds s.sector s.store.items s.chests c.self.invariant.stored c.args.p _ c.index_in_sector-index.ensures.value within chest
 
 pub returns : goal.returns
 returns c =
     let s = c.self.inside in
     let within = c.index_in_sector-index.ensures.within in
-    rw (← c.self.view_is) (refilled-stored s.bounds s.sector s.store.items s.chests c.self.invariant c.args.p _ c.index_in_sector-index.ensures.value within
+    rw (← c.self.view_is) (refilled-stored s.bounds s.sector s.store.items s.chests c.self.invariant.stored c.args.p _ c.index_in_sector-index.ensures.value within
     _ c.args.slot c.args.content c.set.ensures)

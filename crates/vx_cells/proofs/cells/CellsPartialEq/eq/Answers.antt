@@ -23,7 +23,7 @@ returns-then-eq c =
     let sizes = same-sizes s.bounds o.bounds c.if-ne.ensures in
     let codes = (slice_eq-Decides Decides-eqb s.store.items o.store.items c.eq.result c.eq.ensures).0 c.if-eq.true in
     rw (← c.self.view_is) (rw (← c.other.view_is) (same_from_decides _ _
-    (same-stored s.bounds o.bounds s.sector o.sector s.store.items o.store.items s.chests o.chests c.same.result c.self.invariant c.other.invariant sizes c.if-self-other.false codes c.same.ensures)
+    (same-stored s.bounds o.bounds s.sector o.sector s.store.items o.store.items s.chests o.chests c.same.result c.self.invariant.stored c.other.invariant.stored sizes c.if-self-other.false codes c.same.ensures)
     (cells_decided _ _)))
 
 pub returns-else-eq : goal.returns-else-eq
@@ -33,5 +33,5 @@ returns-else-eq c =
     let decides = slice_eq-Decides Decides-eqb s.store.items o.store.items c.eq.result c.eq.ensures in
     rw (← c.self.view_is) (rw (← c.other.view_is) (same_from_decides _ _ (
       λ e. absurd (true≢false (sym e ∙ c.if-eq.false)),
-      λ same. decides.1 (same-codes s.bounds o.bounds s.store.items o.store.items s.chests o.chests c.self.invariant c.other.invariant (ap (λ v. v.blocks) same)),
+      λ same. decides.1 (same-codes s.bounds o.bounds s.store.items o.store.items s.chests o.chests c.self.invariant.stored c.other.invariant.stored (ap (λ v. v.blocks) same)),
     ) (cells_decided _ _)))

@@ -1,0 +1,109 @@
+-- Marks and the words that have any.
+use Rattle.std.proofs.Common.{◌≡◌, ℕ, ◌+◌, ◌*◌, ◌/◌, ◌%◌, ◌<◌, ◌≤◌, Bool, true, false, ◌||◌, min, List, length, get_or, replicate, Option, Some, None, nat_lt, inl, inr, ap, sym, ◌∙◌, arith}
+use Rattle.std.proofs.lemmas.Bool.{cases_lt, ltb-true, ltb-false, or_from, or_left, or_right}
+use Rattle.std.proofs.lemmas.List.{length-replicate, get_or_past}
+use Rattle.vx_cells.specs.Marks.{is_set, is_marked, IsFirst, IsFirstMarked, AreFilled, lesser}
+use Rattle.vx_cells.proofs.StoredBlocks.{zero_at}
+use Rattle.vx_cells.proofs.WordBits.{unset}
+
+-- an index of a word that is 0 is not marked
+unmarked : (words : List ℕ) (i : ℕ) → get_or words (i / 64) 0 ≡ 0 → is_marked words i ≡ false
+unfolding is_marked
+unmarked words i empty = ap (λ w. is_set w (i % 64)) empty ∙ unset (i % 64)
+
+-- where all words are 0 nothing is marked
+pub none_marked : (n i : ℕ) → is_marked (replicate n 0) i ≡ false
+none_marked n i = unmarked (replicate n 0) i (zero_at n (i / 64) 0)
+
+-- and no word has a mark
+pub none_filled : (n m : ℕ) → n ≤ 64 * m → AreFilled (replicate n 0) (replicate m 0)
+none_filled n m room = record {
+  room = omega (arith, length-replicate {A = ℕ} n 0, length-replicate {A = ℕ} m 0);
+  each = λ k. none_marked m k ∙ ap (λ w. nat_lt 0 w) (sym (zero_at n k 0));
+}
+
+-- a word that is marked as filled is there, and is not 0
+pub word_filled : (words filled : List ℕ) (k : ℕ) → AreFilled words filled → is_marked filled k ≡ true
+    → (k < length words) × (0 < get_or words k 0)
+word_filled words filled k held marked =
+    let some : 0 < get_or words k 0 = ltb-true 0 _ (sym (held.each k) ∙ marked) in (
+      elim (cases_lt k (length words)) [
+        | inl near ↦ near
+        | inr past ↦ absurd (omega (arith, get_or_past words k 0 past))
+      ],
+      some,
+    )
+
+-- no index is marked whose word is not marked as filled
+not_filled : (words filled : List ℕ) (i : ℕ) → AreFilled words filled → is_marked filled (i / 64) ≡ false → is_marked words i ≡ false
+not_filled words filled i held none =
+    let empty : get_or words (i / 64) 0 ≡ 0 = omega (arith, ltb-false 0 _ (sym (held.each (i / 64)) ∙ none)) in
+    unmarked words i empty
+
+module _ (words filled : List ℕ) (from : ℕ) (held : AreFilled words filled)
+    (none : IsFirst (is_marked words) (64 * (from / 64 + 1)) from None) where
+  -- nothing is marked from one index on, where nothing is in its word, and no later word is filled
+  pub none_later : IsFirstMarked filled (from / 64 + 1) None → IsFirstMarked words from None
+  none_later empty i low high = elim (cases_lt i (64 * (from / 64 + 1))) [
+    | inl near ↦ none i low near
+    | inr far ↦ not_filled words filled i held (empty (i / 64) (omega arith) (omega (arith, held.room)))
+  ]
+
+  -- else the first one is the first of the first filled word
+  pub first_later : (k index : ℕ) → IsFirstMarked filled (from / 64 + 1) (Some k)
+      → IsFirst (is_marked words) (64 * (k + 1)) (64 * k) (Some index) → IsFirstMarked words from (Some index)
+  first_later k index word first =
+      let there = word_filled words filled k held word.2 in (
+        omega (arith, word.0, first.0),
+        omega (arith, there.0, first.1),
+        first.2,
+        λ i low high. elim (cases_lt i (64 * (from / 64 + 1))) [
+          | inl near ↦ none i low near
+          | inr far ↦ elim (cases_lt i (64 * k)) [
+            | inl before ↦ not_filled words filled i held (word.3 (i / 64) (omega arith) (omega arith))
+            | inr within ↦ first.3 i within high
+          ]
+        ],
+      )
+
+-- the first of a word, where that word is there, is the first of all
+pub first_near : (words : List ℕ) (from index : ℕ) → from < 64 * length words
+    → IsFirst (is_marked words) (64 * (from / 64 + 1)) from (Some index) → IsFirstMarked words from (Some index)
+first_near words from index near first = (first.0, omega (arith, first.1), first.2, first.3)
+
+-- a first marked index, as the first that passes a test
+pub as_first : (words : List ℕ) (from : ℕ) (found : Option ℕ) → IsFirstMarked words from found
+    → IsFirst (is_marked words) (64 * length words) from found
+as_first words from None first = first
+as_first words from (Some index) first = first
+
+-- the first that passes one of two tests is the lesser of the two first
+pub first_of_two : (f g : ℕ → Bool) (to from : ℕ) (a b : Option ℕ) → IsFirst f to from a → IsFirst g to from b
+    → IsFirst (λ i. f i || g i) to from (lesser a b)
+first_of_two f g to from None None first second =
+    λ i low high. or_from (f i) (g i) (first i low high) (second i low high)
+first_of_two f g to from None (Some b) first second = (
+  second.0,
+  second.1,
+  or_right (f b) (g b) second.2,
+  λ i low high. or_from (f i) (g i) (first i low (omega (arith, second.1))) (second.3 i low high),
+)
+first_of_two f g to from (Some a) None first second = (
+  first.0,
+  first.1,
+  or_left (f a) (g a) first.2,
+  λ i low high. or_from (f i) (g i) (first.3 i low high) (second i low (omega (arith, first.1))),
+)
+first_of_two f g to from (Some a) (Some b) first second = (
+  omega (arith, first.0, second.0),
+  omega (arith, first.1, second.1),
+  elim (cases_lt a b) [
+    | inl less ↦
+        let is : min a b ≡ a = omega arith in
+        ap (λ i. f i || g i) is ∙ or_left (f a) (g a) first.2
+    | inr not_less ↦
+        let is : min a b ≡ b = omega arith in
+        ap (λ i. f i || g i) is ∙ or_right (f b) (g b) second.2
+  ],
+  λ i low high. or_from (f i) (g i) (first.3 i low (omega arith)) (second.3 i low (omega arith)),
+)

@@ -1,0 +1,15 @@
+use Rattle.std.proofs.Common.{ℕ, ◌/◌, arith}
+use Rattle.std.proofs.lemmas.List.{length-replicate}
+use Rattle.vx_cells.proofs.Marking.{none_marked, none_filled}
+use Rattle.vx_cells.proofs.marks.Marks.new.Goals as goal
+
+pub invariant_of-result : goal.invariant_of-result
+invariant_of-result c =
+    rw (c.in_ok-new.ensures, c.in_ok-new-2.ensures)
+    (none_filled (c.args.count / 64) c.div_ceil.result (omega (arith, c.div_ceil.ensures)))
+
+pub returns : goal.returns
+returns c = rw c.in_ok-new.ensures (
+  omega (arith, length-replicate {A = ℕ} (c.args.count / 64) 0, c.requires),
+  none_marked (c.args.count / 64),
+)

@@ -1,0 +1,77 @@
+ghost use Rattle.std.specs.Prelude.{◌≡◌, ◌*◌, ◌%◌, ◌<◌, ℕ, false, nat_eq, length, if◌then◌else◌, IfOk};
+ghost use Rattle.vx_cells.specs.Marks.{is_marked, IsFirstMarked};
+
+use crate::bits::Bits;
+use std::alloc::{AllocError, Global};
+use std::marker::Model;
+
+/// Which indices of a sector are marked. The marked ones are found in order, and what is not marked
+/// is passed 4,096 indices at a time.
+// The second level has a bit for each word of the first that has any.
+#[derive(Drop)]
+pub struct Marks {
+    bits: Bits,
+    filled: Bits,
+}
+
+impl Model for Marks {
+    ghost use Rattle.std.specs.Prelude.{ℕ, List};
+    ghost use Rattle.vx_cells.specs.Marks.{AreFilled};
+
+    ghost Value = { List ℕ };
+
+    ghost view = { λ m. m.bits };
+
+    ghost invariant = { λ m. AreFilled m.bits m.filled };
+}
+
+impl Marks {
+    /// Room for so many indices, none of which is marked.
+    pub fn new(alloc: Global, count: u32) -> Result<Marks, AllocError>
+        requires { count % 64 ≡ 0 }
+        ensures { IfOk result (λ marks. (64 * length marks ≡ count)
+            × ((i : ℕ) → is_marked marks i ≡ false)) }
+    {
+        let words = count / 64;
+        Ok(Marks {
+            bits: Bits::new(alloc, words)?,
+            filled: Bits::new(alloc, words.div_ceil(64))?,
+        })
+    }
+
+    /// Marks an index, or takes its mark away. It takes no memory.
+    pub fn set(&mut self, index: u32, marked: bool)
+        requires { index < 64 * length self.old }
+        ensures length { length self.new ≡ length self.old }
+        ensures marks { (i : ℕ) → is_marked self.new i
+            ≡ (if nat_eq i index then marked else is_marked self.old i) }
+    {
+        self.bits.set(index, marked);
+        let word = index / 64;
+        self.filled.set(word, self.bits.has_marks(word));
+    }
+
+    /// The first marked index from this one on.
+    pub fn first_from(&self, from: u32) -> Option<u32>
+        ensures { IsFirstMarked self.now from result }
+    {
+        if self.bits.count() <= from {
+            return None;
+        }
+        if let Some(index) = self.bits.first_in_word(from) {
+            return Some(index);
+        }
+        let word = self.filled.first_from(from / 64 + 1)?;
+        Some(self.bits.first_of_word(word))
+    }
+
+    /// A copy.
+    pub fn try_clone(&self) -> Result<Marks, AllocError>
+        ensures { IfOk result (λ copy. copy ≡ self.now) }
+    {
+        Ok(Marks {
+            bits: self.bits.try_clone()?,
+            filled: self.filled.try_clone()?,
+        })
+    }
+}

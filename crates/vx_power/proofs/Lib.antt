@@ -7,4 +7,7 @@ pub mod Linking
 pub mod Local
 pub mod Pointing
 pub mod Reach
+pub mod Reaching
 pub mod Rounds
+pub mod Stepping
+pub mod Tables

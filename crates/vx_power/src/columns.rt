@@ -1,4 +1,4 @@
-ghost use Rattle.std.specs.Prelude.{◌≡◌, ◌<◌, ◌≤◌};
+ghost use Rattle.std.specs.Prelude.{◌≡◌, ◌<◌, ◌≤◌, ◌&&◌, int_le, int_lt};
 ghost use Rattle.vx_geom.specs.Sizes.{sector_count};
 ghost use Rattle.vx_power.specs.Levels.{columns_around, is_in};
 
@@ -32,9 +32,17 @@ impl Columns {
     }
 
     /// Whether a position lies in one of these columns.
+    #[tactic(auto, using(vx_base::proofs::Signed::signed))]
     pub fn hold(self, p: Pos) -> bool
         ensures { result ≡ is_in self p }
     {
-        self.west <= p.x && p.x < self.east && self.north <= p.z && p.z < self.south
+        is_between(self.west, p.x, self.east) && is_between(self.north, p.z, self.south)
     }
+}
+
+// Whether least <= c < end.
+fn is_between(least: i32, c: i32, end: i32) -> bool
+    ensures { result ≡ (int_le least c && int_lt c end) }
+{
+    least <= c && c < end
 }

@@ -3,9 +3,10 @@
 
 mod columns;
 mod dust;
+mod dust_near;
 mod laws;
+mod level_table;
 mod leveled;
-mod levels;
 mod power;
 mod signals;
 mod spread;
@@ -14,8 +15,8 @@ pub use dust::points;
 pub use laws::{
     dust_points_as_it_joins, levels_are_walks, links_lead_back, signals_see_few_steps,
 };
+pub use level_table::Levels;
 pub use leveled::Leveled;
-pub use levels::Levels;
 pub use power::{activates, active, powered};
 pub use signals::is_fed;
 pub use spread::levels;

@@ -19,8 +19,8 @@ pub fn gives(cell: Cell, dir: Dir) -> bool
     }
 }
 
-// Whether a cell drives a conductor that is its neighbor in that direction.
-fn drives(cell: Cell, dir: Dir) -> bool
+/// Whether a cell drives a conductor that is its neighbor in that direction.
+pub fn drives(cell: Cell, dir: Dir) -> bool
     ensures { result ≡ drives cell dir }
 {
     match cell {

@@ -1,19 +1,30 @@
 //! How levels spread: from the dust that is fed, link by link.
-ghost use Rattle.std.specs.Prelude.{◌≡◌, ◌<◌, ◌≤◌, ◌+◌, ◌-◌, ℕ, [], ◌∷◌, OnOk, IfOk};
+ghost use Rattle.std.specs.Prelude.{◌≡◌, ◌<◌, ◌≤◌, ◌+◌, ◌-◌, ◌&&◌, [], ◌∷◌, if◌then◌else◌, OnOk, IfOk};
+ghost use Rattle.std.specs.Option.{option_to_list};
+ghost use Rattle.vx_block.specs.Conductors.{conducts};
+ghost use Rattle.vx_cells.specs.Listed.{devices_on};
 ghost use Rattle.vx_cells.specs.Maps.{cell_on};
+ghost use Rattle.vx_geom.specs.Neighbor.{neighbor};
 ghost use Rattle.vx_geom.specs.Places.{first_near, end_near};
 ghost use Rattle.vx_geom.specs.Sizes.{sector_count};
-ghost use Rattle.vx_power.specs.Dust.{links};
+ghost use Rattle.vx_power.specs.Dust.{links, links_on};
 ghost use Rattle.vx_power.specs.Levels.{level_in, columns_around, AreLevels};
-ghost use Rattle.vx_power.specs.Spreading.{fed_from, fed_by_sectors, Reaches, IsSpread};
+ghost use Rattle.vx_power.specs.Signals.{drives};
+ghost use Rattle.vx_power.specs.Spreading.{dust_at, each_dir, fed_towards, fed_from, fed_by, fed_by_sectors, linked_to, Reaches, IsSpread};
 
 use crate::columns::Columns;
+use crate::dust_near::{driven, dust_at, dust_given, dust_over, dust_under};
 use crate::leveled::Leveled;
-use crate::levels::Levels;
+use crate::level_table::Levels;
 use std::alloc::{AllocError, Global};
 use std::marker::Model;
+use std::mem;
+use vx_block::{Cell, Side};
 use vx_cells::Frozen;
-use vx_geom::Pos;
+use vx_geom::{Dir, Pos};
+
+// The level of dust that is fed.
+const FED: u8 = 15;
 
 // A walk from fed dust has at most so many links.
 const MOST_LINKS: u8 = 14;
@@ -27,6 +38,7 @@ pub fn levels(alloc: Global, map: &Frozen<'_>, sector: u32) -> Result<Levels, Al
     requires { sector < sector_count map.now.sizes }
     ensures { IfOk result (λ levels. AreLevels map.now sector (level_in levels)) }
 {
+    map.soundness();
     let columns = Columns::around(map.bounds(), sector, COLUMNS_OFF);
     let mut spread = Spread::new(alloc, columns);
     spread.begin(alloc, map, sector)?;
@@ -60,7 +72,7 @@ impl Spread {
         Spread {
             columns,
             levels: Levels::new(alloc),
-            reached: Vec::new_in(alloc),
+            reached: Vec::new(alloc),
         }
     }
 
@@ -73,11 +85,19 @@ impl Spread {
     {
         let bounds = map.bounds();
         for number in bounds.first_near(sector)..bounds.end_near(sector) {
-            for device in &map.devices(alloc, number)? {
-                self.reach_fed(map, *device)?;
-            }
+            self.begin_in(alloc, map, number)?;
         }
         Ok(())
+    }
+
+    // Reaches the dust that the devices of one sector feed.
+    fn begin_in(&mut self, alloc: Global, map: &Frozen<'_>, sector: u32) -> Result<(), AllocError>
+        requires { sector < sector_count map.now.sizes }
+        ensures { OnOk result (Reaches 15 self.old self.new
+            (fed_by (cell_on map.now) (devices_on map.now sector))) }
+    {
+        let devices = map.devices(alloc, sector)?;
+        self.reach_all_fed(map, devices.as_slice())
     }
 
     // One link further, where dust gets this level.
@@ -88,9 +108,16 @@ impl Spread {
         ensures columns { OnOk result (self.new.columns ≡ self.old.columns) }
         ensures spread { OnOk result (IsSpread (cell_on map.now) (15 - level) self.new) }
     {
-        let from = std::mem::replace(&mut self.reached, Vec::new_in(alloc));
-        for p in &from {
-            self.reach_links(map, *p, level)?;
+        let from = mem::replace(&mut self.reached, Vec::new(alloc));
+        self.reach_all_links(map, from.as_slice(), level)
+    }
+
+    // Reaches the dust that any of these devices feeds.
+    fn reach_all_fed(&mut self, map: &Frozen<'_>, devices: &[Pos]) -> Result<(), AllocError>
+        ensures { OnOk result (Reaches 15 self.old self.new (fed_by (cell_on map.now) devices.now)) }
+    {
+        for device in devices {
+            self.reach_fed(map, *device)?;
         }
         Ok(())
     }
@@ -99,7 +126,68 @@ impl Spread {
     fn reach_fed(&mut self, map: &Frozen<'_>, device: Pos) -> Result<(), AllocError>
         ensures { OnOk result (Reaches 15 self.old self.new (fed_from (cell_on map.now) device)) }
     {
-        Err(AllocError)
+        let cell = map.cell(device);
+        for dir in Dir::ALL {
+            self.reach_towards(map, &cell, device, dir)?;
+        }
+        Ok(())
+    }
+
+    // Reaches the dust that a device feeds in one direction.
+    fn reach_towards(
+        &mut self,
+        map: &Frozen<'_>,
+        cell: &Cell,
+        device: Pos,
+        dir: Dir,
+    ) -> Result<(), AllocError>
+        requires { cell.now ≡ cell_on map.now device }
+        ensures { OnOk result (Reaches 15 self.old self.new
+            (fed_towards (cell_on map.now) device dir)) }
+    {
+        self.reach_found(dust_given(map, cell, device, dir), FED)?;
+        self.reach_driven(map, cell, device, dir)
+    }
+
+    // Reaches the dust around the conductor in one direction, if a cell at this position drives it.
+    fn reach_driven(
+        &mut self,
+        map: &Frozen<'_>,
+        cell: &Cell,
+        p: Pos,
+        dir: Dir,
+    ) -> Result<(), AllocError>
+        ensures { OnOk result (Reaches 15 self.old self.new
+            (if drives cell.now dir && conducts (cell_on map.now (neighbor p dir))
+            then each_dir (dust_at (cell_on map.now) (neighbor p dir)) else [])) }
+    {
+        match driven(map, cell, p, dir) {
+            Some(block) => self.reach_around(map, block),
+            None => Ok(()),
+        }
+    }
+
+    // Reaches the dust beside a position in each direction.
+    fn reach_around(&mut self, map: &Frozen<'_>, p: Pos) -> Result<(), AllocError>
+        ensures { OnOk result (Reaches 15 self.old self.new (each_dir (dust_at (cell_on map.now) p))) }
+    {
+        for dir in Dir::ALL {
+            self.reach_found(dust_at(map, p, dir), FED)?;
+        }
+        Ok(())
+    }
+
+    // Reaches what dust at any of these positions links to.
+    fn reach_all_links(&mut self, map: &Frozen<'_>, from: &[Pos], level: u8) -> Result<(), AllocError>
+        requires some { 0 < level }
+        requires most { level ≤ 15 }
+        ensures { OnOk result (Reaches level self.old self.new
+            (linked_to (cell_on map.now) from.now)) }
+    {
+        for p in from {
+            self.reach_links(map, *p, level)?;
+        }
+        Ok(())
     }
 
     // Reaches what dust at a position links to.
@@ -108,7 +196,43 @@ impl Spread {
         requires most { level ≤ 15 }
         ensures { OnOk result (Reaches level self.old self.new (links (cell_on map.now) p)) }
     {
-        Err(AllocError)
+        if !map.cell(p).is_dust() {
+            return Ok(());
+        }
+        for side in Side::ALL {
+            self.reach_links_on(map, p, side, level)?;
+        }
+        Ok(())
+    }
+
+    // Reaches what dust at a position links to on one side.
+    fn reach_links_on(
+        &mut self,
+        map: &Frozen<'_>,
+        p: Pos,
+        side: Side,
+        level: u8,
+    ) -> Result<(), AllocError>
+        requires some { 0 < level }
+        requires most { level ≤ 15 }
+        ensures { OnOk result (Reaches level self.old self.new (links_on (cell_on map.now) p side)) }
+    {
+        self.reach_found(dust_at(map, p, side.dir()), level)?;
+        self.reach_found(dust_over(map, p, side), level)?;
+        self.reach_found(dust_under(map, p, side), level)
+    }
+
+    // Reaches a position, if there is one.
+    #[tactic(auto, using(crate::proofs::Reaching::reaches_none))]
+    fn reach_found(&mut self, found: Option<Pos>, level: u8) -> Result<(), AllocError>
+        requires some { 0 < level }
+        requires most { level ≤ 15 }
+        ensures { OnOk result (Reaches level self.old self.new (option_to_list found)) }
+    {
+        match found {
+            Some(p) => self.reach(p, level),
+            None => Ok(()),
+        }
     }
 
     // Gives a position this level, if it lies in the columns and has none.
@@ -121,12 +245,13 @@ impl Spread {
             return Ok(());
         }
         self.levels.put(p, level)?;
-        self.reached.push(p)
+        self.reached.push(p)?;
+        Ok(())
     }
 
     // The levels as they are.
     fn into_levels(self) -> Levels
-        ensures { result ≡ self.now.table }
+        ensures { result ≡ self.table }
     {
         self.levels
     }

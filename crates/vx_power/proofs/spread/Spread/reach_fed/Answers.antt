@@ -1,0 +1,20 @@
+use Rattle.std.proofs.Common.{arith}
+use Rattle.vx_cells.specs.Maps.{cell_on}
+use Rattle.vx_geom.specs.Dirs.{all_dirs}
+use Rattle.vx_power.specs.Spreading.{fed_towards, fed_from}
+use Rattle.vx_power.proofs.Reaching.{reaches_none, reaches_more, reaches_all, all_dirs_give}
+use Rattle.vx_power.proofs.spread.Spread.reach_fed.Goals as goal
+
+pub loop-dir-init : goal.loop-dir-init
+loop-dir-init c = reaches_none
+
+pub loop-dir-preserved : goal.loop-dir-preserved
+loop-dir-preserved c =
+    reaches_more (fed_towards (cell_on c.args.map.now) c.args.device) all_dirs c.loop-dir.dir-index _ c.loop-dir-test.true
+    (omega arith) c.loop-dir.invariant c.in_ok-reach_towards.ensures
+
+pub returns : goal.returns
+unfolding fed_from
+returns c =
+    reaches_all (fed_towards (cell_on c.args.map.now) c.args.device) all_dirs c.loop-dir.dir-index _
+    c.loop-dir-test.false (all_dirs_give (fed_towards (cell_on c.args.map.now) c.args.device)) c.loop-dir.invariant

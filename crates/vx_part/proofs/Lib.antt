@@ -1,4 +1,5 @@
 pub mod Changing
 pub mod Delays
+pub mod Nearby
 pub mod Nexts
 pub mod Reading

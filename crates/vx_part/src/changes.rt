@@ -10,13 +10,13 @@ ghost use Rattle.vx_power.specs.Levels.{AreLevels};
 use crate::parts::next_part;
 use std::alloc::{AllocError, Global};
 use vx_block::Cell;
-use vx_cells::Frozen;
+use vx_cells::{Frozen, is_same};
 use vx_geom::Pos;
 use vx_power::Leveled;
 
 /// The cells of a sector that are others after the tick, pistons left out, each beside its
-/// position, in order. The levels are those of this map near the sector. It costs what the
-/// components of the sector are.
+/// position, in order. It costs what the components of the sector are. They are those of the rules
+/// where the levels are those of this map near the sector, as `vx_power::levels` tells them.
 pub fn next_parts<L: Leveled>(
     alloc: Global,
     map: &Frozen<'_>,
@@ -27,12 +27,26 @@ pub fn next_parts<L: Leveled>(
     ensures by_levels { IfOk result (λ found. found.items
         ≡ changes (cell_on map.now) (L.level levels.now) (positions map.now.sizes sector)) }
     ensures exact { AreLevels map.now sector (L.level levels.now)
-        → IfOk result (λ found. found.items
-            ≡ changes (cell_on map.now) (dust_level (cell_on map.now)) (positions map.now.sizes sector)) }
+        → IfOk result (λ found. found.items ≡ changes (cell_on map.now)
+            (dust_level (cell_on map.now)) (positions map.now.sizes sector)) }
 {
-    let mut found = Vec::new_in(alloc);
+    map.soundness();
     let components = map.components(alloc, sector)?;
-    for p in &components {
+    changes_among(alloc, map, levels, components.as_slice())
+}
+
+// The cells at these positions that are others after the tick.
+fn changes_among<L: Leveled>(
+    alloc: Global,
+    map: &Frozen<'_>,
+    levels: &L,
+    positions: &[Pos],
+) -> Result<Vec<(Pos, Cell)>, AllocError>
+    ensures { IfOk result (λ found. found.items
+        ≡ changes (cell_on map.now) (L.level levels.now) positions.now) }
+{
+    let mut found = Vec::new(alloc);
+    for p in positions {
         if let Some(cell) = change(map, levels, *p) {
             found.push((*p, cell))?;
         }
@@ -41,14 +55,13 @@ pub fn next_parts<L: Leveled>(
 }
 
 // What stands at a position after the tick, where that is another cell.
-#[tactic(auto, unfolding(crate::specs::Changes::change_at))]
 fn change<L: Leveled>(map: &Frozen<'_>, levels: &L, p: Pos) -> Option<Cell>
     ensures { result ≡ change_at (cell_on map.now) (L.level levels.now) p }
 {
+    let now = map.cell(p);
     let next = next_part(map, levels, p);
-    if next == map.cell(p) {
-        None
-    } else {
-        Some(next)
+    if is_same(&next, &now) {
+        return None;
     }
+    Some(next)
 }

@@ -35,6 +35,10 @@ step_off n p q Down off = omega (arith, ints)
 step_off n p q South off = omega (arith, ints)
 step_off n p q North off = omega (arith, ints)
 
+-- columns off a position that is some columns off
+pub off_joined : (a b : ℕ) (p q r : Pos) → IsOff a p q → IsOff b q r → IsOff (a + b) p r
+off_joined a b p q r first second = omega (arith, ints)
+
 -- what lies over a position is in its column
 over_off : (n : ℕ) (p q : Pos) → IsOff n p q → IsOff n p (over q)
 over_off n p q off = omega (arith, ints)
@@ -75,7 +79,7 @@ lies_in c p is = record {
 }
 
 -- and where they hold it the test passes
-in_columns : (c : Columns) (p : Pos) → LiesIn c p → is_in c p ≡ true
+pub in_columns : (c : Columns) (p : Pos) → LiesIn c p → is_in c p ≡ true
 in_columns c p lies = grind (arith, ints)
 
 -- a western or northern border so many columns further out holds what lies so many off

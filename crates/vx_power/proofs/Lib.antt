@@ -1,5 +1,6 @@
 pub mod Around
 pub mod Carried
+pub mod Distant
 pub mod Feeders
 pub mod Feeding
 pub mod Having

@@ -1,4 +1,4 @@
-ghost use Rattle.vx_power.specs.Local.{DustSees, PowerSees, ActivitySees};
+ghost use Rattle.vx_power.specs.Local.{DustSees, PowerSees, ActivitySees, LevelsAreLocal};
 ghost use Rattle.vx_power.specs.Laws.{LevelsAreWalks, LevelsFallByOne, LinksLeadBack, PointsToAll, PointsAlong, PointsToJoins};
 
 /// The level of dust is 15 less the length of the shortest walk of links to fed dust, or 0; it
@@ -27,4 +27,9 @@ pub fn signals_see_few_steps()
     ensures dust { DustSees }
     ensures power { PowerSees }
     ensures activity { ActivitySees }
+{}
+
+/// The level of dust is decided within 16 columns of it.
+pub fn levels_are_local()
+    ensures { LevelsAreLocal }
 {}

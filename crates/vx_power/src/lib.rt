@@ -13,7 +13,8 @@ mod spread;
 
 pub use dust::points;
 pub use laws::{
-    dust_points_as_it_joins, levels_are_walks, links_lead_back, signals_see_few_steps,
+    dust_points_as_it_joins, levels_are_local, levels_are_walks, links_lead_back,
+    signals_see_few_steps,
 };
 pub use level_table::Levels;
 pub use leveled::Leveled;

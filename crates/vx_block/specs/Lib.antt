@@ -4,6 +4,7 @@ pub mod Components
 pub mod Conductors
 pub mod Cut
 pub mod Kind
+pub mod Mobilities
 pub mod Part
 pub mod Repeating
 pub mod Sides

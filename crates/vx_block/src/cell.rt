@@ -4,6 +4,7 @@ ghost use Rattle.vx_block.specs.Components.{is_dust, is_device};
 ghost use Rattle.vx_block.specs.Conductors.{conducts};
 ghost use Rattle.vx_block.specs.Cut.{colon, tail_of};
 ghost use Rattle.vx_block.specs.Kind.{kind_word};
+ghost use Rattle.vx_block.specs.Mobilities.{mobility_of};
 ghost use Rattle.vx_block.specs.States.{mount_dir, dir_word, on_word, out_word, grip_word};
 
 use crate::cut::cut;
@@ -11,6 +12,7 @@ use crate::joined::{one_word, three_words, two_words};
 use crate::kind::Kind;
 use crate::lamp::Lamp;
 use crate::level::Level;
+use crate::mobility::Mobility;
 use crate::mount::Mount;
 use crate::repeater::Repeater;
 use crate::words::{
@@ -115,6 +117,27 @@ impl Cell {
                 | Cell::Lamp(_)
                 | Cell::Piston { .. }
         )
+    }
+
+    /// What this cell does in the way of a piston.
+    pub fn mobility(self) -> Mobility
+        ensures { result ≡ mobility_of self }
+    {
+        match self {
+            Cell::Air => Mobility::Empty,
+            Cell::Stone | Cell::Dirt | Cell::Planks | Cell::Glass | Cell::Lamp(_) =>
+                Mobility::Moves,
+            Cell::Piston {
+                extended: false, ..
+            } => Mobility::Moves,
+            Cell::Dust(_) | Cell::Torch { .. } | Cell::Lever { .. } | Cell::Repeater(_) =>
+                Mobility::Breaks,
+            Cell::Obsidian
+            | Cell::Bedrock
+            | Cell::Chest
+            | Cell::Piston { extended: true, .. }
+            | Cell::Head { .. } => Mobility::Stays,
+        }
     }
 
     /// The text of this cell, as replies write it (docs/FORMATS.md).

@@ -1,0 +1,41 @@
+-- Which piston has the cells that two want.
+use Rattle.std.specs.Prelude.{◌≡◌, Bool, true, false, ◌&&◌, List, [], ◌∷◌, if◌then◌else◌, Option, Some, None}
+use Rattle.std.specs.List.{list_any}
+use Rattle.std.specs.Map.{lookup}
+use Rattle.vx_geom.specs.declared.pos.Pos.{Pos}
+use Rattle.vx_geom.specs.Order.{comes_before}
+use Rattle.vx_power.specs.Levels.{has, same_place}
+use Rattle.vx_power.specs.Walks.{IsAmong}
+use Rattle.vx_piston.specs.Moves.{Moving}
+
+-- the two moves take a cell both
+unfoldable pub shares : Moving → Moving → Bool
+shares a b = list_any (has a.cells) b.cells
+
+-- a claim beats a move where its piston comes before the move's, and they share a cell; whether the
+-- claim is beaten itself plays no part
+unfoldable pub beats : Moving → Moving → Bool
+beats claim m = comes_before claim.at m.at && shares claim m
+
+-- the piston that beats a move is the first of those whose claims beat it; none does where no
+-- claim beats it
+abbrev pub IsBeatenBy : List Moving → Moving → Option Pos → Type 0
+IsBeatenBy claims m None = (claim : Moving) → IsAmong claims claim → beats claim m ≡ false
+IsBeatenBy claims m (Some q) =
+    ((claim : Moving) × IsAmong claims claim × (beats claim m ≡ true) × (claim.at ≡ q))
+    × ((claim : Moving) → IsAmong claims claim → beats claim m ≡ true → comes_before claim.at q ≡ false)
+
+-- the first of two pistons
+abbrev pub first_of : Pos → Option Pos → Option Pos
+first_of p None = Some p
+first_of p (Some q) = if comes_before q p then Some q else Some p
+
+-- the first piston whose claim takes a cell
+abbrev pub claimant : List Moving → Pos → Option Pos
+claimant [] p = None
+claimant (claim ∷ claims) p =
+    if has claim.cells p then first_of claim.at (claimant claims p) else claimant claims p
+
+-- a table that has it for each cell
+abbrev pub IsTable : List Moving → List (Pos × Pos) → Type 0
+IsTable claims table = (p : Pos) → lookup (same_place p) table ≡ claimant claims p

@@ -1,0 +1,30 @@
+ghost use Rattle.std.specs.Prelude.{◌≡◌};
+
+use arrayvec::ArrayVec;
+use std::marker::Model;
+use vx_geom::{Dir, Pos};
+
+/// A move takes at most so many cells: the piston's, the twelve that it pushes, and the one at the
+/// end of the row.
+pub const MAX_CELLS: usize = 14;
+
+/// What a piston would move.
+#[derive(Clone, Copy, Debug)]
+pub struct Move {
+    /// Where the piston stands.
+    pub at: Pos,
+    /// Which way it faces.
+    pub facing: Dir,
+    /// Whether it pushes; else it draws back.
+    pub push: bool,
+    /// The cells that this takes, in order, the piston's own first.
+    pub cells: ArrayVec<Pos, MAX_CELLS>,
+}
+
+impl Model for Move {
+    ghost use Rattle.vx_piston.specs.Moves.{Moving};
+
+    ghost Value = { Moving };
+
+    ghost view = { λ m. record { at = m.at; facing = m.facing; push = m.push; cells = m.cells.items } };
+}

@@ -23,7 +23,7 @@ none_filled n m room = record {
 }
 
 -- a word that is marked as filled is there, and is not 0
-pub word_filled : (words filled : List ℕ) (k : ℕ) → AreFilled words filled → is_marked filled k ≡ true
+word_filled : (words filled : List ℕ) (k : ℕ) → AreFilled words filled → is_marked filled k ≡ true
     → (k < length words) × (0 < get_or words k 0)
 word_filled words filled k held marked =
     let some : 0 < get_or words k 0 = ltb-true 0 _ (sym (held.each k) ∙ marked) in (
@@ -35,10 +35,10 @@ word_filled words filled k held marked =
     )
 
 -- no index is marked whose word is not marked as filled
-not_filled : (words filled : List ℕ) (i : ℕ) → AreFilled words filled → is_marked filled (i / 64) ≡ false → is_marked words i ≡ false
+not_filled : (words filled : List ℕ) (i : ℕ) → AreFilled words filled
+    → is_marked filled (i / 64) ≡ false → is_marked words i ≡ false
 not_filled words filled i held none =
-    let empty : get_or words (i / 64) 0 ≡ 0 = omega (arith, ltb-false 0 _ (sym (held.each (i / 64)) ∙ none)) in
-    unmarked words i empty
+    let empty = ltb-false 0 _ (sym (held.each (i / 64)) ∙ none) in unmarked words i (omega (arith, empty))
 
 module _ (words filled : List ℕ) (from : ℕ) (held : AreFilled words filled)
     (none : IsFirst (is_marked words) (64 * (from / 64 + 1)) from None) where
@@ -66,11 +66,6 @@ module _ (words filled : List ℕ) (from : ℕ) (held : AreFilled words filled)
         ],
       )
 
--- the first of a word, where that word is there, is the first of all
-pub first_near : (words : List ℕ) (from index : ℕ) → from < 64 * length words
-    → IsFirst (is_marked words) (64 * (from / 64 + 1)) from (Some index) → IsFirstMarked words from (Some index)
-first_near words from index near first = (first.0, omega (arith, first.1), first.2, first.3)
-
 -- a first marked index, as the first that passes a test
 pub as_first : (words : List ℕ) (from : ℕ) (found : Option ℕ) → IsFirstMarked words from found
     → IsFirst (is_marked words) (64 * length words) from found
@@ -78,7 +73,8 @@ as_first words from None first = first
 as_first words from (Some index) first = first
 
 -- the first that passes one of two tests is the lesser of the two first
-pub first_of_two : (f g : ℕ → Bool) (to from : ℕ) (a b : Option ℕ) → IsFirst f to from a → IsFirst g to from b
+pub first_of_two : (f g : ℕ → Bool) (to from : ℕ) (a b : Option ℕ)
+    → IsFirst f to from a → IsFirst g to from b
     → IsFirst (λ i. f i || g i) to from (lesser a b)
 first_of_two f g to from None None first second =
     λ i low high. or_from (f i) (g i) (first i low high) (second i low high)

@@ -26,7 +26,8 @@ none_in_rest word from nothing i low high =
     from_rest word from i low ∙ ap (λ n. is_set n (i - from)) nothing ∙ unset (i - from)
 
 -- the first bit that is set is that of the lowest 1
-pub lowest_is_first : (word : ℕ) → word < 2 ^ 64 → 0 < word → IsFirst (is_set word) 64 0 (Some (trailing_zeros w64 word))
+pub lowest_is_first : (word : ℕ) → word < 2 ^ 64 → 0 < word
+    → IsFirst (is_set word) 64 0 (Some (trailing_zeros w64 word))
 lowest_is_first word fits some =
     let lowest = bit_at-trailing_zeros w64 word some fits in (
       omega arith,
@@ -57,7 +58,8 @@ first_in_rest word from fits some =
     )
 
 -- the mark of an index is the bit in its word
-mark_is : (words : List ℕ) (k i : ℕ) → 64 * k ≤ i → i < 64 * (k + 1) → is_marked words i ≡ is_set (get_or words k 0) (i - 64 * k)
+mark_is : (words : List ℕ) (k i : ℕ) → 64 * k ≤ i → i < 64 * (k + 1)
+    → is_marked words i ≡ is_set (get_or words k 0) (i - 64 * k)
 unfolding is_marked
 mark_is words k i low high =
     let word : i / 64 ≡ k = omega arith in
@@ -65,7 +67,8 @@ mark_is words k i low high =
     λ t. is_set (get_or words (word t) 0) (bit t)
 
 -- the first index of a word is that of its first bit
-pub first_in_word : (words : List ℕ) (k from bit : ℕ) (found : Option ℕ) → from ≡ 64 * k + bit → IsFirst (is_set (get_or words k 0)) 64 bit found
+pub first_in_word : (words : List ℕ) (k from bit : ℕ) (found : Option ℕ) → from ≡ 64 * k + bit
+    → IsFirst (is_set (get_or words k 0)) 64 bit found
     → IsFirst (is_marked words) (64 * (k + 1)) from (option_map (λ b. 64 * k + b) found)
 first_in_word words k from bit None at first =
     λ i low high. mark_is words k i (omega arith) high ∙ first (i - 64 * k) (omega arith) (omega arith)
@@ -73,36 +76,46 @@ first_in_word words k from bit (Some b) at first =
     let back : 64 * k + b - 64 * k ≡ b = omega arith in (
       omega (arith, first.0),
       omega (arith, first.1),
-      mark_is words k (64 * k + b) (omega arith) (omega (arith, first.1)) ∙ ap (is_set (get_or words k 0)) back ∙ first.2,
-      λ i low high. mark_is words k i (omega arith) (omega (arith, first.1)) ∙ first.3 (i - 64 * k) (omega arith) (omega arith),
+      mark_is words k (64 * k + b) (omega arith) (omega (arith, first.1))
+          ∙ ap (is_set (get_or words k 0)) back ∙ first.2,
+      λ i low high. mark_is words k i (omega arith) (omega (arith, first.1))
+          ∙ first.3 (i - 64 * k) (omega arith) (omega arith),
     )
 
 -- one word changes in one bit, and so does that one mark
 module _ (words : List ℕ) (index value : ℕ) (marked : Bool) (near : index < 64 * length words)
     (here : is_set value (index % 64) ≡ marked)
     (others : (i : ℕ) → i < 64 → i ≢ index % 64 → is_set value i ≡ is_set (get_or words (index / 64) 0) i) where
-  word_here : get_or (set words (index / 64) value) (index / 64) 0 ≡ value
+  abbrev new : List ℕ
+  new = set words (index / 64) value
+
+  word_here : get_or new (index / 64) 0 ≡ value
   word_here = get_or-set_same words (index / 64) value 0 (omega arith)
 
-  mark_here : is_marked (set words (index / 64) value) index ≡ marked
+  mark_here : is_marked new index ≡ marked
   unfolding is_marked
   mark_here = ap (λ w. is_set w (index % 64)) word_here ∙ here
 
-  mark_apart : (i : ℕ) → i ≢ index → is_marked (set words (index / 64) value) i ≡ is_marked words i
+  mark_apart : (i : ℕ) → i ≢ index → is_marked new i ≡ is_marked words i
   unfolding is_marked
   mark_apart i apart = elim (cases_eq (i / 64) (index / 64)) [
     | inl one_word ↦
         let bit : i % 64 ≢ index % 64 = λ same. apart (omega (arith, one_word, same)) in
-        ap (λ k. is_set (get_or (set words (index / 64) value) k 0) (i % 64)) one_word
+        ap (λ k. is_set (get_or new k 0) (i % 64)) one_word
         ∙ ap (λ w. is_set w (i % 64)) word_here
         ∙ others (i % 64) (omega arith) bit
         ∙ ap (λ k. is_set (get_or words k 0) (i % 64)) (sym one_word)
-    | inr other ↦ ap (λ w. is_set w (i % 64)) (get_or-set_other words (index / 64) (i / 64) value 0 other)
+    | inr other ↦
+        ap (λ w. is_set w (i % 64)) (get_or-set_other words (index / 64) (i / 64) value 0 other)
   ]
 
-  pub mark_set : (i : ℕ) → is_marked (set words (index / 64) value) i ≡ (if nat_eq i index then marked else is_marked words i)
+  pub mark_set : (i : ℕ)
+      → is_marked (set words (index / 64) value) i ≡ (if nat_eq i index then marked else is_marked words i)
   mark_set i = elim (cases_eq i index) [
-    | inl same ↦ ap (is_marked (set words (index / 64) value)) same ∙ mark_here
+    | inl same ↦
+        ap (is_marked new) same ∙ mark_here
         ∙ sym (ap (λ b. if b then marked else is_marked words i) (eq-eqb i index same))
-    | inr apart ↦ mark_apart i apart ∙ sym (ap (λ b. if b then marked else is_marked words i) (ne_eqb i index apart))
+    | inr apart ↦
+        mark_apart i apart
+        ∙ sym (ap (λ b. if b then marked else is_marked words i) (ne_eqb i index apart))
   ]

@@ -40,8 +40,8 @@ impl Model for Cells {
 impl Cells {
     ghost use Rattle.vx_cells.specs.SectorCells.{holds, only_air, cell_at, chest_at, is_chest, with_cell, with_slot, IsWhole, IsSlot};
 
-    /// The sector of that number, with nothing but air. It takes 16,384 or 65,536 bytes, and a
-    /// quarter of that for marks.
+    /// The sector of that number, with nothing but air. It takes 16,384 or 65,536 bytes, and
+    /// about a quarter of that for marks.
     pub fn new(alloc: Global, bounds: Bounds, sector: u32) -> Result<Cells, AllocError>
         requires { sector < sector_count bounds }
         ensures { IfOk result (λ cells. cells ≡ only_air bounds sector) }
@@ -191,6 +191,7 @@ impl Cells {
         ensures { IsFirst (is_listed_at with_dust self.now) (sector_cells self.now.bounds) from
             result }
     {
+        self.bounds.soundness();
         let device = self.devices.first_from(from);
         if with_dust {
             lesser(self.dust.first_from(from), device)

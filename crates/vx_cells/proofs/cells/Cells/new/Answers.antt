@@ -9,14 +9,20 @@ invariant_of-result c =
     let codes = c.in_ok-store.ensures.items_if_clones_equal (λ y e. e) in
     let store = c.in_ok-store.store.items in
     let n = c.sector_cells.result in
+    let count = sym c.sector_cells.ensures in
+    let dust = c.in_ok-dust.ensures in
+    let devices = c.in_ok-devices.ensures in
     record {
       sector_low = c.requires;
       stored = stored-fresh c.args.bounds n store c.new-3.result codes c.new-3.ensures c.sector_cells.ensures;
-      dust = fresh_marks is_dust n store c.in_ok-dust.dust refl codes (c.in_ok-dust.ensures.0 ∙ c.sector_cells-2.ensures ∙ sym c.sector_cells.ensures) c.in_ok-dust.ensures.1;
-      devices = fresh_marks is_device n store c.in_ok-devices.devices refl codes (c.in_ok-devices.ensures.0 ∙ c.sector_cells-3.ensures ∙ sym c.sector_cells.ensures) c.in_ok-devices.ensures.1;
+      dust = fresh_marks is_dust n store c.in_ok-dust.dust refl codes
+          (dust.0 ∙ c.sector_cells-2.ensures ∙ count) dust.1;
+      devices = fresh_marks is_device n store c.in_ok-devices.devices refl codes
+          (devices.0 ∙ c.sector_cells-3.ensures ∙ count) devices.1;
     }
 
 pub returns : goal.returns
 returns c =
     let codes = c.in_ok-store.ensures.items_if_clones_equal (λ y e. e) in
-    fresh-stored c.args.bounds c.args.sector c.sector_cells.result c.in_ok-store.store.items c.new-3.result codes c.new-3.ensures c.sector_cells.ensures
+    fresh-stored c.args.bounds c.args.sector c.sector_cells.result c.in_ok-store.store.items c.new-3.result
+    codes c.new-3.ensures c.sector_cells.ensures

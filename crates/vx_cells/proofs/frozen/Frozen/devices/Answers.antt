@@ -13,5 +13,6 @@ returns c =
     let near : k < length i.sectors.now = omega (arith, low, c.self.invariant.all) in
     let default = c.index-self-sector.result in
     let cells = get_or i.sectors.now k default in
+    let there = slice_get-get_or i.sectors.now k default near in
     rw (← c.self.view_is) (subst (λ all. IfOk c.devices.result (λ found. found.items ≡ all))
-    (devices_same m k cells c.self.invariant low (slice_get-get_or i.sectors.now k default near)) c.devices.ensures)
+    (devices_same m k cells c.self.invariant low there) c.devices.ensures)

@@ -11,5 +11,6 @@ use Rattle.vx_power.proofs.spread.Spread.reach_driven.Goals as goal
 pub returns-in-None : goal.returns-in-None
 returns-in-None c =
     let at = neighbor c.args.p c.args.dir in
-    let none = false_from_ne_true (drives c.args.cell.now c.args.dir && conducts (cell_on c.args.map.now at)) c.in-None.ensures in
+    let none = false_from_ne_true
+    (drives c.args.cell.now c.args.dir && conducts (cell_on c.args.map.now at)) c.in-None.ensures in
     reaches_nothing (ap (λ b. if b then each_dir (dust_at (cell_on c.args.map.now) at) else []) none)

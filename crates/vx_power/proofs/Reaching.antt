@@ -1,7 +1,7 @@
 -- What is reached, one position or one list of positions after another.
 use Rattle.std.proofs.Common.{◌≡◌, ℕ, zero, suc, ◌+◌, ◌-◌, ◌<◌, ◌≤◌, Bool, true, false, not, ◌&&◌, ◌||◌, if◌then◌else◌, nat_lt, List, [], ◌∷◌, ◌++◌, take, length, get_or, refl, sym, ap, ◌∙◌, subst, arith}
 use Rattle.std.specs.List.{flat_map}
-use Rattle.std.proofs.lemmas.Bool.{and_parts, cases_Bool, true≢false, lt-ltb, le-ltb, ltb-false}
+use Rattle.std.proofs.lemmas.Bool.{true≢false, lt-ltb, le-ltb, ltb-false}
 use Rattle.std.proofs.lemmas.List.{append-nil, append_assoc, take_more, take_all}
 use Rattle.std.proofs.lemmas.List.Concat.{flat_map-append}
 use Rattle.std.proofs.lemmas.List.Folds.{list_any-append}
@@ -18,7 +18,7 @@ use Rattle.vx_block.specs.States.{side_dir}
 use Rattle.vx_cells.specs.Listed.{devices_on}
 use Rattle.vx_cells.specs.Maps.{MapData}
 use Rattle.vx_power.specs.Dust.{beside, links_beside, links_on, links}
-use Rattle.vx_power.specs.Levels.{LevelTable, same_place, has, level_in, is_in}
+use Rattle.vx_power.specs.Levels.{same_place, has, level_in, is_in}
 use Rattle.vx_power.proofs.Tables.{same_place_at}
 use Rattle.vx_power.specs.Spreading.{dust_at, each_dir, fed_from, fed_by, fed_by_sectors, linked_to, SpreadData, Reaches}
 
@@ -127,15 +127,16 @@ reaches_on {level} {a} {b} {c} {xs} {ys} some first second = record {
     held_between p = ap (λ columns. is_in columns p) first.columns
 
     levels_on : (p : Pos)
-        → level_in c.table p ≡ level_after level (level_in a.table p) (leveled a p) (held a p) (has (xs ++ ys) p)
+        → level_in c.table p
+        ≡ level_after level (level_in a.table p) (leveled a p) (held a p) (has (xs ++ ys) p)
     levels_on p =
+        let u = level_in a.table p in
         let v = level_in b.table p in
-        level_twice level (level_in a.table p) v (level_in c.table p) (leveled a p) (held a p) (has xs p) (has ys p)
-        (first.levels p)
+        level_twice level u v (level_in c.table p) (leveled a p) (held a p) (has xs p) (has ys p) (first.levels p)
         (second.levels p
         ∙ ap (λ had. level_after level v had (held b p) (has ys p)) (leveled_between p)
         ∙ ap (λ inside. level_after level v (between p) inside (has ys p)) (held_between p))
-        ∙ ap (λ here. level_after level (level_in a.table p) (leveled a p) (held a p) here) (sym (has_joined xs ys p))
+        ∙ ap (λ here. level_after level u (leveled a p) (held a p) here) (sym (has_joined xs ys p))
 
     reached_on : (p : Pos)
         → has c.reached p ≡ noted_after (has a.reached p) (leveled a p) (held a p) (has (xs ++ ys) p)
@@ -207,7 +208,8 @@ pub reaches_over : {level : ℕ} {s : SpreadData} {p : Pos}
     → (not (leveled s p) && held s p) ≡ false → Reaches level s s (p ∷ [])
 reaches_over {level} {s} {p} taken = record {
   columns = refl;
-  levels = λ q. level_kept level (level_in s.table q) (leveled s q) (held s q) (same_place q p) refl (still q);
+  levels = λ q.
+      level_kept level (level_in s.table q) (leveled s q) (held s q) (same_place q p) refl (still q);
   reached = λ q. noted_kept (has s.reached q) (leveled s q) (held s q) (same_place q p) (still q);
 }
   where

@@ -1,19 +1,17 @@
 -- Steps towards a position of the world fit, whatever lies between.
-use Rattle.std.proofs.Common.{◌≡◌, ℕ, pos, Bool, true, false, inl, inr, List, [], ◌∷◌, Option, Some, None, refl, sym, ap, ◌∙◌, arith}
+use Rattle.std.proofs.Common.{◌≡◌, pos, true, inl, inr, [], ◌∷◌, Option, Some, None, sym, ap, ◌∙◌, arith}
 use Rattle.std.specs.Option.{SomeIff, option_to_list}
-use Rattle.std.specs.Prelude.{ℤ, ◌+ℤ◌, ◌-ℤ◌, unsigned_abs, FitsSigned}
+use Rattle.std.specs.Prelude.{ℤ, ◌+ℤ◌, ◌-ℤ◌, FitsSigned}
 use Rattle.std.specs.Int.{w32}
 use Rattle.std.proofs.lemmas.Bool.{and_parts, cases_Bool, false≢true}
 use Rattle.std.proofs.lemmas.Int.{ints}
 use Rattle.vx_block.specs.declared.side.Side.{Side}
 use Rattle.vx_block.specs.Components.{is_dust}
-use Rattle.vx_block.specs.Conductors.{conducts}
-use Rattle.vx_geom.specs.declared.dir.Dir.TheVariants.{Up, Down}
 use Rattle.vx_geom.specs.declared.pos.Pos.{Pos}
-use Rattle.vx_geom.specs.Neighbor.{neighbor, FitsPos}
+use Rattle.vx_geom.specs.Neighbor.{FitsPos}
 use Rattle.vx_geom.specs.Sizes.{Sizes, AreSizes, is_below, is_inside}
 use Rattle.vx_geom.proofs.SectorLemmas.{below_at}
-use Rattle.vx_cells.specs.Maps.{MapData, cell_on, far, is_near}
+use Rattle.vx_cells.specs.Maps.{MapData, cell_on, far}
 use Rattle.vx_cells.proofs.MapLemmas.{near_inside, outside_is_air}
 use Rattle.vx_power.specs.Dust.{beside, over, under, links_up, links_down}
 

@@ -20,12 +20,8 @@ pub fn dust_at(map: &Frozen<'_>, p: Pos, dir: Dir) -> Option<Pos>
     ensures { option_to_list result ≡ dust_at (cell_on map.now) p dir }
 {
     match map.next(p, dir) {
-        Some(next) => if map.cell(next).is_dust() {
-            Some(next)
-        } else {
-            None
-        },
-        None => None,
+        Some(next) if map.cell(next).is_dust() => Some(next),
+        _ => None,
     }
 }
 
@@ -75,11 +71,7 @@ pub fn driven(map: &Frozen<'_>, cell: &Cell, p: Pos, dir: Dir) -> Option<Pos>
         return None;
     }
     match map.next(p, dir) {
-        Some(next) => if map.cell(next).conducts() {
-            Some(next)
-        } else {
-            None
-        },
-        None => None,
+        Some(next) if map.cell(next).conducts() => Some(next),
+        _ => None,
     }
 }

@@ -1,4 +1,4 @@
-use Rattle.std.proofs.Common.{◌≡◌, false, ◌&&◌, [], if◌then◌else◌, ap}
+use Rattle.std.proofs.Common.{◌&&◌, [], if◌then◌else◌, ap}
 use Rattle.std.proofs.lemmas.Bool.{false_from_ne_true}
 use Rattle.vx_block.specs.Conductors.{conducts}
 use Rattle.vx_cells.specs.Maps.{cell_on}

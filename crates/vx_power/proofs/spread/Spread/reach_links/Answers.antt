@@ -1,4 +1,4 @@
-use Rattle.std.proofs.Common.{◌≡◌, true, false, sym, ◌∙◌, ap}
+use Rattle.std.proofs.Common.{◌≡◌, true, false}
 use Rattle.vx_block.specs.Components.{is_dust}
 use Rattle.vx_block.specs.Sides.{all_sides}
 use Rattle.vx_cells.specs.Maps.{cell_on}

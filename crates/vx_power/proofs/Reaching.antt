@@ -1,7 +1,7 @@
 -- What is reached, one position or one list of positions after another.
 use Rattle.std.proofs.Common.{◌≡◌, ℕ, zero, suc, ◌+◌, ◌-◌, ◌<◌, ◌≤◌, Bool, true, false, not, ◌&&◌, ◌||◌, if◌then◌else◌, nat_lt, List, [], ◌∷◌, ◌++◌, take, length, get_or, refl, sym, ap, ◌∙◌, subst, arith}
 use Rattle.std.specs.List.{flat_map}
-use Rattle.std.proofs.lemmas.Bool.{and_parts, cases_Bool, true≢false, lt-ltb, le-ltb, ltb-false}
+use Rattle.std.proofs.lemmas.Bool.{true≢false, lt-ltb, le-ltb, ltb-false}
 use Rattle.std.proofs.lemmas.List.{append-nil, append_assoc, take_more, take_all}
 use Rattle.std.proofs.lemmas.List.Concat.{flat_map-append}
 use Rattle.std.proofs.lemmas.List.Folds.{list_any-append}
@@ -18,9 +18,24 @@ use Rattle.vx_block.specs.States.{side_dir}
 use Rattle.vx_cells.specs.Listed.{devices_on}
 use Rattle.vx_cells.specs.Maps.{MapData}
 use Rattle.vx_power.specs.Dust.{beside, links_beside, links_on, links}
-use Rattle.vx_power.specs.Levels.{LevelTable, same_place, has, level_in, is_in}
+use Rattle.vx_power.specs.Levels.{same_place, has, level_in, is_in}
 use Rattle.vx_power.proofs.Tables.{same_place_at}
 use Rattle.vx_power.specs.Spreading.{dust_at, each_dir, fed_from, fed_by, fed_by_sectors, linked_to, SpreadData, Reaches}
+
+-- the level that a position has after a step: `had` says whether it had one before, `v` which
+abbrev level_after : ℕ → ℕ → Bool → Bool → Bool → ℕ
+level_after level v had inside here = if had then v else if inside && here then level else 0
+
+-- whether it is noted after the step
+abbrev noted_after : Bool → Bool → Bool → Bool → Bool
+noted_after was had inside here = was || (not had && (inside && here))
+
+-- a position has a level, and lies in the columns
+abbrev leveled : SpreadData → Pos → Bool
+leveled s p = nat_lt 0 (level_in s.table p)
+
+abbrev held : SpreadData → Pos → Bool
+held s p = is_in s.columns p
 
 -- a position is in two lists joined where it is in one of them
 pub has_joined : (xs ys : List Pos) (p : Pos) → has (xs ++ ys) p ≡ (has xs p || has ys p)
@@ -30,14 +45,13 @@ has_joined xs ys p = list_any-append (same_place p) xs ys
 no_level : (v : ℕ) → nat_lt 0 v ≡ false → v ≡ 0
 no_level v none = let most = ltb-false 0 v none in omega (arith, most)
 
--- nothing more is reached where there is nothing to reach
-nothing_more : (v level : ℕ) (had i : Bool) → nat_lt 0 v ≡ had
-    → v ≡ (if had then v else if i && false then level else 0)
+-- where there is nothing to reach nothing changes
+nothing_more : (v level : ℕ) (had i : Bool) → nat_lt 0 v ≡ had → v ≡ level_after level v had i false
 nothing_more v level true i is = refl
 nothing_more v level false true is = no_level v is
 nothing_more v level false false is = no_level v is
 
-nothing_new : (r had i : Bool) → r ≡ (r || (not had && (i && false)))
+nothing_new : (r had i : Bool) → r ≡ noted_after r had i false
 nothing_new true had i = refl
 nothing_new false true i = refl
 nothing_new false false true = refl
@@ -47,8 +61,8 @@ nothing_new false false false = refl
 pub reaches_none : {level : ℕ} {s : SpreadData} → Reaches level s s []
 reaches_none {level} {s} = record {
   columns = refl;
-  levels = λ p. nothing_more (level_in s.table p) level (nat_lt 0 (level_in s.table p)) (is_in s.columns p) refl;
-  reached = λ p. nothing_new (has s.reached p) (nat_lt 0 (level_in s.table p)) (is_in s.columns p);
+  levels = λ p. nothing_more (level_in s.table p) level (leveled s p) (held s p) refl;
+  reached = λ p. nothing_new (has s.reached p) (leveled s p) (held s p);
 }
 
 -- the same of another name of a list
@@ -56,31 +70,35 @@ pub reaches_as : {level : ℕ} {a b : SpreadData} {ps qs : List Pos} → ps ≡ 
     → Reaches level a b ps → Reaches level a b qs
 reaches_as {level} {a} {b} same reaches = subst (Reaches level a b) same reaches
 
--- the same of a list that turns out to be empty
+-- and of other names of all that is named
+pub reaches_same : {k level : ℕ} {a b c : SpreadData} {ps qs : List Pos} → k ≡ level → a ≡ b → ps ≡ qs
+    → Reaches k a c ps → Reaches level b c qs
+reaches_same {level = level} {a = a} {c = c} {ps = ps} same_level same same_list reaches =
+    reaches_as same_list
+    (subst (λ s. Reaches level s c ps) same (subst (λ k. Reaches k a c ps) same_level reaches))
+
+-- nothing is reached where a list turns out to be empty
 pub reaches_nothing : {level : ℕ} {s : SpreadData} {ps : List Pos} → ps ≡ [] → Reaches level s s ps
 reaches_nothing {level} {s} none = subst (Reaches level s s) (sym none) reaches_none
 
--- who has a level after a step: `v` is the level before it, `new` that after it
+-- who has a level after a step
 has_level : (level v new : ℕ) (had i x : Bool) → 0 < level → nat_lt 0 v ≡ had
-    → new ≡ (if had then v else if i && x then level else 0) → nat_lt 0 new ≡ (had || (i && x))
+    → new ≡ level_after level v had i x → nat_lt 0 new ≡ (had || (i && x))
 has_level level v new true i x some is now = ap (nat_lt 0) now ∙ is
 has_level level v new false true true some is now = lt-ltb 0 new (omega (arith, some, now))
 has_level level v new false true false some is now = le-ltb 0 new (omega (arith, now))
 has_level level v new false false x some is now = le-ltb 0 new (omega (arith, now))
 
--- the level after two steps, as if they were one
-level_twice : (level a b c : ℕ) (had i x y : Bool) → b ≡ (if had then a else if i && x then level else 0)
-    → c ≡ (if had || (i && x) then b else if i && y then level else 0)
-    → c ≡ (if had then a else if i && (x || y) then level else 0)
+-- two steps are as one
+level_twice : (level a b c : ℕ) (had i x y : Bool) → b ≡ level_after level a had i x
+    → c ≡ level_after level b (had || (i && x)) i y → c ≡ level_after level a had i (x || y)
 level_twice level a b c true i x y first second = second ∙ first
 level_twice level a b c false true true y first second = second ∙ first
 level_twice level a b c false true false y first second = second
 level_twice level a b c false false x y first second = second
 
--- what two steps note, as if they were one
 noted_twice : (r had i x y : Bool)
-    → ((r || (not had && (i && x))) || (not (had || (i && x)) && (i && y)))
-    ≡ (r || (not had && (i && (x || y))))
+    → noted_after (noted_after r had i x) (had || (i && x)) i y ≡ noted_after r had i (x || y)
 noted_twice true had i x y = refl
 noted_twice false true i x y = refl
 noted_twice false false true true y = refl
@@ -96,40 +114,45 @@ reaches_on {level} {a} {b} {c} {xs} {ys} some first second = record {
   reached = reached_on;
 }
   where
-    had : Pos → Bool
-    had p = nat_lt 0 (level_in a.table p)
+    -- who has a level between the steps
+    between : Pos → Bool
+    between p = leveled a p || (held a p && has xs p)
 
-    held : Pos → Bool
-    held p = is_in a.columns p
-
-    between : (p : Pos) → nat_lt 0 (level_in b.table p) ≡ (had p || (held p && has xs p))
-    between p = has_level level (level_in a.table p) (level_in b.table p) (had p) (held p) (has xs p)
+    leveled_between : (p : Pos) → leveled b p ≡ between p
+    leveled_between p =
+        has_level level (level_in a.table p) (level_in b.table p) (leveled a p) (held a p) (has xs p)
         some refl (first.levels p)
 
-    levels_on : (p : Pos) → level_in c.table p
-        ≡ (if had p then level_in a.table p else if held p && has (xs ++ ys) p then level else 0)
+    held_between : (p : Pos) → held b p ≡ held a p
+    held_between p = ap (λ columns. is_in columns p) first.columns
+
+    levels_on : (p : Pos)
+        → level_in c.table p
+        ≡ level_after level (level_in a.table p) (leveled a p) (held a p) (has (xs ++ ys) p)
     levels_on p =
-        level_twice level (level_in a.table p) (level_in b.table p) (level_in c.table p) (had p) (held p)
-        (has xs p) (has ys p) (first.levels p)
+        let u = level_in a.table p in
+        let v = level_in b.table p in
+        level_twice level u v (level_in c.table p) (leveled a p) (held a p) (has xs p) (has ys p) (first.levels p)
         (second.levels p
-        ∙ ap (λ k. if k then level_in b.table p else if is_in b.columns p && has ys p then level else 0) (between p)
-        ∙ ap (λ k. if had p || (held p && has xs p) then level_in b.table p else if is_in k p && has ys p then level else 0) first.columns)
-        ∙ ap (λ k. if had p then level_in a.table p else if held p && k then level else 0) (sym (has_joined xs ys p))
+        ∙ ap (λ had. level_after level v had (held b p) (has ys p)) (leveled_between p)
+        ∙ ap (λ inside. level_after level v (between p) inside (has ys p)) (held_between p))
+        ∙ ap (λ here. level_after level u (leveled a p) (held a p) here) (sym (has_joined xs ys p))
 
-    reached_on : (p : Pos) → has c.reached p
-        ≡ (has a.reached p || (not (had p) && (held p && has (xs ++ ys) p)))
+    reached_on : (p : Pos)
+        → has c.reached p ≡ noted_after (has a.reached p) (leveled a p) (held a p) (has (xs ++ ys) p)
     reached_on p =
+        let was = noted_after (has a.reached p) (leveled a p) (held a p) (has xs p) in
         second.reached p
-        ∙ ap (λ k. k || (not (nat_lt 0 (level_in b.table p)) && (is_in b.columns p && has ys p))) (first.reached p)
-        ∙ ap (λ k. (has a.reached p || (not (had p) && (held p && has xs p))) || (not k && (is_in b.columns p && has ys p))) (between p)
-        ∙ ap (λ k. (has a.reached p || (not (had p) && (held p && has xs p))) || (not (had p || (held p && has xs p)) && (is_in k p && has ys p))) first.columns
-        ∙ noted_twice (has a.reached p) (had p) (held p) (has xs p) (has ys p)
-        ∙ ap (λ k. has a.reached p || (not (had p) && (held p && k))) (sym (has_joined xs ys p))
+        ∙ ap (λ r. noted_after r (leveled b p) (held b p) (has ys p)) (first.reached p)
+        ∙ ap (λ had. noted_after was had (held b p) (has ys p)) (leveled_between p)
+        ∙ ap (λ inside. noted_after was (between p) inside (has ys p)) (held_between p)
+        ∙ noted_twice (has a.reached p) (leveled a p) (held a p) (has xs p) (has ys p)
+        ∙ ap (λ here. noted_after (has a.reached p) (leveled a p) (held a p) here) (sym (has_joined xs ys p))
 
--- the level of a position after another one got a level, or the same one did
+-- a position after one got a level: the same one, or another
 level_got : (level v new : ℕ) (had i same : Bool) → nat_lt 0 v ≡ had
     → (same ≡ true → (had ≡ false) × (i ≡ true)) → new ≡ (if same then level else v)
-    → new ≡ (if had then v else if i && (same || false) then level else 0)
+    → new ≡ level_after level v had i (same || false)
 level_got level v new true i true is free now = absurd (true≢false (free refl).0)
 level_got level v new true i false is free now = now
 level_got level v new false true true is free now = now
@@ -138,7 +161,7 @@ level_got level v new false true false is free now = now ∙ no_level v is
 level_got level v new false false false is free now = now ∙ no_level v is
 
 noted_got : (r had i same : Bool) → (same ≡ true → (had ≡ false) × (i ≡ true))
-    → (r || (same || false)) ≡ (r || (not had && (i && (same || false))))
+    → (r || (same || false)) ≡ noted_after r had i (same || false)
 noted_got r true i true free = absurd (true≢false (free refl).0)
 noted_got r false false true free = absurd (true≢false (sym (free refl).1))
 noted_got r false true true free = refl
@@ -147,34 +170,33 @@ noted_got r false true false free = refl
 noted_got r false false false free = refl
 
 -- a position in the columns without a level gets one, and is noted
-pub reaches_one : {level : ℕ} {old new : SpreadData} {p : Pos}
-    → is_in old.columns p ≡ true → nat_lt 0 (level_in old.table p) ≡ false
+pub reaches_one : {level : ℕ} {old new : SpreadData} {p : Pos} → held old p ≡ true → leveled old p ≡ false
     → new.columns ≡ old.columns
     → ((q : Pos) → level_in new.table q ≡ (if same_place q p then level else level_in old.table q))
     → new.reached ≡ old.reached ++ p ∷ [] → Reaches level old new (p ∷ [])
 reaches_one {level} {old} {new} {p} inside none columns levels reached = record {
   columns = columns;
-  levels = λ q. level_got level (level_in old.table q) (level_in new.table q) (nat_lt 0 (level_in old.table q))
-      (is_in old.columns q) (same_place q p) refl (free q) (levels q);
+  levels = λ q. level_got level (level_in old.table q) (level_in new.table q) (leveled old q) (held old q)
+      (same_place q p) refl (free q) (levels q);
   reached = λ q. ap (λ ps. has ps q) reached ∙ has_joined old.reached (p ∷ []) q
-      ∙ noted_got (has old.reached q) (nat_lt 0 (level_in old.table q)) (is_in old.columns q) (same_place q p) (free q);
+      ∙ noted_got (has old.reached q) (leveled old q) (held old q) (same_place q p) (free q);
 }
   where
-    free : (q : Pos) → same_place q p ≡ true
-        → (nat_lt 0 (level_in old.table q) ≡ false) × (is_in old.columns q ≡ true)
+    free : (q : Pos) → same_place q p ≡ true → (leveled old q ≡ false) × (held old q ≡ true)
     free q same =
         let is = same_place_at q p same in
-        (ap (λ r. nat_lt 0 (level_in old.table r)) is ∙ none, ap (is_in old.columns) is ∙ inside)
+        (ap (λ r. leveled old r) is ∙ none, ap (λ r. held old r) is ∙ inside)
 
-level_kept : (level v : ℕ) (had i same : Bool) → nat_lt 0 v ≡ had → (same ≡ true → (not had && i) ≡ false)
-    → v ≡ (if had then v else if i && (same || false) then level else 0)
+-- a position that is passed over
+level_kept : (level v : ℕ) (had i same : Bool) → nat_lt 0 v ≡ had
+    → (same ≡ true → (not had && i) ≡ false) → v ≡ level_after level v had i (same || false)
 level_kept level v true i same is taken = refl
 level_kept level v false true true is taken = absurd (true≢false (taken refl))
 level_kept level v false true false is taken = no_level v is
 level_kept level v false false same is taken = no_level v is
 
 noted_kept : (r had i same : Bool) → (same ≡ true → (not had && i) ≡ false)
-    → r ≡ (r || (not had && (i && (same || false))))
+    → r ≡ noted_after r had i (same || false)
 noted_kept true had i same taken = refl
 noted_kept false true i same taken = refl
 noted_kept false false true true taken = absurd (true≢false (taken refl))
@@ -183,16 +205,16 @@ noted_kept false false false same taken = refl
 
 -- a position outside the columns, or with a level, is passed over
 pub reaches_over : {level : ℕ} {s : SpreadData} {p : Pos}
-    → (not (nat_lt 0 (level_in s.table p)) && is_in s.columns p) ≡ false → Reaches level s s (p ∷ [])
+    → (not (leveled s p) && held s p) ≡ false → Reaches level s s (p ∷ [])
 reaches_over {level} {s} {p} taken = record {
   columns = refl;
-  levels = λ q. level_kept level (level_in s.table q) (nat_lt 0 (level_in s.table q)) (is_in s.columns q)
-      (same_place q p) refl (still q);
-  reached = λ q. noted_kept (has s.reached q) (nat_lt 0 (level_in s.table q)) (is_in s.columns q) (same_place q p) (still q);
+  levels = λ q.
+      level_kept level (level_in s.table q) (leveled s q) (held s q) (same_place q p) refl (still q);
+  reached = λ q. noted_kept (has s.reached q) (leveled s q) (held s q) (same_place q p) (still q);
 }
   where
-    still : (q : Pos) → same_place q p ≡ true → (not (nat_lt 0 (level_in s.table q)) && is_in s.columns q) ≡ false
-    still q same = ap (λ r. not (nat_lt 0 (level_in s.table r)) && is_in s.columns r) (same_place_at q p same) ∙ taken
+    still : (q : Pos) → same_place q p ≡ true → (not (leveled s q) && held s q) ≡ false
+    still q same = ap (λ r. not (leveled s r) && held s r) (same_place_at q p same) ∙ taken
 
 -- what one item more of a list gives, joined to what those before it give
 flat_more : {X : Type 0} (f : X → List Pos) (xs : List X) (i : ℕ) (d : X) → i < length xs
@@ -203,17 +225,19 @@ flat_more f xs i d within =
     ∙ ap (λ ps. flat_map f (take i xs) ++ ps) (append-nil (f (get_or xs i d)))
 
 -- what one item more of a list reaches
-pub reaches_more : {X : Type 0} {level : ℕ} {a b c : SpreadData} (f : X → List Pos) (xs : List X) (i : ℕ) (d : X)
-    → i < length xs → 0 < level → Reaches level a b (flat_map f (take i xs))
-    → Reaches level b c (f (get_or xs i d)) → Reaches level a c (flat_map f (take (i + 1) xs))
-reaches_more {level = level} {a = a} {c = c} f xs i d within some first second =
-    subst (Reaches level a c) (sym (flat_more f xs i d within)) (reaches_on some first second)
+pub reaches_more : {X : Type 0} {level : ℕ} {a b c : SpreadData}
+    (f : X → List Pos) (xs : List X) (i : ℕ) (d : X) → i < length xs → 0 < level
+    → Reaches level a b (flat_map f (take i xs)) → Reaches level b c (f (get_or xs i d))
+    → Reaches level a c (flat_map f (take (i + 1) xs))
+reaches_more f xs i d within some first second =
+    reaches_as (sym (flat_more f xs i d within)) (reaches_on some first second)
 
 -- what all items of a list reach, after the last of them
-pub reaches_all : {X : Type 0} {level : ℕ} {a b : SpreadData} (f : X → List Pos) (xs : List X) (i : ℕ) (ps : List Pos)
-    → length xs ≤ i → flat_map f xs ≡ ps → Reaches level a b (flat_map f (take i xs)) → Reaches level a b ps
-reaches_all {level = level} {a = a} {b = b} f xs i ps past give reaches =
-    subst (Reaches level a b) (ap (flat_map f) (take_all i xs past) ∙ give) reaches
+pub reaches_all : {X : Type 0} {level : ℕ} {a b : SpreadData}
+    (f : X → List Pos) (xs : List X) (i : ℕ) (ps : List Pos) → length xs ≤ i → flat_map f xs ≡ ps
+    → Reaches level a b (flat_map f (take i xs)) → Reaches level a b ps
+reaches_all f xs i ps past give reaches =
+    reaches_as (ap (flat_map f) (take_all i xs past) ∙ give) reaches
 
 -- dust beside dust on one side
 pub first_links : (w : Pos → Cell) (p : Pos) (s : Side)
@@ -222,19 +246,22 @@ unfolding dust_at links_beside
 first_links w p s = refl
 
 -- each list of the definitions, as what its items give, joined
-pub all_sides_give : (w : Pos → Cell) (p : Pos) → is_dust (w p) ≡ true → flat_map (links_on w p) all_sides ≡ links w p
+abbrev all_links : (Pos → Cell) → Pos → List Pos
+all_links w p =
+    links_on w p side.East
+    ++ (links_on w p side.West ++ (links_on w p side.South ++ links_on w p side.North))
+
+pub all_sides_give : (w : Pos → Cell) (p : Pos) → is_dust (w p) ≡ true
+    → flat_map (links_on w p) all_sides ≡ links w p
 unfolding links
 all_sides_give w p dust =
     ap (λ ps. links_on w p side.East ++ (links_on w p side.West ++ (links_on w p side.South ++ ps)))
     (append-nil (links_on w p side.North))
-    ∙ sym (ap (λ b. if b then links_on w p side.East
-    ++ (links_on w p side.West ++ (links_on w p side.South ++ links_on w p side.North)) else []) dust)
+    ∙ sym (ap (λ b. if b then all_links w p else []) dust)
 
 pub no_links : (w : Pos → Cell) (p : Pos) → is_dust (w p) ≡ false → links w p ≡ []
 unfolding links
-no_links w p none =
-    ap (λ b. if b then links_on w p side.East
-    ++ (links_on w p side.West ++ (links_on w p side.South ++ links_on w p side.North)) else []) none
+no_links w p none = ap (λ b. if b then all_links w p else []) none
 
 pub all_dirs_give : (f : Dir → List Pos) → flat_map f all_dirs ≡ each_dir f
 all_dirs_give f =
@@ -249,27 +276,26 @@ dust_gives w [] = refl
 dust_gives w (p ∷ ps) = ap (λ qs. links w p ++ qs) (dust_gives w ps)
 
 -- the dust that the devices of one sector more feed
-pub sectors_more : (m : MapData) (w : Pos → Cell) (k n : ℕ)
-    → fed_by_sectors m w k (suc n) ≡ fed_by_sectors m w k n ++ fed_by w (devices_on m (k + n))
-sectors_more m w k zero =
-    append-nil (fed_by w (devices_on m k)) ∙ ap (λ j. fed_by w (devices_on m j)) (omega arith)
-sectors_more m w k (suc n) =
-    ap (λ ps. fed_by w (devices_on m k) ++ ps) (sectors_more m w (suc k) n)
-    ∙ sym (append_assoc (fed_by w (devices_on m k)) (fed_by_sectors m w (suc k) n) (fed_by w (devices_on m (suc k + n))))
-    ∙ ap (λ j. (fed_by w (devices_on m k) ++ fed_by_sectors m w (suc k) n) ++ fed_by w (devices_on m j)) (omega arith)
+module _ (m : MapData) (w : Pos → Cell) where
+  of_sector : ℕ → List Pos
+  of_sector k = fed_by w (devices_on m k)
 
--- what the devices of one sector more reach
-pub sector_reaches : {a b c : SpreadData} (m : MapData) (w : Pos → Cell) (first n : ℕ) → first ≤ n
-    → Reaches 15 a b (fed_by_sectors m w first (n - first)) → Reaches 15 b c (fed_by w (devices_on m n))
-    → Reaches 15 a c (fed_by_sectors m w first (n + 1 - first))
-sector_reaches m w first n least before here =
-    let count : suc (n - first) ≡ n + 1 - first = omega arith in
-    let number : n ≡ first + (n - first) = omega arith in
-    reaches_as (sym (sectors_more m w first (n - first)) ∙ ap (fed_by_sectors m w first) count)
-    (reaches_on (omega arith) before (reaches_as (ap (λ k. fed_by w (devices_on m k)) number) here))
+  sectors_more : (k n : ℕ) → fed_by_sectors m w k (suc n) ≡ fed_by_sectors m w k n ++ of_sector (k + n)
+  unfolding of_sector
+  sectors_more k zero = append-nil (of_sector k) ∙ ap of_sector (omega arith)
+  sectors_more k (suc n) =
+      let further = fed_by_sectors m w (suc k) n in
+      ap (λ ps. of_sector k ++ ps) (sectors_more (suc k) n)
+      ∙ sym (append_assoc (of_sector k) further (of_sector (suc k + n)))
+      ∙ ap (λ j. (of_sector k ++ further) ++ of_sector j) (omega arith)
 
--- the same under other names of all that is named
-pub reaches_same : {k level : ℕ} {a b c : SpreadData} {ps qs : List Pos} → k ≡ level → a ≡ b → ps ≡ qs
-    → Reaches k a c ps → Reaches level b c qs
-reaches_same {level = level} {a = a} {b = b} {c = c} {ps = ps} same_level same same_list reaches =
-    reaches_as same_list (subst (λ s. Reaches level s c ps) same (subst (λ k. Reaches k a c ps) same_level reaches))
+  -- and what they reach
+  pub sector_reaches : {a b c : SpreadData} (first n : ℕ) → first ≤ n
+      → Reaches 15 a b (fed_by_sectors m w first (n - first)) → Reaches 15 b c (fed_by w (devices_on m n))
+      → Reaches 15 a c (fed_by_sectors m w first (n + 1 - first))
+  unfolding of_sector
+  sector_reaches first n least before here =
+      let count : suc (n - first) ≡ n + 1 - first = omega arith in
+      let number : n ≡ first + (n - first) = omega arith in
+      reaches_as (sym (sectors_more first (n - first)) ∙ ap (fed_by_sectors m w first) count)
+      (reaches_on (omega arith) before (reaches_as (ap of_sector number) here))

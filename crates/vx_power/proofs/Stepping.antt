@@ -1,19 +1,17 @@
 -- Steps towards a position of the world fit, whatever lies between.
-use Rattle.std.proofs.Common.{◌≡◌, ℕ, pos, Bool, true, false, inl, inr, List, [], ◌∷◌, Option, Some, None, refl, sym, ap, ◌∙◌, arith}
+use Rattle.std.proofs.Common.{◌≡◌, pos, true, inl, inr, [], ◌∷◌, Option, Some, None, sym, ap, ◌∙◌, arith}
 use Rattle.std.specs.Option.{SomeIff, option_to_list}
-use Rattle.std.specs.Prelude.{ℤ, ◌+ℤ◌, ◌-ℤ◌, unsigned_abs, FitsSigned}
+use Rattle.std.specs.Prelude.{ℤ, ◌+ℤ◌, ◌-ℤ◌, FitsSigned}
 use Rattle.std.specs.Int.{w32}
 use Rattle.std.proofs.lemmas.Bool.{and_parts, cases_Bool, false≢true}
 use Rattle.std.proofs.lemmas.Int.{ints}
 use Rattle.vx_block.specs.declared.side.Side.{Side}
 use Rattle.vx_block.specs.Components.{is_dust}
-use Rattle.vx_block.specs.Conductors.{conducts}
-use Rattle.vx_geom.specs.declared.dir.Dir.TheVariants.{Up, Down}
 use Rattle.vx_geom.specs.declared.pos.Pos.{Pos}
-use Rattle.vx_geom.specs.Neighbor.{neighbor, FitsPos}
+use Rattle.vx_geom.specs.Neighbor.{FitsPos}
 use Rattle.vx_geom.specs.Sizes.{Sizes, AreSizes, is_below, is_inside}
 use Rattle.vx_geom.proofs.SectorLemmas.{below_at}
-use Rattle.vx_cells.specs.Maps.{MapData, cell_on, far, is_near}
+use Rattle.vx_cells.specs.Maps.{MapData, cell_on, far}
 use Rattle.vx_cells.proofs.MapLemmas.{near_inside, outside_is_air}
 use Rattle.vx_power.specs.Dust.{beside, over, under, links_up, links_down}
 
@@ -21,7 +19,9 @@ use Rattle.vx_power.specs.Dust.{beside, over, under, links_up, links_down}
 pub dust_inside : (m : MapData) (p : Pos) → is_dust (cell_on m p) ≡ true → is_inside m.sizes p ≡ true
 dust_inside m p dust = elim (cases_Bool (is_inside m.sizes p)) [
   | inl inside ↦ inside
-  | inr outside ↦ absurd (false≢true (sym (ap is_dust (outside_is_air m p (λ inside. false≢true (sym outside ∙ inside)))) ∙ dust))
+  | inr outside ↦
+      let air = outside_is_air m p (λ inside. false≢true (sym outside ∙ inside)) in
+      absurd (false≢true (sym (ap is_dust air) ∙ dust))
 ]
 
 -- a coordinate near one that a world may have fits
@@ -57,21 +57,26 @@ module _ (v : Sizes) (sizes : AreSizes v) (p : Pos) where
       record { y = past_it p.y in_y.0; z = at_it p.z in_y.1; x = at_it p.x in_x.0 }
 
 -- the steps to the dust that dust links to, one higher or lower
-pub climbs : (m : MapData) (p : Pos) (side : Side) → AreSizes m.sizes → links_up (cell_on m) p side ≡ true
-    → FitsPos (beside p side) × FitsPos (over (beside p side))
+pub climbs : (m : MapData) (p : Pos) (side : Side) → AreSizes m.sizes
+    → links_up (cell_on m) p side ≡ true → FitsPos (beside p side) × FitsPos (over (beside p side))
 unfolding links_up
 climbs m p side sizes up =
-    let inside = dust_inside m (over (beside p side)) (and_parts _ _ up).0 in
-    (fits_under m.sizes sizes (beside p side) inside, fits_inside m.sizes sizes (over (beside p side)) inside)
+    let inside = dust_inside m (over (beside p side)) (and_parts _ _ up).0 in (
+      fits_under m.sizes sizes (beside p side) inside,
+      fits_inside m.sizes sizes (over (beside p side)) inside,
+    )
 
-pub descends : (m : MapData) (p : Pos) (side : Side) → AreSizes m.sizes → links_down (cell_on m) p side ≡ true
-    → FitsPos (beside p side) × FitsPos (under (beside p side))
+pub descends : (m : MapData) (p : Pos) (side : Side) → AreSizes m.sizes
+    → links_down (cell_on m) p side ≡ true → FitsPos (beside p side) × FitsPos (under (beside p side))
 unfolding links_down
 descends m p side sizes down =
-    let inside = dust_inside m (under (beside p side)) (and_parts _ _ down).0 in
-    (fits_over m.sizes sizes (beside p side) inside, fits_inside m.sizes sizes (under (beside p side)) inside)
+    let inside = dust_inside m (under (beside p side)) (and_parts _ _ down).0 in (
+      fits_over m.sizes sizes (beside p side) inside,
+      fits_inside m.sizes sizes (under (beside p side)) inside,
+    )
 
 -- what is answered where it must be
-pub answered : {X : Type 0} {P : Type 0} (r : Option X) (v : X) → SomeIff r P v → P → option_to_list r ≡ v ∷ []
+pub answered : {X P : Type 0} (r : Option X) (v : X)
+    → SomeIff r P v → P → option_to_list r ≡ v ∷ []
 answered None v is holds = absurd (is holds)
 answered (Some x) v is holds = ap (λ y. y ∷ []) is.1

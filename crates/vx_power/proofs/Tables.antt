@@ -41,7 +41,8 @@ most_if false level other most rest = rest
 
 -- one position has another level, and all others have what they had
 module _ (old new : LevelTable) (p : Pos) (level : ℕ)
-    (changed : (q : Pos) → lookup (same_place q) new ≡ (if same_place p q then Some level else lookup (same_place q) old)) where
+    (changed : (q : Pos) → lookup (same_place q) new
+    ≡ (if same_place p q then Some level else lookup (same_place q) old)) where
   pub level_changed : (q : Pos) → level_in new q ≡ (if same_place q p then level else level_in old q)
   level_changed q =
       ap (λ found. unwrap_or found 0) (changed q)
@@ -50,4 +51,5 @@ module _ (old new : LevelTable) (p : Pos) (level : ℕ)
 
   pub most_changed : level ≤ 15 → AreMost old → AreMost new
   most_changed most are q =
-      subst (λ v. v ≤ 15) (sym (level_changed q)) (most_if (same_place q p) level (level_in old q) most (are q))
+      subst (λ v. v ≤ 15) (sym (level_changed q))
+      (most_if (same_place q p) level (level_in old q) most (are q))

@@ -20,8 +20,8 @@ pub fn dust_at(map: &Frozen<'_>, p: Pos, dir: Dir) -> Option<Pos>
     ensures { option_to_list result ≡ dust_at (cell_on map.now) p dir }
 {
     match map.next(p, dir) {
-        Some(next) => if map.cell(next).is_dust() { Some(next) } else { None },
-        None => None,
+        Some(next) if map.cell(next).is_dust() => Some(next),
+        _ => None,
     }
 }
 
@@ -54,7 +54,11 @@ pub fn dust_given(map: &Frozen<'_>, cell: &Cell, p: Pos, dir: Dir) -> Option<Pos
     ensures { option_to_list result
         ≡ (if gives cell.now dir then dust_at (cell_on map.now) p dir else []) }
 {
-    if gives(*cell, dir) { dust_at(map, p, dir) } else { None }
+    if gives(*cell, dir) {
+        dust_at(map, p, dir)
+    } else {
+        None
+    }
 }
 
 /// The conductor in that direction that a cell at a position drives.
@@ -67,7 +71,7 @@ pub fn driven(map: &Frozen<'_>, cell: &Cell, p: Pos, dir: Dir) -> Option<Pos>
         return None;
     }
     match map.next(p, dir) {
-        Some(next) => if map.cell(next).conducts() { Some(next) } else { None },
-        None => None,
+        Some(next) if map.cell(next).conducts() => Some(next),
+        _ => None,
     }
 }

@@ -14,8 +14,8 @@ ghost use Rattle.vx_power.specs.Spreading.{dust_at, each_dir, fed_towards, fed_f
 
 use crate::columns::Columns;
 use crate::dust_near::{driven, dust_at, dust_given, dust_over, dust_under};
-use crate::leveled::Leveled;
 use crate::level_table::Levels;
+use crate::leveled::Leveled;
 use std::alloc::{AllocError, Global};
 use std::marker::Model;
 use std::mem;
@@ -178,7 +178,12 @@ impl Spread {
     }
 
     // Reaches what dust at any of these positions links to.
-    fn reach_all_links(&mut self, map: &Frozen<'_>, from: &[Pos], level: u8) -> Result<(), AllocError>
+    fn reach_all_links(
+        &mut self,
+        map: &Frozen<'_>,
+        from: &[Pos],
+        level: u8,
+    ) -> Result<(), AllocError>
         requires some { 0 < level }
         requires most { level ≤ 15 }
         ensures { OnOk result (Reaches level self.old self.new
@@ -223,7 +228,6 @@ impl Spread {
     }
 
     // Reaches a position, if there is one.
-    #[tactic(auto, using(crate::proofs::Reaching::reaches_none))]
     fn reach_found(&mut self, found: Option<Pos>, level: u8) -> Result<(), AllocError>
         requires some { 0 < level }
         requires most { level ≤ 15 }

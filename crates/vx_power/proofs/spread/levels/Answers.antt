@@ -12,21 +12,25 @@ loop-links-init c =
     let m = c.args.map.now in
     let k = c.args.sector in
     let first = first_near m.sizes k in
+    let fed = fed_by_sectors m (cell_on m) first (end_near m.sizes k - first) in
     let start : SpreadData = record { columns = columns_around m.sizes k 16; table = []; reached = [] } in
     let from : c.new-spread.result ≡ start =
     c.new-spread.ensures ∙ ap (λ around. record start { columns = around })
     (c.around-columns.ensures ∙ ap (λ v. columns_around v k 16) c.bounds.ensures) in
-    let reaches : Reaches 15 start c.begin.new.self (fed_by_sectors m (cell_on m) first (end_near m.sizes k - first)) =
-    subst (λ s. Reaches 15 s c.begin.new.self (fed_by_sectors m (cell_on m) first (end_near m.sizes k - first))) from
-    c.in_ok-begin.ensures in
-    record { columns = reaches.columns; spread = begun m k c.begin.new.self c.soundness.ensures c.requires reaches }
+    let reaches : Reaches 15 start c.begin.new.self fed =
+    subst (λ s. Reaches 15 s c.begin.new.self fed) from c.in_ok-begin.ensures in
+    record {
+      columns = reaches.columns;
+      spread = begun m k c.begin.new.self c.soundness.ensures c.requires reaches;
+    }
 
 pub loop-links-preserved : goal.loop-links-preserved
 loop-links-preserved c =
     let next : 15 - (14 - c.loop-links.links) ≡ c.loop-links.links + 1 = omega arith in
     record {
       columns = c.in_ok-go_on.ensures.columns ∙ c.loop-links.invariant.columns;
-      spread = subst (λ n. IsSpread (cell_on c.args.map.now) n c.go_on.new.self) next c.in_ok-go_on.ensures.spread;
+      spread = subst (λ n. IsSpread (cell_on c.args.map.now) n c.go_on.new.self) next
+          c.in_ok-go_on.ensures.spread;
     }
 
 pub returns : goal.returns

@@ -14,6 +14,7 @@ invariant_of-self c = elim c.match-insert.branch [
 pub returns : goal.returns
 returns c = elim c.match-insert.branch [
   | in-Ok w ↦ rw w.result-is (rw (← c.self.view_is)
-      (level_changed c.self.inside.table.entries c.insert.new.self.entries c.args.p c.args.level w.in-Ok.ensures.updates.0))
+      (level_changed c.self.inside.table.entries c.insert.new.self.entries c.args.p c.args.level
+      w.in-Ok.ensures.updates.0))
   | in-Err w ↦ rw w.result-is tt
 ]

@@ -9,10 +9,11 @@ loop-device-init c = reaches_none
 
 pub loop-device-preserved : goal.loop-device-preserved
 loop-device-preserved c =
-    reaches_more (fed_from (cell_on c.args.map.now)) c.args.devices.now c.loop-device.device-index _ c.loop-device-test.true
-    (omega arith) c.loop-device.invariant c.in_ok-reach_fed.ensures
+    reaches_more (fed_from (cell_on c.args.map.now)) c.args.devices.now c.loop-device.device-index _
+    c.loop-device-test.true (omega arith) c.loop-device.invariant c.in_ok-reach_fed.ensures
 
 pub returns : goal.returns
 returns c =
     reaches_all (fed_from (cell_on c.args.map.now)) c.args.devices.now c.loop-device.device-index _
-    c.loop-device-test.false (devices_give (cell_on c.args.map.now) c.args.devices.now) c.loop-device.invariant
+    c.loop-device-test.false (devices_give (cell_on c.args.map.now) c.args.devices.now)
+    c.loop-device.invariant

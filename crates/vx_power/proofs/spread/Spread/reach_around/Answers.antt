@@ -1,4 +1,3 @@
-use Rattle.std.specs.Option.{option_to_list}
 use Rattle.std.proofs.Common.{arith}
 use Rattle.vx_geom.specs.Dirs.{all_dirs}
 use Rattle.vx_cells.specs.Maps.{cell_on}
@@ -11,5 +10,6 @@ loop-dir-init c = reaches_none
 
 pub loop-dir-preserved : goal.loop-dir-preserved
 loop-dir-preserved c =
-    reaches_more (dust_at (cell_on c.args.map.now) c.args.p) all_dirs c.loop-dir.dir-index _ c.loop-dir-test.true (omega arith)
-    c.loop-dir.invariant (reaches_as c.dust_at.ensures c.in_ok-reach_found.ensures)
+    reaches_more (dust_at (cell_on c.args.map.now) c.args.p) all_dirs c.loop-dir.dir-index _
+    c.loop-dir-test.true (omega arith) c.loop-dir.invariant
+    (reaches_as c.dust_at.ensures c.in_ok-reach_found.ensures)

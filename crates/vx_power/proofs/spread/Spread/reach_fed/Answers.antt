@@ -10,11 +10,12 @@ loop-dir-init c = reaches_none
 
 pub loop-dir-preserved : goal.loop-dir-preserved
 loop-dir-preserved c =
-    reaches_more (fed_towards (cell_on c.args.map.now) c.args.device) all_dirs c.loop-dir.dir-index _ c.loop-dir-test.true
-    (omega arith) c.loop-dir.invariant c.in_ok-reach_towards.ensures
+    reaches_more (fed_towards (cell_on c.args.map.now) c.args.device) all_dirs c.loop-dir.dir-index _
+    c.loop-dir-test.true (omega arith) c.loop-dir.invariant c.in_ok-reach_towards.ensures
 
 pub returns : goal.returns
 unfolding fed_from
 returns c =
     reaches_all (fed_towards (cell_on c.args.map.now) c.args.device) all_dirs c.loop-dir.dir-index _
-    c.loop-dir-test.false (all_dirs_give (fed_towards (cell_on c.args.map.now) c.args.device)) c.loop-dir.invariant
+    c.loop-dir-test.false (all_dirs_give (fed_towards (cell_on c.args.map.now) c.args.device))
+    c.loop-dir.invariant

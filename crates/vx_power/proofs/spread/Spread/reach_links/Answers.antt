@@ -1,4 +1,4 @@
-use Rattle.std.proofs.Common.{◌≡◌, true, false, sym, ◌∙◌, ap}
+use Rattle.std.proofs.Common.{◌≡◌, true, false}
 use Rattle.vx_block.specs.Components.{is_dust}
 use Rattle.vx_block.specs.Sides.{all_sides}
 use Rattle.vx_cells.specs.Maps.{cell_on}
@@ -16,11 +16,11 @@ loop-side-init c = reaches_none
 
 pub loop-side-preserved : goal.loop-side-preserved
 loop-side-preserved c =
-    reaches_more (links_on (cell_on c.args.map.now) c.args.p) all_sides c.loop-side.side-index _ c.loop-side-test.true
-    c.requires.some c.loop-side.invariant c.in_ok-reach_links_on.ensures
+    reaches_more (links_on (cell_on c.args.map.now) c.args.p) all_sides c.loop-side.side-index _
+    c.loop-side-test.true c.requires.some c.loop-side.invariant c.in_ok-reach_links_on.ensures
 
 pub returns : goal.returns
 returns c =
     let dust : is_dust (cell_on c.args.map.now c.args.p) ≡ true = cc in
-    reaches_all (links_on (cell_on c.args.map.now) c.args.p) all_sides c.loop-side.side-index _ c.loop-side-test.false
-    (all_sides_give (cell_on c.args.map.now) c.args.p dust) c.loop-side.invariant
+    reaches_all (links_on (cell_on c.args.map.now) c.args.p) all_sides c.loop-side.side-index _
+    c.loop-side-test.false (all_sides_give (cell_on c.args.map.now) c.args.p dust) c.loop-side.invariant

@@ -16,7 +16,10 @@ returns c =
     let next = neighbor c.args.device d in
     on_ok_weaker c.reach_driven.result
     (λ driven. reaches_on (omega arith)
-    (reaches_as (c.dust_given.ensures ∙ ap (λ cell. if gives cell d then dust_at w c.args.device d else []) c.requires)
+    (reaches_as (c.dust_given.ensures
+    ∙ ap (λ cell. if gives cell d then dust_at w c.args.device d else []) c.requires)
     c.in_ok-reach_found.ensures)
-    (reaches_as (ap (λ cell. if drives cell d && conducts (w next) then each_dir (dust_at w next) else []) c.requires) driven))
+    (reaches_as
+    (ap (λ cell. if drives cell d && conducts (w next) then each_dir (dust_at w next) else []) c.requires)
+    driven))
     c.reach_driven.ensures

@@ -63,9 +63,10 @@ impl Game {
         let Some(cells) = self.sectors.get_mut(number as usize) else {
             return Ok(());
         };
-        if cells.holds(p) {
-            cells.set(p, cell)?;
+        if !cells.holds(p) {
+            return Ok(());
         }
+        cells.set(p, cell)?;
         Ok(())
     }
 }

@@ -97,9 +97,10 @@ is_air Air = true
 is_air _ = false
 
 -- a piston stands inside the world
-pub piston_inside : (m : MapData) (p : Pos) (d : Dir) (sticky out : Bool) → Piston d sticky out ≡ cell_on m p
-    → is_inside m.sizes p ≡ true
+pub piston_inside : (m : MapData) (p : Pos) (d : Dir) (sticky out : Bool)
+    → Piston d sticky out ≡ cell_on m p → is_inside m.sizes p ≡ true
 piston_inside m p d sticky out stands = elim (cases_Bool (is_inside m.sizes p)) [
   | inl inside ↦ inside
-  | inr outside ↦ absurd (false≢true (ap is_air (stands ∙ outside_is_air m p (λ inside. false≢true (sym outside ∙ inside)))))
+  | inr outside ↦ absurd (false≢true (ap is_air
+      (stands ∙ outside_is_air m p (λ inside. false≢true (sym outside ∙ inside)))))
 ]

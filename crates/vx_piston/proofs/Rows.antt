@@ -62,12 +62,14 @@ module _ (m : MapData) (d : Dir) (p : Pos) (cells : List Pos) (taken : Option (L
           → followed cells (row_at q c (row m d n (neighbor q d))) ≡ taken
       turn c is =
           ap (λ c. followed cells (row_at q c (row m d n (neighbor q d)))) is
-          ∙ ap (λ q. followed cells (row_at q (mobility_of (cell_on m q)) (row m d n (neighbor q d)))) found.1
+          ∙ ap (λ q. followed cells (row_at q (mobility_of (cell_on m q)) (row m d n (neighbor q d))))
+          found.1
           ∙ ap (followed cells) (sym (row_inside m d n p found.0))
           ∙ so_far
 
       -- a cell that is pushed is taken, and the row goes on
-      pub goes_on : Moves ≡ mobility_of (cell_on m q) → followed (cells ++ q ∷ []) (row m d n (neighbor q d)) ≡ taken
+      pub goes_on : Moves ≡ mobility_of (cell_on m q)
+          → followed (cells ++ q ∷ []) (row m d n (neighbor q d)) ≡ taken
       goes_on is = moved_over cells q (row m d n (neighbor q d)) ∙ turn Moves is
 
       -- one that is empty or breaks is the last

@@ -89,7 +89,8 @@ pub drawn_alone : (m : MapData) (d : Dir) (sticky : Bool) (p : Pos) → is_insid
     → p ∷ [] ≡ p ∷ (if_inside m (neighbor p d) ++ pulled m d sticky (neighbor (neighbor p d) d))
 drawn_alone m d sticky p inside outside =
     rw (none_inside m (neighbor p d) outside)
-    (rw (none_pulled m d sticky (neighbor (neighbor p d) d) (further_outside m.sizes p d inside outside)) refl)
+    (rw (none_pulled m d sticky (neighbor (neighbor p d) d)
+    (further_outside m.sizes p d inside outside)) refl)
 
 -- air is no piston
 abbrev is_air : Cell → Bool

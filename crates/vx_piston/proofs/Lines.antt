@@ -79,7 +79,8 @@ module _ (m : MapData) (d : Dir) where
   module _ (p : Pos) (inside : is_inside m.sizes p ≡ true) where
     -- the piston's cell, and a row
     pushed_row : (o : Option (List Pos)) → IfSome o (IsShort m d (neighbor p d) 13)
-        → IfSome (option_map (λ ps. record { at = p; facing = d; push = true; cells = p ∷ ps }) o) (IsMove m p)
+        → IfSome (option_map (λ ps. record { at = p; facing = d; push = true; cells = p ∷ ps }) o)
+        (IsMove m p)
     pushed_row None short = tt
     pushed_row (Some ps) short = record { at = refl; inside = inside; rest = ps; cells = refl; short = short }
 

@@ -27,7 +27,8 @@ whole m p move is = subst (IsLine m move.facing p) (sym is.cells) (refl, is.insi
 among_line : (m : MapData) (d : Dir) (p : Pos) (qs : List Pos) → IsLine m d p qs
     → (q : Pos) → IsAmong qs q → is_inside m.sizes q ≡ true
 among_line m d p [] line q among = absurd among
-among_line m d p (r ∷ qs) line q (inl same) = subst (λ q. is_inside m.sizes q ≡ true) (sym line.0 ∙ same) line.1
+among_line m d p (r ∷ qs) line q (inl same) =
+    subst (λ q. is_inside m.sizes q ≡ true) (sym line.0 ∙ same) line.1
 among_line m d p (r ∷ qs) line q (inr later) = among_line m d (neighbor p d) qs line.2 q later
 
 -- its position of a number lies as many steps further

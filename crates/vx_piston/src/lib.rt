@@ -3,8 +3,10 @@
 
 mod candidates;
 mod claims;
+mod laws;
 mod moves;
 
 pub use candidates::candidate;
 pub use claims::{Claims, claims};
+pub use laws::{moves_are_lines, moves_are_short, moves_begin_with_pistons, moves_stay_inside};
 pub use moves::{MAX_CELLS, Move};

@@ -9,7 +9,7 @@ use vx_geom::{Dir, Pos};
 pub const MAX_CELLS: usize = 14;
 
 /// What a piston would move.
-#[derive(Clone, Copy, Debug)]
+#[derive(Drop)]
 pub struct Move {
     /// Where the piston stands.
     pub at: Pos,

@@ -1,2 +1,3 @@
+pub mod ClaimLaws
 pub mod Claims
 pub mod Moves

@@ -2,9 +2,13 @@
 #![tactic(auto)]
 
 mod candidates;
-mod claims;
+mod claim_laws;
+mod claim_table;
+mod claiming;
 mod moves;
 
 pub use candidates::candidate;
-pub use claims::{Claims, claims};
+pub use claim_laws::unbeaten_moves_share_no_cell;
+pub use claim_table::Claims;
+pub use claiming::claims;
 pub use moves::{MAX_CELLS, Move};

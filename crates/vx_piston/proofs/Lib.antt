@@ -1,0 +1,4 @@
+pub mod Apart
+pub mod Firsts
+pub mod Rivals
+pub mod Wanted

@@ -1,6 +1,7 @@
 -- The first of two positions, and of all that a test holds of.
-use Rattle.std.proofs.Common.{◌≡◌, ◌≢◌, ◌⊎◌, true, false, if◌then◌else◌, inl, inr, Option, None, Some, sym, ap, ◌∙◌, subst}
+use Rattle.std.proofs.Common.{◌≡◌, ◌⊎◌, true, false, if◌then◌else◌, inl, inr, Option, None, Some, sym, ap, ◌∙◌, subst}
 use Rattle.std.proofs.lemmas.Bool.{both_ways, cases_Bool, or_from, false_from_ne_true}
+use Rattle.std.proofs.lemmas.Bool.Decides.{same_from_decides}
 use Rattle.vx_geom.specs.declared.pos.Pos.{Pos}
 use Rattle.vx_geom.specs.Order.{comes_before}
 use Rattle.vx_geom.proofs.OrderLemmas.{positions_ordered}
@@ -14,11 +15,9 @@ place_of p q same = subst (λ r. same_place p r ≡ true) same (own_place p)
 
 -- which of two positions is named first does not matter
 pub same_place_back : (p q : Pos) → same_place p q ≡ same_place q p
-same_place_back p q = elim (cases_Bool (same_place p q)) [
-  | inl same ↦ same ∙ sym (place_of q p (sym (place_is p q same)))
-  | inr apart ↦
-      apart ∙ sym (false_from_ne_true _ (λ back. both_ways _ apart (place_of p q (sym (place_is q p back)))))
-]
+same_place_back p q =
+    same_from_decides (same_place p q) (same_place q p) (place_is p q, place_of p q)
+    (λ same. sym (place_is q p same), λ same. place_of q p (sym same))
 
 -- of two positions at most one comes before the other
 not_back : (p q : Pos) → comes_before p q ≡ true → comes_before q p ≡ false
@@ -118,20 +117,20 @@ first_either P Q (Some a) None one other = (
 )
 first_either P Q (Some a) (Some b) one other = elim (cases_Bool (comes_before b a)) [
   | inl less ↦ subst (IsFirst (λ q. P q ⊎ Q q)) (sym (other_first a b less)) (
-      inr other.0,
-      λ q is. elim is [
-        | inl p ↦ false_from_ne_true _ (λ more.
-            both_ways _ (one.1 q p) (positions_ordered.transitive q b a more less))
-        | inr r ↦ other.1 q r
-      ],
-    )
+    inr other.0,
+    λ q is. elim is [
+      | inl p ↦ false_from_ne_true _ (λ more.
+          both_ways _ (one.1 q p) (positions_ordered.transitive q b a more less))
+      | inr r ↦ other.1 q r
+    ],
+  )
   | inr no_less ↦ subst (IsFirst (λ q. P q ⊎ Q q)) (sym (own_first a b no_less)) (
-      inl one.0,
-      λ q is. elim is [
-        | inl p ↦ one.1 q p
-        | inr r ↦ false_from_ne_true _ (λ more. both_ways _ no_less (no_later b q a (other.1 q r) more))
-      ],
-    )
+    inl one.0,
+    λ q is. elim is [
+      | inl p ↦ one.1 q p
+      | inr r ↦ false_from_ne_true _ (λ more. both_ways _ no_less (no_later b q a (other.1 q r) more))
+    ],
+  )
 ]
 
 -- the first of those that come before a position

@@ -1,8 +1,8 @@
 -- The first of the claims that a move meets in its cells.
-use Rattle.std.proofs.Common.{◌≡◌, ◌⊎◌, ℕ, ◌+◌, ◌<◌, true, false, List, [], ◌∷◌, take, length, get_or, Option, None, Some, inl, inr, refl, sym, ap, ◌∙◌, subst, if◌then◌else◌}
+use Rattle.std.proofs.Common.{◌≡◌, ℕ, ◌+◌, ◌<◌, true, false, List, [], ◌∷◌, take, length, get_or, Option, None, Some, inl, inr, refl, sym, ap, ◌∙◌, subst, if◌then◌else◌}
 use Rattle.std.specs.List.{list_any}
 use Rattle.std.specs.Map.{lookup}
-use Rattle.std.proofs.lemmas.Bool.{and_parts, and_from, both_ways, cases_Bool, or_cases, or_left, or_right, false≢true, false_from_ne_true}
+use Rattle.std.proofs.lemmas.Bool.{and_parts, and_from, both_ways, cases_Bool, or_cases, or_left, or_right, false_from_ne_true}
 use Rattle.std.proofs.lemmas.List.Folds.{list_any_more}
 use Rattle.vx_geom.specs.declared.pos.Pos.{Pos}
 use Rattle.vx_geom.specs.Order.{comes_before}
@@ -24,7 +24,9 @@ Rivals claims at ps q =
     ((claim : Moving) × IsAmong claims claim × (list_any (has claim.cells) ps ≡ true) × (claim.at ≡ q))
     × (comes_before q at ≡ true)
 
-wants_more : (claim : Moving) (claims : List Moving) (p q : Pos) → Wants claims p q → Wants (claim ∷ claims) p q
+-- what a claim wants is wanted with one claim more
+wants_more : (claim : Moving) (claims : List Moving) (p q : Pos)
+    → Wants claims p q → Wants (claim ∷ claims) p q
 wants_more claim claims p q is = (is.0, inr is.1, is.2, is.3)
 
 -- the claimant is the first that wants the cell
@@ -35,10 +37,19 @@ claimant_is_first (claim ∷ claims) p = elim (cases_Bool (has claim.cells p)) [
       subst (IsFirst (Wants (claim ∷ claims) p))
       (sym (ap (λ b. if b then first_of claim.at (claimant claims p) else claimant claims p) wants))
       (first_same (first_of claim.at (claimant claims p))
-      (λ q is. elim is [ inl same ↦ (claim, inl refl, wants, same) | inr more ↦ wants_more claim claims p q more ])
-      (λ q is. elim is.1 [ inl same ↦ inl (ap (λ m. m.at) same ∙ is.3) | inr more ↦ inr (is.0, more, is.2, is.3) ])
-      (first_either (λ q. claim.at ≡ q) (Wants claims p) (Some claim.at) (claimant claims p)
-      (refl, λ q same. subst (λ r. comes_before r claim.at ≡ false) same (positions_ordered.irreflexive claim.at))
+      (λ q is. elim is [
+        | inl same ↦ (claim, inl refl, wants, same)
+        | inr more ↦ wants_more claim claims p q more
+      ])
+      (λ q is. elim is.1 [
+        | inl same ↦ inl (ap (λ m. m.at) same ∙ is.3)
+        | inr more ↦ inr (is.0, more, is.2, is.3)
+      ])
+      (first_either (λ q. claim.at ≡ q) (Wants claims p) (Some claim.at) (claimant claims p) (
+        refl,
+        λ q same.
+            subst (λ r. comes_before r claim.at ≡ false) same (positions_ordered.irreflexive claim.at),
+      )
       (claimant_is_first claims p)))
   | inr not_wanted ↦
       subst (IsFirst (Wants (claim ∷ claims) p))
@@ -51,21 +62,17 @@ claimant_is_first (claim ∷ claims) p = elim (cases_Bool (has claim.cells p)) [
       (claimant_is_first claims p))
 ]
 
--- none among no cells
-pub no_rivals : (claims : List Moving) (at : Pos) → IsFirst (Rivals claims at []) None
-no_rivals claims at q is = false≢true is.0.2
-
 -- the first with one cell more: its first claimant, where that comes before, or the first so far
-pub rivals_more : (claims : List Moving) (table : List (Pos × Pos)) (at : Pos) (cells : List Pos) (i : ℕ) (p : Pos)
-    (first found next : Option Pos) → i < length cells → IsTable claims table
+pub rivals_more : (claims : List Moving) (table : List (Pos × Pos)) (at : Pos) (cells : List Pos)
+    (i : ℕ) (p : Pos) (first found next : Option Pos) → i < length cells → IsTable claims table
     → IsFirst (Rivals claims at (take i cells)) first
     → found ≡ before at (lookup (same_place (get_or cells i p)) table) → next ≡ first_found found first
     → IsFirst (Rivals claims at (take (i + 1) cells)) next
 rivals_more claims table at cells i p first found next inside told known found_is next_is =
     let here = get_or cells i p in
     let more = λ (m : Moving). list_any_more (has m.cells) cells i p inside in
-    let claimed = found_is ∙ ap (before at) (told here) in
-    subst (IsFirst (Rivals claims at (take (i + 1) cells))) (sym (next_is ∙ ap (λ o. first_found o first) claimed))
+    let claimed = next_is ∙ ap (λ o. first_found o first) (found_is ∙ ap (before at) (told here)) in
+    subst (IsFirst (Rivals claims at (take (i + 1) cells))) (sym claimed)
     (first_same (first_found (before at (claimant claims here)) first)
     (λ q is. elim is [
       | inl w ↦ ((w.0.0, w.0.1, more w.0.0 ∙ or_right _ _ w.0.2, w.0.3), w.1)

@@ -5,4 +5,4 @@ use Rattle.vx_piston.proofs.claim_table.Claims.add.Given as goal
 
 -- the cells so far are claimed
 abbrev pub invariant-loop-p : goal.invariant-loop-p
-invariant-loop-p l = Claimed (has (take l.p-index l.p-items)) l.m.at l.initial.self l.self
+invariant-loop-p l = Claimed (has (take l.p-index l.p-items)) l.m-inside.at l.initial.self l.self

@@ -6,12 +6,13 @@ use Rattle.vx_piston.proofs.claim_table.Claims.wins.Goals as goal
 
 pub loop-p-preserved : goal.loop-p-preserved
 loop-p-preserved c = λ claims table.
-    rivals_more claims c.args.self.now c.m.inside.at c.as_slice-p-items.result.now c.loop-p.p-index _ c.loop-p.first
-    c.before-in-loop-p.result c.first_found-first.result c.loop-p-test.true table (c.loop-p.invariant claims table)
-    c.before-in-loop-p.ensures c.first_found-first.ensures
+    rivals_more claims c.args.self.now c.m.inside.at c.as_slice-p-items.result.now c.loop-p.p-index _
+    c.loop-p.first c.before-in-loop-p.result c.first_found-first.result c.loop-p-test.true table
+    (c.loop-p.invariant claims table) c.before-in-loop-p.ensures c.first_found-first.ensures
 
 pub returns : goal.returns
 returns c = rw (← c.m.view_is) (λ claims table.
-    let all = take_all c.loop-p.p-index c.as_slice-p-items.result.now c.loop-p-test.false ∙ c.as_slice-p-items.ensures.value in
-    beaten_by_first claims (record { at = c.m.inside.at; facing = c.m.inside.facing; push = c.m.inside.push; cells = c.m.inside.cells.items }) c.loop-p.first
-    (subst (λ ps. IsFirst (Rivals claims c.m.inside.at ps) c.loop-p.first) all (c.loop-p.invariant claims table)))
+    let all = take_all c.loop-p.p-index _ c.loop-p-test.false ∙ c.as_slice-p-items.ensures.value in
+    let known = c.loop-p.invariant claims table in
+    beaten_by_first claims _ c.loop-p.first
+    (subst (λ ps. IsFirst (Rivals claims c.m.inside.at ps) c.loop-p.first) all known))

@@ -1,6 +1,10 @@
+pub mod Apart
 pub mod Cases
 pub mod Ends
+pub mod Firsts
 pub mod Lines
 pub mod MoveLaws
 pub mod Pushes
+pub mod Rivals
 pub mod Rows
+pub mod Wanted

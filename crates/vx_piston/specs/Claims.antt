@@ -30,6 +30,16 @@ abbrev pub first_of : Pos → Option Pos → Option Pos
 first_of p None = Some p
 first_of p (Some q) = if comes_before q p then Some q else Some p
 
+-- the first of two pistons, or the one that there is
+abbrev pub first_found : Option Pos → Option Pos → Option Pos
+first_found None other = other
+first_found (Some p) other = first_of p other
+
+-- a piston, where it comes before another
+abbrev pub before : Pos → Option Pos → Option Pos
+before at None = None
+before at (Some q) = if comes_before q at then Some q else None
+
 -- the first piston whose claim takes a cell
 abbrev pub claimant : List Moving → Pos → Option Pos
 claimant [] p = None

@@ -1,3 +1,4 @@
+pub mod ClaimLaws
 pub mod Claims
 pub mod Laws
 pub mod Moves

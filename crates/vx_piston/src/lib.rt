@@ -2,11 +2,15 @@
 #![tactic(auto)]
 
 mod candidates;
-mod claims;
+mod claim_laws;
+mod claim_table;
+mod claiming;
 mod laws;
 mod moves;
 
 pub use candidates::candidate;
-pub use claims::{Claims, claims};
+pub use claim_laws::unbeaten_moves_share_no_cell;
+pub use claim_table::Claims;
+pub use claiming::claims;
 pub use laws::{moves_are_lines, moves_are_short, moves_begin_with_pistons, moves_stay_inside};
 pub use moves::{MAX_CELLS, Move};

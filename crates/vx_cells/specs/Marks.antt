@@ -38,3 +38,8 @@ lesser (Some a) (Some b) = Some (min a b)
 pub record AreFilled (words filled : List ℕ) : Type 0 where
   pub room : length words ≤ 64 * length filled
   pub each : (k : ℕ) → is_marked filled k ≡ nat_lt 0 (slice_index_or words k 0)
+
+-- and whether any index may be marked
+pub record AreNoted (words filled : List ℕ) (has_any : Bool) : Type 0 where
+  pub each_word : AreFilled words filled
+  pub none : has_any ≡ false → (index : ℕ) → is_marked words index ≡ false

@@ -6,23 +6,24 @@ use std::alloc::{AllocError, Global};
 use std::marker::Model;
 
 /// Which indices of a sector are marked. The marked ones are found in order, and what is not marked
-/// is passed 4,096 indices at a time.
+/// is passed 4,096 indices at a time, or all at once where none was ever marked.
 // The second level has a bit for each word of the first that has any.
 #[derive(Drop)]
 pub struct Marks {
     bits: Bits,
     filled: Bits,
+    has_any: bool,
 }
 
 impl Model for Marks {
     ghost use Rattle.std.specs.Prelude.{ℕ, List};
-    ghost use Rattle.vx_cells.specs.Marks.{AreFilled};
+    ghost use Rattle.vx_cells.specs.Marks.{AreNoted};
 
     ghost Value = { List ℕ };
 
     ghost view = { λ m. m.bits };
 
-    ghost invariant = { λ m. AreFilled m.bits m.filled };
+    ghost invariant = { λ m. AreNoted m.bits m.filled m.has_any };
 }
 
 impl Marks {
@@ -36,6 +37,7 @@ impl Marks {
         Ok(Marks {
             bits: Bits::new(alloc, words)?,
             filled: Bits::new(alloc, words.div_ceil(64))?,
+            has_any: false,
         })
     }
 
@@ -47,6 +49,7 @@ impl Marks {
             ≡ (if nat_eq i index then marked else is_marked self.old i) }
     {
         self.bits.set(index, marked);
+        self.has_any = self.has_any || marked;
         let word = index / 64;
         self.filled.set(word, self.bits.has_marks(word));
     }
@@ -55,6 +58,9 @@ impl Marks {
     pub fn first_from(&self, from: u32) -> Option<u32>
         ensures { IsFirstMarked self.now from result }
     {
+        if !self.has_any {
+            return None;
+        }
         if self.bits.count() <= from {
             return None;
         }
@@ -72,6 +78,7 @@ impl Marks {
         Ok(Marks {
             bits: self.bits.try_clone()?,
             filled: self.filled.try_clone()?,
+            has_any: self.has_any,
         })
     }
 }

@@ -5,8 +5,10 @@ use Rattle.vx_cells.proofs.marks.Marks.new.Goals as goal
 
 pub invariant_of-result : goal.invariant_of-result
 invariant_of-result c =
-    rw (c.in_ok-new.ensures, c.in_ok-new-2.ensures)
-    (none_filled (c.args.count / 64) c.div_ceil.result (omega (arith, c.div_ceil.ensures)))
+    rw (c.in_ok-new.ensures, c.in_ok-new-2.ensures) (record {
+      each_word = none_filled (c.args.count / 64) c.div_ceil.result (omega (arith, c.div_ceil.ensures));
+      none = λ empty. none_marked (c.args.count / 64);
+    })
 
 pub returns : goal.returns
 returns c = rw c.in_ok-new.ensures (

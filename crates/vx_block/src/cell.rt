@@ -128,7 +128,8 @@ impl Cell {
             Cell::Stone | Cell::Dirt | Cell::Planks | Cell::Glass | Cell::Lamp(_) =>
                 Mobility::Moves,
             Cell::Piston {
-                extended: false, ..
+                extended: false,
+                ..
             } => Mobility::Moves,
             Cell::Dust(_) | Cell::Torch { .. } | Cell::Lever { .. } | Cell::Repeater(_) =>
                 Mobility::Breaks,

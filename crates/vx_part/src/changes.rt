@@ -28,7 +28,7 @@ pub fn next_parts<L: Leveled>(
         ≡ changes (cell_on map.now) (L.level levels.now) (positions map.now.sizes sector)) }
     ensures exact { AreLevels map.now sector (L.level levels.now)
         → IfOk result (λ found. found.items ≡ changes (cell_on map.now)
-            (dust_level (cell_on map.now)) (positions map.now.sizes sector)) }
+        (dust_level (cell_on map.now)) (positions map.now.sizes sector)) }
 {
     map.soundness();
     let components = map.components(alloc, sector)?;

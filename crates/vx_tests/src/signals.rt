@@ -33,7 +33,12 @@ fn dust_fades_over_the_border_of_a_sector(rt: HostRuntime) -> Result<(), Fail> {
         put(&rt, &mut game, x, 5, "dust:0")?;
     }
     game.tick(rt.alloc())?;
-    for (x, text) in [(6, "dust:15"), (16, "dust:5"), (20, "dust:1"), (21, "dust:0")] {
+    for (x, text) in [
+        (6, "dust:15"),
+        (16, "dust:5"),
+        (20, "dust:1"),
+        (21, "dust:0"),
+    ] {
         shows(&rt, &game, x, 5, text);
     }
     Ok(())
@@ -48,9 +53,17 @@ fn a_repeater_of_four_ticks_finishes_its_count(rt: HostRuntime) -> Result<(), Fa
     game.tick(rt.alloc())?;
     shows(&rt, &game, 6, 5, "repeater:east:4:off:3");
     put(&rt, &mut game, 5, 5, "lever:down:off")?;
-    for text in ["off:2", "off:1", "on:0", "on:3", "on:2", "on:1", "off:0", "off:0"] {
+    for text in [
+        "off:2", "off:1", "on:0", "on:3", "on:2", "on:1", "off:0", "off:0",
+    ] {
         game.tick(rt.alloc())?;
-        shows(&rt, &game, 6, 5, format!(in rt.alloc(); "repeater:east:4:{text}")?.as_str());
+        shows(
+            &rt,
+            &game,
+            6,
+            5,
+            format!(in rt.alloc(); "repeater:east:4:{text}")?.as_str(),
+        );
     }
     Ok(())
 }
@@ -86,9 +99,21 @@ fn a_lamp_goes_out_a_tick_late_and_a_torch_stays_off(rt: HostRuntime) -> Result<
     put(&rt, &mut game, 6, 8, "stone")?;
     put(&rt, &mut game, 7, 8, "torch:west:on")?;
     for (lever, lamp) in [("on", "on:0"), ("off", "on:1"), ("off", "off:0")] {
-        put(&rt, &mut game, 5, 5, format!(in rt.alloc(); "lever:down:{lever}")?.as_str())?;
+        put(
+            &rt,
+            &mut game,
+            5,
+            5,
+            format!(in rt.alloc(); "lever:down:{lever}")?.as_str(),
+        )?;
         game.tick(rt.alloc())?;
-        shows(&rt, &game, 6, 5, format!(in rt.alloc(); "lamp:{lamp}")?.as_str());
+        shows(
+            &rt,
+            &game,
+            6,
+            5,
+            format!(in rt.alloc(); "lamp:{lamp}")?.as_str(),
+        );
         shows(&rt, &game, 7, 8, "torch:west:off");
     }
     Ok(())

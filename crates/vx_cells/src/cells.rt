@@ -1,4 +1,4 @@
-ghost use Rattle.std.specs.Prelude.{◌≡◌, ◌<◌, ◌↔◌, true, false, IsTrue, IfOk, OnOk, OnErr, IfSome, IsOk};
+ghost use Rattle.std.specs.Prelude.{◌≡◌, ◌<◌, ◌↔◌, [], true, false, IsTrue, IfOk, OnOk, OnErr, IfSome, IsOk};
 ghost use Rattle.std.specs.List.{All};
 ghost use Rattle.vx_geom.specs.Sizes.{sector_count, sector_cells};
 ghost use Rattle.vx_cells.specs.Listed.{components_of, devices_of, listed_of, is_listed_at};
@@ -168,6 +168,14 @@ impl Cells {
         ensures { IfOk result (λ found. found.items ≡ devices_of self.now) }
     {
         self.listed(alloc, false)
+    }
+
+    /// Whether a device may stand in this sector; without one it costs a look.
+    pub fn has_devices(&self) -> bool
+        ensures { result ≡ false → devices_of self.now ≡ [] }
+    {
+        self.bounds.soundness();
+        self.devices.first_from(0).is_some()
     }
 
     // The positions of devices, and of dust where that is asked for too, in order.

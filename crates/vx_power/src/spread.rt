@@ -96,6 +96,9 @@ impl Spread {
         ensures { OnOk result (Reaches 15 self.old self.new
             (fed_by (cell_on map.now) (devices_on map.now sector))) }
     {
+        if !map.has_devices(sector) {
+            return Ok(());
+        }
         let devices = map.devices(alloc, sector)?;
         self.reach_all_fed(map, devices.as_slice())
     }

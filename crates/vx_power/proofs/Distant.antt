@@ -9,7 +9,7 @@ use Rattle.vx_power.specs.Levels.{is_in}
 use Rattle.vx_power.specs.Local.{columns_by, LevelsAreLocal}
 use Rattle.vx_power.specs.Signals.{is_fed}
 use Rattle.vx_power.specs.Walks.{IsAmong}
-use Rattle.vx_power.proofs.Around.{IsOff, itself, step_off, off_joined, link_off, LiesIn, in_columns}
+use Rattle.vx_power.proofs.Around.{IsOff, itself, step_off, off_joined, link_off, in_columns}
 use Rattle.vx_power.proofs.Carried.{level_carried}
 use Rattle.vx_power.proofs.Local.{Near, is_fed_same, links_same}
 

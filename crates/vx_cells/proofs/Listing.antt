@@ -1,6 +1,6 @@
 -- What is listed of a sector, in the order of its positions.
-use Rattle.std.proofs.Common.{◌≡◌, ℕ, zero, suc, ◌+◌, ◌-◌, ◌<◌, ◌≤◌, Bool, true, false, List, [], ◌∷◌, ◌++◌, slice_get, cond, Option, Some, None, is_some, refl, ap, sym, ◌∙◌, arith, append_assoc, append-nil}
-use Rattle.std.proofs.lemmas.Bool.{true≢false}
+use Rattle.std.proofs.Common.{◌≡◌, ℕ, nat_lt, length, zero, suc, ◌+◌, ◌-◌, ◌<◌, ◌≤◌, Bool, true, false, List, [], ◌∷◌, ◌++◌, slice_get, cond, Option, Some, None, is_some, refl, ap, sym, ◌∙◌, arith, append_assoc, append-nil}
+use Rattle.std.proofs.lemmas.Bool.{lt-ltb}
 use Rattle.std.specs.List.{filter}
 use Rattle.vx_block.specs.declared.cell.Cell.{Cell}
 use Rattle.vx_block.specs.Components.{is_device, is_component}
@@ -80,14 +80,20 @@ module _ (with_dust : Bool) (c : SectorCells) where
         let here = passed c.bounds c.sector asked gap 0 gap from to (omega arith) (omega arith) none in
         sym (append-nil found) ∙ ap (λ ps. found ++ ps) (sym here) ∙ so_far
 
--- where no index of a device is found none stands in the sector
-pub no_devices : (c : SectorCells) (found : Option ℕ)
-    → IsFirst (is_listed_at false c) (sector_cells c.bounds) 0 found → is_some found ≡ false
-    → devices_of c ≡ []
+one_or_more : (p : Pos) (ps : List Pos) → nat_lt 0 (length (p ∷ ps)) ≡ true
+one_or_more p ps = lt-ltb 0 (length (p ∷ ps)) (omega arith)
+
+-- an index of a device is found exactly where one stands in the sector
+pub some_device : (c : SectorCells) (found : Option ℕ)
+    → IsFirst (is_listed_at false c) (sector_cells c.bounds) 0 found
+    → is_some found ≡ nat_lt 0 (length (devices_of c))
 unfolding devices_of
-no_devices c None none without =
-    sym (listed_all false c 0 [] (omega arith) (listed_first false c) none)
-no_devices c (Some i) first without = absurd (true≢false without)
+some_device c None none = ap (λ ps. nat_lt 0 (length ps))
+    (listed_all false c 0 [] (omega arith) (listed_first false c) none)
+some_device c (Some i) first =
+    sym (one_or_more (position_in_sector c.bounds c.sector i) (listed_from false c (i + 1)))
+    ∙ ap (λ ps. nat_lt 0 (length ps))
+    (listed_on false c 0 [] (omega arith) (listed_first false c) i _ refl first)
 
 -- two tests that agree on the positions of a sector find the same
 module _ (f g : Pos → Bool) (v : Sizes) (k : ℕ) (sizes : AreSizes v) (low : k < sector_count v)

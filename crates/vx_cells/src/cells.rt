@@ -1,4 +1,4 @@
-ghost use Rattle.std.specs.Prelude.{◌≡◌, ◌<◌, ◌↔◌, [], true, false, IsTrue, IfOk, OnOk, OnErr, IfSome, IsOk};
+ghost use Rattle.std.specs.Prelude.{◌≡◌, ◌<◌, ◌↔◌, nat_lt, length, true, false, IsTrue, IfOk, OnOk, OnErr, IfSome, IsOk};
 ghost use Rattle.std.specs.List.{All};
 ghost use Rattle.vx_geom.specs.Sizes.{sector_count, sector_cells};
 ghost use Rattle.vx_cells.specs.Listed.{components_of, devices_of, listed_of, is_listed_at};
@@ -170,9 +170,9 @@ impl Cells {
         self.listed(alloc, false)
     }
 
-    /// Whether a device may stand in this sector; without one it costs a look.
+    /// Whether a device stands in this sector. Where none was ever placed it costs a look.
     pub fn has_devices(&self) -> bool
-        ensures { result ≡ false → devices_of self.now ≡ [] }
+        ensures { result ≡ nat_lt 0 (length (devices_of self.now)) }
     {
         self.bounds.soundness();
         self.devices.first_from(0).is_some()

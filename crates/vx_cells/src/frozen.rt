@@ -1,4 +1,4 @@
-ghost use Rattle.std.specs.Prelude.{◌≡◌, ◌<◌, [], true, false, None, IfOk, SomeIff};
+ghost use Rattle.std.specs.Prelude.{◌≡◌, ◌<◌, nat_lt, length, true, None, IfOk, SomeIff};
 ghost use Rattle.vx_block.specs.declared.cell.Cell.TheVariants.{Air};
 ghost use Rattle.vx_geom.specs.Neighbor.{neighbor};
 ghost use Rattle.vx_geom.specs.Sizes.{is_below, is_inside, sector_count};
@@ -156,10 +156,10 @@ impl<'a> Frozen<'a> {
         self.sectors[sector as usize].devices(alloc)
     }
 
-    /// Whether a device may stand in a sector; without one it costs a look.
+    /// Whether a device stands in a sector. Where none was ever placed it costs a look.
     pub fn has_devices(&self, sector: u32) -> bool
         requires { sector < sector_count self.now.sizes }
-        ensures { result ≡ false → devices_on self.now sector ≡ [] }
+        ensures { result ≡ nat_lt 0 (length (devices_on self.now sector)) }
     {
         self.sectors[sector as usize].has_devices()
     }

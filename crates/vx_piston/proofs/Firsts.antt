@@ -1,23 +1,12 @@
 -- The first of two positions, and of all that a test holds of.
 use Rattle.std.proofs.Common.{◌≡◌, ◌⊎◌, true, false, if◌then◌else◌, inl, inr, Option, None, Some, sym, ap, ◌∙◌, subst}
 use Rattle.std.proofs.lemmas.Bool.{both_ways, cases_Bool, or_from, false_from_ne_true}
-use Rattle.std.proofs.lemmas.Bool.Decides.{same_from_decides}
 use Rattle.vx_geom.specs.declared.pos.Pos.{Pos}
 use Rattle.vx_geom.specs.Order.{comes_before}
 use Rattle.vx_geom.proofs.OrderLemmas.{positions_ordered}
 use Rattle.vx_power.specs.Levels.{same_place}
-use Rattle.vx_power.proofs.Having.{place_is, own_place}
+use Rattle.vx_power.proofs.Having.{place_is}
 use Rattle.vx_piston.specs.Claims.{first_of, first_found, before}
-
--- equal positions are the same place
-place_of : (p q : Pos) → p ≡ q → same_place p q ≡ true
-place_of p q same = subst (λ r. same_place p r ≡ true) same (own_place p)
-
--- which of two positions is named first does not matter
-pub same_place_back : (p q : Pos) → same_place p q ≡ same_place q p
-same_place_back p q =
-    same_from_decides (same_place p q) (same_place q p) (place_is p q, place_of p q)
-    (λ same. sym (place_is q p same), λ same. place_of q p (sym same))
 
 -- of two positions at most one comes before the other
 not_back : (p q : Pos) → comes_before p q ≡ true → comes_before q p ≡ false

@@ -8,10 +8,10 @@ use Rattle.std.proofs.lemmas.List.Folds.{list_any_more}
 use Rattle.vx_geom.specs.declared.pos.Pos.{Pos}
 use Rattle.vx_geom.specs.Order.{comes_before}
 use Rattle.vx_power.specs.Levels.{has, same_place}
-use Rattle.vx_power.proofs.Having.{place_is}
+use Rattle.vx_power.proofs.Having.{place_is, same_place_back}
 use Rattle.vx_piston.specs.Claims.{first_of, before, claimant, IsTable}
 use Rattle.vx_piston.specs.Moves.{Moving}
-use Rattle.vx_piston.proofs.Firsts.{same_place_back, other_first, own_first, first_swapped, first_again}
+use Rattle.vx_piston.proofs.Firsts.{other_first, own_first, first_swapped, first_again}
 
 -- the first piston that a table has for a cell
 abbrev pub first_in : List (Pos × Pos) → Pos → Option Pos

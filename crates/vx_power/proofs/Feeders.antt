@@ -20,16 +20,8 @@ use Rattle.vx_power.specs.Spreading.{dust_at, each_dir, fed_from, fed_towards}
 use Rattle.vx_power.specs.Walks.{IsAmong}
 use Rattle.vx_power.proofs.Around.{IsOff, itself, step_off}
 use Rattle.vx_power.proofs.Having.{has_joined, place_is, own_place}
+use Rattle.vx_power.proofs.Local.{one_of_six}
 use Rattle.vx_power.proofs.Reach.{any_at, any_from}
-
--- every direction is one of the six
-is_dir : (d : Dir) → IsAmong all_dirs d
-is_dir East = inl refl
-is_dir West = inr (inl refl)
-is_dir Up = inr (inr (inl refl))
-is_dir Down = inr (inr (inr (inl refl)))
-is_dir South = inr (inr (inr (inr (inl refl))))
-is_dir North = inr (inr (inr (inr (inr (inl refl)))))
 
 -- back and back again is where it began
 back_twice : (d : Dir) → opposite (opposite d) ≡ d
@@ -42,7 +34,7 @@ back_twice North = refl
 
 -- some direction passes the test
 some_dir : (test : Dir → Bool) (d : Dir) → test d ≡ true → list_any test all_dirs ≡ true
-some_dir test d passes = any_from test all_dirs d (is_dir d) passes
+some_dir test d passes = any_from test all_dirs d (one_of_six d) passes
 
 -- six lists joined have what one of them has
 has_each : (f : Dir → List Pos) (p : Pos) → has (each_dir f) p ≡ list_any (λ d. has (f d) p) all_dirs

@@ -2,7 +2,7 @@
 use Rattle.std.proofs.Common.{◌≡◌, true, ◌&&◌, ◌||◌, List, [], ◌∷◌, ◌++◌, inl, inr, refl, sym, ap, ◌∙◌, subst}
 use Rattle.std.specs.Ordering.{int_eq}
 use Rattle.std.proofs.lemmas.Bool.{and_parts, and_from, or_cases, or_left, or_right, false≢true}
-use Rattle.std.proofs.lemmas.Bool.Decides.{Decides-int_eq}
+use Rattle.std.proofs.lemmas.Bool.Decides.{Decides-int_eq, same_from_decides}
 use Rattle.std.proofs.lemmas.List.Folds.{list_any-append}
 use Rattle.vx_geom.specs.declared.pos.Pos.{Pos}
 use Rattle.vx_geom.proofs.Positions.{same_pos}
@@ -24,6 +24,15 @@ own_place p =
     and_from (int_eq p.y p.y) (int_eq p.z p.z && int_eq p.x p.x) ((Decides-int_eq p.y p.y).1 refl)
     (and_from (int_eq p.z p.z) (int_eq p.x p.x) ((Decides-int_eq p.z p.z).1 refl)
     ((Decides-int_eq p.x p.x).1 refl))
+
+place_of : (p q : Pos) → p ≡ q → same_place p q ≡ true
+place_of p q same = subst (λ r. same_place p r ≡ true) same (own_place p)
+
+-- which of two positions is named first does not matter
+pub same_place_back : (p q : Pos) → same_place p q ≡ same_place q p
+same_place_back p q =
+    same_from_decides (same_place p q) (same_place q p) (place_is p q, place_of p q)
+    (λ same. sym (place_is q p same), λ same. place_of q p (sym same))
 
 -- the list has the positions that are among its elements
 pub has_at : (ps : List Pos) (p : Pos) → has ps p ≡ true → IsAmong ps p

@@ -25,7 +25,7 @@ Near zero p f g = f p ≡ g p
 Near (suc n) p f g = Near n p f g × ((d : Dir) → Near n (neighbor p d) f g)
 
 -- each direction is one of the six
-one_of_six : (d : Dir) → IsAmong all_dirs d
+pub one_of_six : (d : Dir) → IsAmong all_dirs d
 one_of_six East = inl refl
 one_of_six West = inr (inl refl)
 one_of_six Up = inr (inr (inl refl))

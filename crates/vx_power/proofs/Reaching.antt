@@ -19,8 +19,8 @@ use Rattle.vx_cells.specs.Listed.{devices_on}
 use Rattle.vx_cells.specs.Maps.{MapData}
 use Rattle.vx_power.specs.Dust.{beside, links_beside, links_on, links}
 use Rattle.vx_power.specs.Levels.{same_place, has, level_in, is_in}
-use Rattle.vx_power.proofs.Tables.{same_place_at}
 use Rattle.vx_power.specs.Spreading.{dust_at, each_dir, fed_from, fed_by, fed_by_sectors, linked_to, SpreadData, Reaches}
+use Rattle.vx_power.proofs.Having.{place_is}
 
 -- the level that a position has after a step: `had` says whether it had one before, `v` which
 abbrev level_after : ℕ → ℕ → Bool → Bool → Bool → ℕ
@@ -184,7 +184,7 @@ reaches_one {level} {old} {new} {p} inside none columns levels reached = record 
   where
     free : (q : Pos) → same_place q p ≡ true → (leveled old q ≡ false) × (held old q ≡ true)
     free q same =
-        let is = same_place_at q p same in
+        let is = place_is q p same in
         (ap (λ r. leveled old r) is ∙ none, ap (λ r. held old r) is ∙ inside)
 
 -- a position that is passed over
@@ -214,7 +214,7 @@ reaches_over {level} {s} {p} taken = record {
 }
   where
     still : (q : Pos) → same_place q p ≡ true → (not (leveled s q) && held s q) ≡ false
-    still q same = ap (λ r. not (leveled s r) && held s r) (same_place_at q p same) ∙ taken
+    still q same = ap (λ r. not (leveled s r) && held s r) (place_is q p same) ∙ taken
 
 -- what one item more of a list gives, joined to what those before it give
 flat_more : {X : Type 0} (f : X → List Pos) (xs : List X) (i : ℕ) (d : X) → i < length xs

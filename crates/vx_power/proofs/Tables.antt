@@ -1,33 +1,10 @@
 -- Tables of levels: which position has which, after one of them got another.
-use Rattle.std.proofs.Common.{◌≡◌, ℕ, ◌≤◌, Bool, true, false, inl, inr, if◌then◌else◌, Option, Some, refl, sym, ap, ◌∙◌, subst}
+use Rattle.std.proofs.Common.{◌≡◌, ℕ, ◌≤◌, Bool, true, false, if◌then◌else◌, Option, Some, refl, sym, ap, ◌∙◌, subst}
 use Rattle.std.specs.Map.{lookup}
 use Rattle.std.specs.Option.{unwrap_or}
-use Rattle.std.proofs.lemmas.Bool.{and_parts, cases_Bool}
-use Rattle.std.proofs.lemmas.Bool.Decides.{Decides-int_eq}
 use Rattle.vx_geom.specs.declared.pos.Pos.{Pos}
-use Rattle.vx_geom.proofs.Positions.{same_pos}
 use Rattle.vx_power.specs.Levels.{LevelTable, AreMost, same_place, level_in}
-
--- positions that are one are equal
-pub same_place_at : (p q : Pos) → same_place p q ≡ true → p ≡ q
-same_place_at p q same =
-    let in_y = and_parts _ _ same in
-    let in_z = and_parts _ _ in_y.1 in
-    same_pos p q ((Decides-int_eq p.y q.y).0 in_y.0) ((Decides-int_eq p.z q.z).0 in_z.0)
-    ((Decides-int_eq p.x q.x).0 in_z.1)
-
-turned : (p q : Pos) → p ≡ q → same_place p q ≡ same_place q p
-turned p q same = ap (same_place p) (sym same) ∙ ap (λ r. same_place r p) same
-
--- which of two positions is named first does not matter
-same_place_back : (p q : Pos) → same_place p q ≡ same_place q p
-same_place_back p q = elim (cases_Bool (same_place p q)) [
-  | inl same ↦ turned p q (same_place_at p q same)
-  | inr apart ↦ elim (cases_Bool (same_place q p)) [
-    | inl same ↦ sym (turned q p (same_place_at q p same))
-    | inr back ↦ apart ∙ sym back
-  ]
-]
+use Rattle.vx_power.proofs.Having.{same_place_back}
 
 -- what is read where a test says which of two values there is
 read_if : (b : Bool) (level : ℕ) (other : Option ℕ)

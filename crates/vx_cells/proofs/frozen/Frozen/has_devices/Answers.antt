@@ -1,11 +1,11 @@
-use Rattle.std.proofs.Common.{◌<◌, length, get_or, sym, ◌∙◌, arith}
+use Rattle.std.proofs.Common.{◌<◌, nat_lt, length, get_or, ap, ◌∙◌, arith}
 use Rattle.std.proofs.lemmas.Option.{slice_get-get_or}
 use Rattle.vx_cells.specs.Maps.{MapData}
 use Rattle.vx_cells.proofs.Listing.{devices_same}
 use Rattle.vx_cells.proofs.frozen.Frozen.has_devices.Goals as goal
 
 pub returns : goal.returns
-returns c without =
+returns c =
     let i = c.self.inside in
     let k = c.args.sector in
     let m : MapData = record { sizes = i.bounds; sectors = i.sectors.now } in
@@ -15,4 +15,5 @@ returns c without =
     let cells = get_or i.sectors.now k default in
     let there = slice_get-get_or i.sectors.now k default near in
     rw (← c.self.view_is)
-    (sym (devices_same m k cells c.self.invariant low there) ∙ c.has_devices.ensures without)
+    (c.has_devices.ensures
+    ∙ ap (λ ps. nat_lt 0 (length ps)) (devices_same m k cells c.self.invariant low there))

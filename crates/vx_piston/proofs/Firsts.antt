@@ -5,7 +5,7 @@ use Rattle.vx_geom.specs.declared.pos.Pos.{Pos}
 use Rattle.vx_geom.specs.Order.{comes_before}
 use Rattle.vx_geom.proofs.OrderLemmas.{positions_ordered}
 use Rattle.vx_power.specs.Levels.{same_place}
-use Rattle.vx_power.proofs.Having.{place_is}
+use Rattle.vx_power.proofs.Having.{place_is, place_of}
 use Rattle.vx_piston.specs.Claims.{first_of, first_found, before}
 
 -- of two positions at most one comes before the other

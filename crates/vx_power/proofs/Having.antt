@@ -25,7 +25,8 @@ own_place p =
     (and_from (int_eq p.z p.z) (int_eq p.x p.x) ((Decides-int_eq p.z p.z).1 refl)
     ((Decides-int_eq p.x p.x).1 refl))
 
-place_of : (p q : Pos) → p ≡ q → same_place p q ≡ true
+-- equal positions are the same place
+pub place_of : (p q : Pos) → p ≡ q → same_place p q ≡ true
 place_of p q same = subst (λ r. same_place p r ≡ true) same (own_place p)
 
 -- which of two positions is named first does not matter

@@ -7,11 +7,15 @@ mod cells;
 #[cfg(test)]
 mod desk;
 #[cfg(test)]
+mod fate;
+#[cfg(test)]
 mod files;
 #[cfg(test)]
 mod game;
 #[cfg(test)]
 mod machines;
+#[cfg(test)]
+mod pistons;
 #[cfg(test)]
 mod policies;
 #[cfg(test)]

@@ -21,7 +21,7 @@ pub fn fates(
     let claims = permitted(alloc, policy, moves)?;
     let mut all = Vec::new(alloc);
     for m in moves {
-        all.push((m.at, fate(policy, &claims, m)))?;
+        all.push((m.at, end_of(policy, &claims, m)))?;
     }
     Ok(all)
 }
@@ -37,7 +37,7 @@ fn permitted(alloc: Global, policy: &Plain<'_>, moves: &[Move]) -> Result<Claims
     Ok(claims)
 }
 
-fn fate(policy: &Plain<'_>, claims: &Claims, m: &Move) -> Fate {
+fn end_of(policy: &Plain<'_>, claims: &Claims, m: &Move) -> Fate {
     match (judge(policy, m), claims.wins(m)) {
         (Err((p, rule)), _) => Fate::Denied(p, rule),
         (Ok(()), Some(by)) => Fate::Beaten(by),

@@ -42,11 +42,7 @@ impl Game {
     }
 
     /// The small world with these cells.
-    pub fn with(
-        rt: &impl Abort,
-        alloc: Global,
-        cells: &[(Pos, &str)],
-    ) -> Result<Game, AllocError> {
+    pub fn with(rt: &impl Abort, alloc: Global, cells: &[(Pos, &str)]) -> Result<Game, AllocError> {
         let mut game = Game::small(rt, alloc)?;
         for (p, text) in cells {
             game.put(rt, *p, text)?;

@@ -18,7 +18,13 @@ fn at(x: i32, y: i32, z: i32) -> Pos {
 
 // A piston at x, facing east, with a lever that is on beside it and so many cells of stone before
 // it, and then a last cell.
-fn push(rt: &impl Abort, alloc: Global, x: i32, stones: i32, last: &str) -> Result<Game, AllocError> {
+fn push(
+    rt: &impl Abort,
+    alloc: Global,
+    x: i32,
+    stones: i32,
+    last: &str,
+) -> Result<Game, AllocError> {
     let mut game = Game::small(rt, alloc)?;
     game.put(rt, at(x, 1, 5), "piston:east:in")?;
     game.put(rt, at(x, 1, 6), "lever:down:on")?;
@@ -30,7 +36,13 @@ fn push(rt: &impl Abort, alloc: Global, x: i32, stones: i32, last: &str) -> Resu
 }
 
 // A piston at x that is out, without power, with its head and a cell behind that.
-fn draw(rt: &impl Abort, alloc: Global, x: i32, piston: [&str; 2], behind: &str) -> Result<Game, AllocError> {
+fn draw(
+    rt: &impl Abort,
+    alloc: Global,
+    x: i32,
+    piston: [&str; 2],
+    behind: &str,
+) -> Result<Game, AllocError> {
     let mut game = Game::small(rt, alloc)?;
     game.put(rt, at(x, 1, 5), piston[0])?;
     game.put(rt, at(x + 1, 1, 5), piston[1])?;
@@ -121,12 +133,12 @@ fn a_move_is_denied_at_its_first_foreign_cell(rt: HostRuntime) -> Result<(), Fai
         (IN_A_COUNTRY, denied),
     ] {
         let told = fates_by(rt.alloc(), file, push.as_slice())?;
-        assert_eq!(&rt; told.as_slice(), [(at(5, 1, 5), fate)]);
+        assert_eq!(&rt; told.as_slice(), [(at(5, 1, 5), fate)].as_slice());
     }
     let sticky = ["sticky:east:out", "head:east:sticky"];
     let draw = draw(&rt, rt.alloc(), 6, sticky, "stone")?.moves(rt.alloc())?;
     let told = fates_by(rt.alloc(), FROM_8, draw.as_slice())?;
-    assert_eq!(&rt; told.as_slice(), [(at(6, 1, 5), denied)]);
+    assert_eq!(&rt; told.as_slice(), [(at(6, 1, 5), denied)].as_slice());
     Ok(())
 }
 
@@ -159,7 +171,10 @@ fn the_first_of_three_has_the_cell(rt: HostRuntime) -> Result<(), Fail> {
     )?;
     let moves = game.moves(rt.alloc())?;
     let told = beaten(rt.alloc(), moves.as_slice())?;
-    assert_eq!(&rt; told.as_slice(), [None, Some(first), Some(first)]);
+    assert_eq!(&rt;
+        told.as_slice(),
+        [None, Some(first), Some(first)].as_slice()
+    );
     // a move that is denied claims nothing
     let told = fates_by(rt.alloc(), FROM_5, moves.as_slice())?;
     let due = [
@@ -167,7 +182,7 @@ fn the_first_of_three_has_the_cell(rt: HostRuntime) -> Result<(), Fail> {
         (second, Fate::Moved),
         (third, Fate::Beaten(second)),
     ];
-    assert_eq!(&rt; told.as_slice(), due);
+    assert_eq!(&rt; told.as_slice(), due.as_slice());
     Ok(())
 }
 
@@ -189,6 +204,9 @@ fn a_piston_that_is_beaten_still_beats(rt: HostRuntime) -> Result<(), Fail> {
     )?;
     let moves = game.moves(rt.alloc())?;
     let told = beaten(rt.alloc(), moves.as_slice())?;
-    assert_eq!(&rt; told.as_slice(), [None, Some(first), Some(second)]);
+    assert_eq!(&rt;
+        told.as_slice(),
+        [None, Some(first), Some(second)].as_slice()
+    );
     Ok(())
 }

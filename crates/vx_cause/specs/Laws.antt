@@ -24,7 +24,8 @@ IsDeny v = (rule : Rule) × (v ≡ Deny rule)
 
 -- the policy denies the machine at q this one of the cells by this rule, and permits it each cell
 -- before
-pub record IsFirstDenied (rs : Regions) (q : Pos) (cells : List Pos) (p : Pos) (rule : Rule) : Type 0 where
+pub record IsFirstDenied (rs : Regions) (q : Pos) (cells : List Pos) (p : Pos)
+    (rule : Rule) : Type 0 where
   pub before : List Pos
   pub after : List Pos
   pub parts : cells ≡ before ++ (p ∷ after)

@@ -1,12 +1,11 @@
 -- What a tick changes among the positions of a sector is what it changes among its components.
-use Rattle.std.proofs.Common.{◌≡◌, ℕ, zero, suc, ◌≤◌, ◌+◌, Bool, true, false, List, [], ◌∷◌, ◌++◌, None, Some, if◌then◌else◌, refl, sym, ap, ◌∙◌}
+use Rattle.std.proofs.Common.{◌≡◌, ℕ, Bool, true, false, List, [], ◌∷◌, None, Some, if◌then◌else◌, refl, sym, ap, ◌∙◌}
 use Rattle.std.specs.List.{filter}
 use Rattle.vx_geom.specs.declared.pos.Pos.{Pos}
 use Rattle.vx_block.specs.declared.cell.Cell.{Cell}
 use Rattle.vx_block.specs.declared.cell.Cell.TheVariants as cell
 use Rattle.vx_block.specs.Components.{is_component}
 use Rattle.vx_cells.specs.CellsLaws.{cell_decided}
-use Rattle.vx_cells.specs.SameCells.{same_cell}
 use Rattle.vx_part.specs.Changes.{change_at, before, changes}
 use Rattle.vx_part.specs.Parts.{next_of, next_part}
 

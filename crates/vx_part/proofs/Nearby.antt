@@ -1,5 +1,5 @@
 -- Levels that are told near a sector are all that its next parts read.
-use Rattle.std.proofs.Common.{◌≡◌, ℕ, zero, suc, ◌+◌, ◌<◌, ◌≤◌, true, List, [], ◌∷◌, Some, if◌then◌else◌, None, refl, ap, ◌∙◌, arith}
+use Rattle.std.proofs.Common.{◌≡◌, ℕ, zero, suc, ◌+◌, ◌<◌, ◌≤◌, true, Some, if◌then◌else◌, None, refl, ap, ◌∙◌, arith}
 use Rattle.std.proofs.lemmas.Int.{ints}
 use Rattle.vx_geom.specs.declared.pos.Pos.{Pos}
 use Rattle.vx_geom.specs.Neighbor.{neighbor}
@@ -8,8 +8,7 @@ use Rattle.vx_geom.specs.Sectors.{InSector}
 use Rattle.vx_geom.specs.Sizes.{Sizes, AreSizes, sector_count, sector_cells, sector_of}
 use Rattle.vx_geom.proofs.Places.{indices_are_places}
 use Rattle.vx_geom.proofs.SectorLemmas.{held_at, in_sector}
-use Rattle.vx_block.specs.declared.cell.Cell.{Cell}
-use Rattle.vx_cells.specs.Maps.{MapData, AreSectors, cell_on}
+use Rattle.vx_cells.specs.Maps.{MapData, cell_on}
 use Rattle.vx_cells.specs.SameCells.{same_cell}
 use Rattle.vx_power.specs.Laws.{dust_level}
 use Rattle.vx_power.specs.Levels.{is_in, columns_around, AreLevels}

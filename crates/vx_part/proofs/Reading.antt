@@ -1,5 +1,5 @@
 -- How far a part reads, and what that means for levels that are told near a sector.
-use Rattle.std.proofs.Common.{◌≡◌, ℕ, zero, suc, not, ◌||◌, if◌then◌else◌, None, refl, ap, ◌∙◌}
+use Rattle.std.proofs.Common.{◌≡◌, ℕ, not, ◌||◌, if◌then◌else◌, None, refl, ap, ◌∙◌}
 use Rattle.vx_geom.specs.declared.pos.Pos.{Pos}
 use Rattle.vx_geom.specs.Neighbor.{neighbor}
 use Rattle.vx_block.specs.declared.side.Side.{Side}
@@ -8,7 +8,6 @@ use Rattle.vx_block.specs.declared.cell.Cell.TheVariants as cell
 use Rattle.vx_block.specs.Repeating.{Repeating}
 use Rattle.vx_block.specs.Sides.{side_back, side_right}
 use Rattle.vx_block.specs.States.{mount_dir, side_dir}
-use Rattle.vx_power.specs.Local.{AreAlike}
 use Rattle.vx_power.proofs.Local.{Near, near_from, here, is_powered_same, activates_same, is_active_same}
 use Rattle.vx_part.specs.Laws.{PartsRead}
 use Rattle.vx_part.specs.Parts.{next_lamp, is_on_towards, locks_from, is_locked, counted, next_repeater, next_of, next_part}

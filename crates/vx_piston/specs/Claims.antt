@@ -23,7 +23,8 @@ abbrev pub IsBeatenBy : List Moving → Moving → Option Pos → Type 0
 IsBeatenBy claims m None = (claim : Moving) → IsAmong claims claim → beats claim m ≡ false
 IsBeatenBy claims m (Some q) =
     ((claim : Moving) × IsAmong claims claim × (beats claim m ≡ true) × (claim.at ≡ q))
-    × ((claim : Moving) → IsAmong claims claim → beats claim m ≡ true → comes_before claim.at q ≡ false)
+    × ((claim : Moving) → IsAmong claims claim → beats claim m ≡ true
+    → comes_before claim.at q ≡ false)
 
 -- the first of two pistons
 abbrev pub first_of : Pos → Option Pos → Option Pos

@@ -46,7 +46,8 @@ StaysInside m p move = (q : Pos) → IsAmong move.cells q → is_inside m.sizes 
 
 -- each cell that it takes lies as many steps before the piston as its number tells
 abbrev pub LiesInLine : MapData → Pos → Moving → Type 0
-LiesInLine m p move = (n : ℕ) (q : Pos) → slice_get move.cells n ≡ Some q → q ≡ steps move.facing n p
+LiesInLine m p move = (n : ℕ) (q : Pos) → slice_get move.cells n ≡ Some q
+    → q ≡ steps move.facing n p
 
 -- it takes no cell twice
 abbrev pub TakesEachOnce : MapData → Pos → Moving → Type 0

@@ -66,7 +66,8 @@ impl Claims {
     /// The piston that beats a move: the first of those that come before its own and claim a cell
     /// of it, beaten themselves or not. It costs the cells of the move, and takes no memory.
     pub fn wins(&self, m: &Move) -> Option<Pos>
-        ensures { (claims : List Moving) → IsTable claims self.now → IsBeatenBy claims m.now result }
+        ensures { (claims : List Moving) → IsTable claims self.now
+            → IsBeatenBy claims m.now result }
     {
         let mut first = None;
         for p in m.cells.as_slice() {

@@ -26,5 +26,6 @@ impl Model for Move {
 
     ghost Value = { Moving };
 
-    ghost view = { λ m. record { at = m.at; facing = m.facing; push = m.push; cells = m.cells.items } };
+    ghost view = { λ m.
+        record { at = m.at; facing = m.facing; push = m.push; cells = m.cells.items } };
 }

@@ -17,7 +17,6 @@ use Rattle.vx_block.specs.Conductors.{conducts}
 use Rattle.vx_power.specs.Levels.{has}
 use Rattle.vx_power.specs.Signals.{gives, drives, drives_from, is_driven, is_strong, feeds_from, has_feeder, is_fed}
 use Rattle.vx_power.specs.Spreading.{dust_at, each_dir, fed_from, fed_towards}
-use Rattle.vx_power.specs.Walks.{IsAmong}
 use Rattle.vx_power.proofs.Around.{IsOff, itself, step_off}
 use Rattle.vx_power.proofs.Having.{has_joined, place_is, own_place}
 use Rattle.vx_power.proofs.Local.{one_of_six}

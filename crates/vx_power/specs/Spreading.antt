@@ -28,7 +28,9 @@ each_dir f = f East ++ (f West ++ (f Up ++ (f Down ++ (f South ++ f North))))
 unfoldable pub fed_towards : (Pos → Cell) → Pos → Dir → List Pos
 fed_towards w s d =
     (if gives (w s) d then dust_at w s d else [])
-    ++ (if drives (w s) d && conducts (w (neighbor s d)) then each_dir (dust_at w (neighbor s d)) else [])
+    ++ (if drives (w s) d && conducts (w (neighbor s d))
+    then each_dir (dust_at w (neighbor s d))
+    else [])
 
 -- all the dust that it feeds
 unfoldable pub fed_from : (Pos → Cell) → Pos → List Pos

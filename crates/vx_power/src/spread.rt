@@ -61,7 +61,8 @@ impl Model for Spread {
 
     ghost Value = { SpreadData };
 
-    ghost view = { λ a. record { columns = a.columns; table = a.levels; reached = a.reached.items } };
+    ghost view = { λ a.
+        record { columns = a.columns; table = a.levels; reached = a.reached.items } };
 }
 
 impl Spread {
@@ -81,7 +82,8 @@ impl Spread {
         requires { sector < sector_count map.now.sizes }
         ensures { let first = first_near map.now.sizes sector in
             OnOk result (Reaches 15 self.old self.new
-            (fed_by_sectors map.now (cell_on map.now) first (end_near map.now.sizes sector - first))) }
+            (fed_by_sectors map.now (cell_on map.now) first
+            (end_near map.now.sizes sector - first))) }
     {
         let bounds = map.bounds();
         for number in bounds.first_near(sector)..bounds.end_near(sector) {
@@ -117,7 +119,8 @@ impl Spread {
 
     // Reaches the dust that any of these devices feeds.
     fn reach_all_fed(&mut self, map: &Frozen<'_>, devices: &[Pos]) -> Result<(), AllocError>
-        ensures { OnOk result (Reaches 15 self.old self.new (fed_by (cell_on map.now) devices.now)) }
+        ensures { OnOk result (Reaches 15 self.old self.new
+            (fed_by (cell_on map.now) devices.now)) }
     {
         for device in devices {
             self.reach_fed(map, *device)?;
@@ -172,7 +175,8 @@ impl Spread {
 
     // Reaches the dust beside a position in each direction.
     fn reach_around(&mut self, map: &Frozen<'_>, p: Pos) -> Result<(), AllocError>
-        ensures { OnOk result (Reaches 15 self.old self.new (each_dir (dust_at (cell_on map.now) p))) }
+        ensures { OnOk result (Reaches 15 self.old self.new
+            (each_dir (dust_at (cell_on map.now) p))) }
     {
         for dir in Dir::ALL {
             self.reach_found(dust_at(map, p, dir), FED)?;
@@ -223,7 +227,8 @@ impl Spread {
     ) -> Result<(), AllocError>
         requires some { 0 < level }
         requires most { level ≤ 15 }
-        ensures { OnOk result (Reaches level self.old self.new (links_on (cell_on map.now) p side)) }
+        ensures { OnOk result (Reaches level self.old self.new
+            (links_on (cell_on map.now) p side)) }
     {
         self.reach_found(dust_at(map, p, side.dir()), level)?;
         self.reach_found(dust_over(map, p, side), level)?;

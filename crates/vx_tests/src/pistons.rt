@@ -16,6 +16,11 @@ fn at(x: i32, y: i32, z: i32) -> Pos {
     Pos::new(x, y, z)
 }
 
+// The position so many steps east of an x, in the row of the pushes and draws.
+fn row(x: i32, steps: i32) -> Pos {
+    at(x.saturating_add(steps), 1, 5)
+}
+
 // A piston at x, facing east, with a lever that is on beside it and so many cells of stone before
 // it, and then a last cell.
 fn push(
@@ -26,12 +31,12 @@ fn push(
     last: &str,
 ) -> Result<Game, AllocError> {
     let mut game = Game::small(rt, alloc)?;
-    game.put(rt, at(x, 1, 5), "piston:east:in")?;
+    game.put(rt, row(x, 0), "piston:east:in")?;
     game.put(rt, at(x, 1, 6), "lever:down:on")?;
-    for n in 1..=stones {
-        game.put(rt, at(x + n, 1, 5), "stone")?;
+    for n in 0..stones {
+        game.put(rt, row(x, n.saturating_add(1)), "stone")?;
     }
-    game.put(rt, at(x + stones + 1, 1, 5), last)?;
+    game.put(rt, row(x, stones.saturating_add(1)), last)?;
     Ok(game)
 }
 
@@ -44,9 +49,9 @@ fn draw(
     behind: &str,
 ) -> Result<Game, AllocError> {
     let mut game = Game::small(rt, alloc)?;
-    game.put(rt, at(x, 1, 5), piston[0])?;
-    game.put(rt, at(x + 1, 1, 5), piston[1])?;
-    game.put(rt, at(x + 2, 1, 5), behind)?;
+    game.put(rt, row(x, 0), piston[0])?;
+    game.put(rt, row(x, 1), piston[1])?;
+    game.put(rt, row(x, 2), behind)?;
     Ok(game)
 }
 
@@ -55,9 +60,11 @@ fn draw(
 fn takes(rt: &impl Abort, moves: &[Move], x: i32, cells: usize) {
     assert_eq!(rt; moves.len(), cells.min(1));
     for m in moves {
-        assert_eq!(rt; (m.at, m.cells.len()), (at(x, 1, 5), cells));
-        for (n, p) in m.cells.as_slice().iter().enumerate() {
-            assert_eq!(rt; *p, at(x + n as i32, 1, 5));
+        assert_eq!(rt; (m.at, m.cells.len()), (row(x, 0), cells));
+        let mut due = row(x, 0);
+        for p in m.cells.as_slice() {
+            assert_eq!(rt; *p, due);
+            due = row(due.x, 1);
         }
     }
 }

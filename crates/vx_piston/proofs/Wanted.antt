@@ -108,13 +108,17 @@ claimant_last (claim ∷ claims) m p =
     ap (claimed (has claim.cells p) claim.at) (claimant_last claims m p)
     ∙ claimed_swapped (has claim.cells p) (has m.cells p) claim.at m.at (claimant claims p)
 
--- the table of one claim more
+-- the table with one claim more behind the others
+pub table_with_last : (claims : List Moving) (m : Moving) (old new : List (Pos × Pos))
+    → IsTable claims old → Claimed (has m.cells) m.at old new → IsTable (claims ++ (m ∷ [])) new
+table_with_last claims m old new known now p =
+    now p ∙ ap (claimed (has m.cells p) m.at) (known p) ∙ sym (claimant_last claims m p)
+
+-- and with one more of a list of them
 pub table_more : (claims : List Moving) (i : ℕ) (m : Moving) (old new : List (Pos × Pos))
     → i < length claims → m ≡ get_or claims i m
     → IsTable (take i claims) old → Claimed (has m.cells) m.at old new → IsTable (take (i + 1) claims) new
 table_more claims i m old new inside item known now p =
-    now p
-    ∙ ap (claimed (has m.cells p) m.at) (known p)
-    ∙ sym (claimant_last (take i claims) m p)
+    table_with_last (take i claims) m old new known now p
     ∙ ap (λ last. claimant (take i claims ++ (last ∷ [])) p) item
     ∙ ap (λ all. claimant all p) (sym (take_more claims i m inside))

@@ -7,8 +7,6 @@ mod cells;
 #[cfg(test)]
 mod desk;
 #[cfg(test)]
-mod fate;
-#[cfg(test)]
 mod files;
 #[cfg(test)]
 mod game;

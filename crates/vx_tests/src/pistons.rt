@@ -1,5 +1,4 @@
 //! What pistons would move, and which of the moves are made.
-use crate::fate::{Fate, fates};
 use crate::game::Game;
 use std::alloc::{AllocError, Global};
 use std::process::Abort;
@@ -9,6 +8,7 @@ use vx_file::read_policy;
 use vx_geom::Pos;
 use vx_piston::{Move, claims};
 use vx_region::RegionNo;
+use vx_step::{Fate, fates};
 
 const BY_1: Rule = Rule::Member { at: RegionNo(1) };
 

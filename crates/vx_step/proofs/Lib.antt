@@ -1,0 +1,2 @@
+pub mod Permitting
+pub mod Told

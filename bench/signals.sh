@@ -12,7 +12,7 @@ cp "$root/bench/signals.rt.in" "$work/crates/bench_signals/src/main.rt"
 cp "$root/crates/vx_tests/src/game.rt" "$work/crates/bench_signals/src/"
 cp -r "$root/crates/vx_tests/proofs/game" "$work/crates/bench_signals/proofs/"
 sed -i 's/vx_tests/bench_signals/g' "$work"/crates/bench_signals/proofs/game/Game/set/Answers.antt
-echo 'bench_signals: vx_base vx_geom vx_block vx_cells vx_power vx_part vx_flag vx_region vx_decide vx_policy vx_board vx_sector vx_play arrayvec indexmap thiserror anyhow' >>"$work/crates.txt"
+echo "bench_signals: $(sed -n 's/^vx_tests: //p' "$root/crates.txt") anyhow" >>"$work/crates.txt"
 cd "$work/crates/bench_signals"
 rt run </dev/null >"$work/first" 2>"$work/log" || { cat "$work/log" >&2; exit 1; }
 ./out/bench_signals | column -t

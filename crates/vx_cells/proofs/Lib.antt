@@ -4,6 +4,8 @@ pub mod Indices
 pub mod Listing
 pub mod MapLemmas
 pub mod Marking
+pub mod Placed
+pub mod Setting
 pub mod Stacks
 pub mod StoredBlocks
 pub mod StoredCells

@@ -9,3 +9,4 @@ pub mod SameCells
 pub mod SameSlots
 pub mod SectorCells
 pub mod Stored
+pub mod Wholes

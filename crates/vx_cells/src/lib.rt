@@ -1,4 +1,4 @@
-//! The cells of one sector of the world, and the chests in it.
+//! The cells of one sector of the world, and the chests in it; the map of all sectors.
 #![tactic(auto)]
 
 mod bits;
@@ -9,9 +9,11 @@ mod frozen;
 mod laws;
 mod marks;
 mod stack;
+mod whole;
 
 pub use cells::Cells;
 pub use code::is_same;
 pub use frozen::Frozen;
 pub use laws::{equal_is_the_same, other_blocks_stay, set_block_is_read};
 pub use stack::{MAX_COUNT, SLOTS, Slot, Stack};
+pub use whole::Whole;

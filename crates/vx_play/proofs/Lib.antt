@@ -1,4 +1,3 @@
 pub mod Playing
-pub mod Placed
 pub mod Renewals
 pub mod Whole

@@ -23,7 +23,7 @@ use Rattle.vx_sector.specs.declared.refusal.Refusal.TheVariants.{OutOfWorld, His
 use Rattle.vx_sector.proofs.ActingLemmas.{denied_by_the_policy}
 use Rattle.vx_sector.proofs.Outside.{elsewhere_is_refused, full_is_refused, answered_by_the_rules}
 use Rattle.vx_sector.proofs.WindowLemmas.{command_keeps_sector}
-use Rattle.vx_play.specs.Terrains.{TerrainData}
+use Rattle.vx_cells.specs.Maps.{MapData}
 use Rattle.vx_play.specs.Plays.{PlayData, cells_of, IsWorld, ticked, opened, opened_with, sector_asked, answered, answered_at, answer_in, left_in, renewed_by, next_version}
 use Rattle.vx_play.specs.Games.{Step, Command, Accepted, Tick, after_step, played, game, edits_of, ticks_of, version_after, AreJudgedBy, base_of}
 use Rattle.vx_play.specs.Laws.{GamesStayWhole, TicksLeaveCells, NoEditCountsBeforeATick, EditsCountFromTheNextTick, IsJudged, IsDeniedBy, DeniedByTheOpening, DeniedByTheLastTick, StepsAreCounted, RecordsAreWindows, FirstWindowsBeginWithTheTerrain, WindowsBeginWithTheTick}
@@ -135,7 +135,7 @@ steps_are_counted rs terrain names steps =
     (ticks, edits_kept play steps)
 
 -- the version that a tick fixes in a game
-fixed_by_the_tick : (rs : Regions) (terrain : TerrainData) (names : List (List ℕ)) (before : List Step)
+fixed_by_the_tick : (rs : Regions) (terrain : MapData) (names : List (List ℕ)) (before : List Step)
     → next_version (game rs terrain names before) ≡ version_after rs (edits_of before) (ticks_of before + 1)
 fixed_by_the_tick rs terrain names before =
     let play = opened rs terrain names in

@@ -23,46 +23,12 @@ use Rattle.vx_sector.specs.declared.refusal.Refusal.{Refusal}
 use Rattle.vx_sector.specs.declared.refusal.Refusal.TheVariants.{OutOfWorld}
 use Rattle.vx_sector.proofs.Outside.{inside_is_not_refused}
 use Rattle.vx_cells.specs.Maps.{AreSectors}
-use Rattle.vx_play.specs.Terrains.{TerrainData, bare, set_in, with_part, IsTerrain}
 use Rattle.vx_play.specs.Plays.{PlayData, cells_of, IsWorld, opened_by, sector_asked, answered, answered_at, answer_in, left_in, renewed_by, next_version}
 use Rattle.vx_play.specs.Laws.{WorldsBeginWhole, CommandsKeepWorlds, TicksKeepWorlds, OutOfWorldIsOutside}
 use Rattle.vx_cells.proofs.MapLemmas.{placed_at}
-use Rattle.vx_play.proofs.Placed.{placed_again, airs_count, airs_placed, holds_found, found_within}
+use Rattle.vx_cells.proofs.Placed.{holds_found, found_within}
+use Rattle.vx_cells.proofs.Setting.{again}
 use Rattle.vx_play.proofs.Renewals.{changed_up_to}
-
--- another sector in the place of one, with the same number
-again : (sizes : Sizes) (cs : List SectorCells) (k : ℕ) (c d : SectorCells) → AreSectors sizes cs → slice_get cs k ≡ Some c
-    → d.bounds ≡ c.bounds → d.sector ≡ c.sector → AreSectors sizes (set cs k d)
-again sizes cs k c d are found bounds sector = record {
-  valid = are.valid;
-  all = length-set cs k d ∙ are.all;
-  each = placed_again sizes 0 k cs c d are.each found bounds sector;
-}
-
--- nothing but air has each sector in its place
-pub air_is_terrain : (sizes : Sizes) → AreSizes sizes → IsTerrain (bare sizes)
-air_is_terrain sizes valid = record { valid = valid; all = airs_count sizes (sector_count sizes); each = airs_placed sizes (sector_count sizes) }
-
--- a cell that is set keeps the sectors in their places
-module _ (g next : TerrainData) (p : Pos) (part : Part) (terrain : IsTerrain g) where
-  set_whole : (k : ℕ) (c : Option SectorCells) → slice_get g.sectors k ≡ c → set_in g p part k c ≡ Some next → IsTerrain next
-  unfolding with_block
-  set_whole k None found made = cc
-  set_whole k (Some c) found made = by (holds c p) made
-    where
-      by : (b : Bool) → (if b then Some (record g { sectors = set g.sectors k (with_cell c p (part_cell part)) }) else None) ≡ Some next → IsTerrain next
-      by false made = cc
-      by true made =
-          let same : record g { sectors = set g.sectors k (with_cell c p (part_cell part)) } ≡ next = cc in
-          subst IsTerrain same (again g.sizes g.sectors k c (with_cell c p (part_cell part)) terrain found refl refl)
-
-  pub part_keeps_terrain : with_part g p part ≡ Some next → IsTerrain next
-  unfolding with_part
-  part_keeps_terrain made = by (sector_of g.sizes p) made
-    where
-      by : (k : Option ℕ) → option_and_then (λ k. set_in g p part k (slice_get g.sectors k)) k ≡ Some next → IsTerrain next
-      by None made = cc
-      by (Some k) made = set_whole k (slice_get g.sectors k) refl made
 
 -- the world that is made has the sectors of the terrain
 pub cells_opened : (v : Version) (cs : List SectorCells) → map cells_of (map (opened_by v) cs) ≡ cs
@@ -143,16 +109,6 @@ unfolding renewed
 renewals_keep_cells v i [] = refl
 renewals_keep_cells v zero (s ∷ ss) = refl
 renewals_keep_cells v (suc i) (s ∷ ss) = ap (λ cs. s.cells ∷ cs) (renewals_keep_cells v i ss)
-
--- a part is set in the sector that holds its position
-pub part_is_set : (g : TerrainData) (p : Pos) (part : Part) (k : ℕ) (c d : SectorCells) → sector_of g.sizes p ≡ Some k → slice_get g.sectors k ≡ Some c
-    → holds c p ≡ true → d ≡ with_cell c p (part_cell part) → with_part g p part ≡ Some (record g { sectors = set g.sectors k d })
-unfolding with_part
-part_is_set g p part k c d found there held made =
-    ap (option_and_then (λ k. set_in g p part k (slice_get g.sectors k))) found
-    ∙ ap (set_in g p part k) there
-    ∙ ap (λ b. if b then Some (record g { sectors = set g.sectors k (with_cell c p (part_cell part)) }) else None) held
-    ∙ ap (λ d. Some (record g { sectors = set g.sectors k d })) (sym made)
 
 -- a command is answered in the sector of its position
 module _ (play : PlayData) (seat : SeatData) (cmd : Cmd) (k : ℕ) (s : SectorData) (found : sector_of play.sizes (place_of cmd) ≡ Some k) (there : slice_get play.sectors k ≡ Some s) where

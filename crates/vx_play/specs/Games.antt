@@ -8,7 +8,7 @@ use Rattle.vx_policy.specs.Edits.{after}
 use Rattle.vx_policy.specs.declared.version.Version.{Version}
 use Rattle.vx_sector.specs.SectorData.{SectorData, SeatData}
 use Rattle.vx_sector.specs.declared.cmd.Cmd.{Cmd}
-use Rattle.vx_play.specs.Terrains.{TerrainData}
+use Rattle.vx_cells.specs.Maps.{MapData}
 use Rattle.vx_play.specs.Plays.{PlayData, opened, answered, ticked}
 
 -- a step of a game: a command of a seat, an edit that is accepted, or a tick
@@ -29,7 +29,7 @@ played play [] = play
 played play (step ∷ steps) = played (after_step play step) steps
 
 -- a game in the world of this terrain and these players, opened under this policy
-abbrev pub game : Regions → TerrainData → List (List ℕ) → List Step → PlayData
+abbrev pub game : Regions → MapData → List (List ℕ) → List Step → PlayData
 game rs terrain names steps = played (opened rs terrain names) steps
 
 -- the edits among the steps

@@ -12,14 +12,15 @@ use Rattle.vx_sector.specs.SectorData.{SeatData}
 use Rattle.vx_sector.specs.Windows.{IsSector}
 use Rattle.vx_sector.specs.declared.cmd.Cmd.{Cmd}
 use Rattle.vx_sector.specs.declared.refusal.Refusal.TheVariants.{OutOfWorld, HistoryFull, Denied}
-use Rattle.vx_play.specs.Terrains.{TerrainData, IsTerrain}
+use Rattle.vx_cells.specs.Maps.{MapData}
+use Rattle.vx_cells.specs.Wholes.{IsMap}
 use Rattle.vx_play.specs.Plays.{PlayData, cells_of, IsWorld, opened, answered, ticked}
 use Rattle.vx_play.specs.Games.{Step, Tick, game, edits_of, ticks_of, version_after, AreJudgedBy, base_of}
 
 -- the world that is made of a terrain has each sector in its place
 abbrev pub WorldsBeginWhole : Type 0
-WorldsBeginWhole = (rs : Regions) (terrain : TerrainData) (names : List (List ℕ))
-    → IsTerrain terrain → IsWorld (opened rs terrain names)
+WorldsBeginWhole = (rs : Regions) (terrain : MapData) (names : List (List ℕ))
+    → IsMap terrain → IsWorld (opened rs terrain names)
 
 -- a command keeps each sector in its place
 abbrev pub CommandsKeepWorlds : Type 0
@@ -32,8 +33,8 @@ TicksKeepWorlds = (play : PlayData) → IsWorld play → IsWorld (ticked play)
 
 -- so in every game each sector stands in its place
 abbrev pub GamesStayWhole : Type 0
-GamesStayWhole = (rs : Regions) (terrain : TerrainData) (names : List (List ℕ))
-    (steps : List Step) → IsTerrain terrain → IsWorld (game rs terrain names steps)
+GamesStayWhole = (rs : Regions) (terrain : MapData) (names : List (List ℕ))
+    (steps : List Step) → IsMap terrain → IsWorld (game rs terrain names steps)
 
 -- a command is out of the world exactly where its position is outside
 abbrev pub OutOfWorldIsOutside : Type 0
@@ -47,14 +48,14 @@ TicksLeaveCells = (play : PlayData)
 
 -- before the first tick no edit counts: each sector judges by the policy of the opening
 abbrev pub NoEditCountsBeforeATick : Type 0
-NoEditCountsBeforeATick = (rs : Regions) (terrain : TerrainData) (names : List (List ℕ))
+NoEditCountsBeforeATick = (rs : Regions) (terrain : MapData) (names : List (List ℕ))
     (steps : List Step) → ticks_of steps ≡ 0
     → AreJudgedBy (version_after rs [] 0) (game rs terrain names steps)
 
 -- after a tick each sector judges, until the next one, by the policy after the edits that were
 -- accepted before that tick, and no later ones
 abbrev pub EditsCountFromTheNextTick : Type 0
-EditsCountFromTheNextTick = (rs : Regions) (terrain : TerrainData) (names : List (List ℕ))
+EditsCountFromTheNextTick = (rs : Regions) (terrain : MapData) (names : List (List ℕ))
     (before since : List Step) → ticks_of since ≡ 0
     → AreJudgedBy (version_after rs (edits_of before) (ticks_of before + 1))
     (game rs terrain names (before ++ Tick ∷ since))
@@ -73,39 +74,39 @@ IsDeniedBy policy play seat cmd = (rule : Rule)
 
 -- so a command is denied by the policy of the opening, before the first tick
 abbrev pub DeniedByTheOpening : Type 0
-DeniedByTheOpening = (rs : Regions) (terrain : TerrainData) (names : List (List ℕ))
+DeniedByTheOpening = (rs : Regions) (terrain : MapData) (names : List (List ℕ))
     (steps : List Step) (seat : SeatData) (cmd : Cmd) → ticks_of steps ≡ 0
     → let play = game rs terrain names steps in
     IsJudged play seat cmd → IsDeniedBy rs play seat cmd
 
 -- and then by the policy after the edits that were accepted before the last tick
 abbrev pub DeniedByTheLastTick : Type 0
-DeniedByTheLastTick = (rs : Regions) (terrain : TerrainData) (names : List (List ℕ))
+DeniedByTheLastTick = (rs : Regions) (terrain : MapData) (names : List (List ℕ))
     (before since : List Step) (seat : SeatData) (cmd : Cmd) → ticks_of since ≡ 0
     → let play = game rs terrain names (before ++ Tick ∷ since) in
     IsJudged play seat cmd → IsDeniedBy (after rs (edits_of before)) play seat cmd
 
 -- a game has as many ticks as its steps, and the edits among them, in their order
 abbrev pub StepsAreCounted : Type 0
-StepsAreCounted = (rs : Regions) (terrain : TerrainData) (names : List (List ℕ))
+StepsAreCounted = (rs : Regions) (terrain : MapData) (names : List (List ℕ))
     (steps : List Step) → let play = game rs terrain names steps in
     (play.ticks ≡ ticks_of steps) × (play.accepted ≡ edits_of steps)
 
 -- in every game the record of each sector is a window over the cells with which that began, and
 -- its cells are what the entries leave
 abbrev pub RecordsAreWindows : Type 0
-RecordsAreWindows = (rs : Regions) (terrain : TerrainData) (names : List (List ℕ))
+RecordsAreWindows = (rs : Regions) (terrain : MapData) (names : List (List ℕ))
     (steps : List Step) → All IsSector (game rs terrain names steps).sectors
 
 -- before the first tick, each window began with the cells of the terrain
 abbrev pub FirstWindowsBeginWithTheTerrain : Type 0
-FirstWindowsBeginWithTheTerrain = (rs : Regions) (terrain : TerrainData)
+FirstWindowsBeginWithTheTerrain = (rs : Regions) (terrain : MapData)
     (names : List (List ℕ)) (steps : List Step) → ticks_of steps ≡ 0
     → map base_of (game rs terrain names steps).sectors ≡ terrain.sectors
 
 -- after a tick, and until the next one, it began with the cells as they were at that tick
 abbrev pub WindowsBeginWithTheTick : Type 0
-WindowsBeginWithTheTick = (rs : Regions) (terrain : TerrainData) (names : List (List ℕ))
+WindowsBeginWithTheTick = (rs : Regions) (terrain : MapData) (names : List (List ℕ))
     (before since : List Step) → ticks_of since ≡ 0
     → map base_of (game rs terrain names (before ++ Tick ∷ since)).sectors
     ≡ map cells_of (game rs terrain names before).sectors

@@ -1,4 +1,3 @@
 pub mod Games
-pub mod Terrains
 pub mod Laws
 pub mod Plays

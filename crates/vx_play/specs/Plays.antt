@@ -14,7 +14,7 @@ use Rattle.vx_sector.specs.declared.reply.Reply.{Reply}
 use Rattle.vx_sector.specs.declared.refusal.Refusal.{Refusal}
 use Rattle.vx_sector.specs.declared.refusal.Refusal.TheVariants.{OutOfWorld}
 use Rattle.vx_cells.specs.Maps.{AreSectors}
-use Rattle.vx_play.specs.Terrains.{TerrainData}
+use Rattle.vx_cells.specs.Maps.{MapData}
 
 -- a world at play: its size and its sectors, its players' names in order of their seats, the policy
 -- that it opened with, the edits accepted since, and how many ticks there were
@@ -69,7 +69,7 @@ abbrev pub opened_with : Regions → SectorCells → SectorData
 opened_with rs = opened_by (record { tick = 1; edits = 0; policy = rs })
 
 -- the world of this terrain and these players under this policy, with nothing done yet
-abbrev pub opened : Regions → TerrainData → List (List ℕ) → PlayData
+abbrev pub opened : Regions → MapData → List (List ℕ) → PlayData
 opened rs terrain names = record {
   sizes = terrain.sizes;
   sectors = map (opened_with rs) terrain.sectors;

@@ -5,10 +5,8 @@
 pub mod laws;
 mod names;
 mod play;
-mod terrain;
 mod tick_error;
 
 pub use names::number_of;
 pub use play::{MAX_PLAYERS, Play};
-pub use terrain::Terrain;
 pub use tick_error::TickError;

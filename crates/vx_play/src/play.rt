@@ -2,12 +2,11 @@ ghost use Rattle.std.specs.Prelude.{◌≡◌, map, vec_len, IfOk, OnOk};
 ghost use Rattle.vx_play.specs.Plays.{cells_of, window_over, opened_by, renewed_by};
 
 use crate::names::number_of;
-use crate::terrain::Terrain;
 use crate::tick_error::TickError;
 use std::alloc::{AllocError, Global};
 use std::marker::Model;
 use vx_board::{DeskError, DeskState, Edited, Naming};
-use vx_cells::Cells;
+use vx_cells::{Cells, Whole};
 use vx_geom::Bounds;
 use vx_policy::{Edit, Policy, Version};
 use vx_region::Name;
@@ -64,7 +63,7 @@ impl<J: Naming> Play<J> {
     /// The world of this terrain under this policy, with nothing done yet.
     pub fn open(
         alloc: Global,
-        terrain: Terrain,
+        terrain: Whole,
         names: Vec<Name>,
         policy: Policy,
     ) -> Result<Play<J>, AllocError>

@@ -5,7 +5,7 @@ use Rattle.vx_board.specs.Accepted.{most_edits}
 use Rattle.vx_board.specs.Texts.{edit_text}
 use Rattle.vx_grammar.specs.ScriptLines.{Said, Nothing, World, Player, Set, Act, Region, Tick}
 use Rattle.vx_lines.specs.Lines.{lines_of}
-use Rattle.vx_play.specs.Terrains.{TerrainData}
+use Rattle.vx_cells.specs.Maps.{MapData}
 use Rattle.vx_play.specs.Plays.{PlayData, most_players, most_ticks, is_named, opened, seat_named, answered, policy_of, ticked}
 use Rattle.vx_policy.specs.Asked.{Asked}
 use Rattle.vx_policy.specs.Edits.{number_given}
@@ -145,7 +145,7 @@ body_fault play n [] k fault = cc
 body_fault play n (line ∷ lines) k fault = body_line play n line lines k (read_of line) refl (λ next at. body_fault next (n + 1) lines k at) fault
 
 -- a world that is made faults only as its play does
-begun_sound : (rs : Regions) (o : Opening) (n : ℕ) (terrain : Option TerrainData) (body : PlayData → Told) (k : ℕ)
+begun_sound : (rs : Regions) (o : Opening) (n : ℕ) (terrain : Option MapData) (body : PlayData → Told) (k : ℕ)
     → is_some terrain ≡ true → ((play : PlayData) → (body play).fault ≢ Some (Syntax k)) → (begun_on rs o n body terrain).fault ≢ Some (Syntax k)
 begun_sound rs o n None body k some sound fault = cc
 begun_sound rs o n (Some terrain) body k some sound fault = by (nat_lt most_players (length o.names)) fault
@@ -221,7 +221,7 @@ module _ (rs : Regions) (o : Opening) (n : ℕ) (line : List ℕ) (lines : List 
   header_last said false reads steps fault = header_stops (Some said) reads steps (cc)
   header_last said true reads steps fault = by o.terrain refl fault
     where
-      by : (terrain : Option TerrainData) → o.terrain ≡ terrain → (begun_on rs o n (λ play. body_run play n (line ∷ lines)) terrain).fault ≡ Some (Syntax k)
+      by : (terrain : Option MapData) → o.terrain ≡ terrain → (begun_on rs o n (λ play. body_run play n (line ∷ lines)) terrain).fault ≡ Some (Syntax k)
           → IsFirstFault (header_run rs o n) n (line ∷ lines) k
       by None none at = header_stops (Some said) reads (λ go body. steps go body ∙ ap (begun_on rs o n body) none) (cc)
       by (Some terrain) there at = seated (nat_lt most_players (length o.names)) refl at

@@ -4,9 +4,11 @@ use Rattle.std.specs.Option.{option_and_then, MatchOption}
 use Rattle.std.proofs.lemmas.Bool.{and_parts, leb-true}
 use Rattle.vx_geom.specs.Sizes.{AreSizes}
 use Rattle.vx_grammar.specs.ScriptLines.{Nothing, World, Player, Set, Act, Region, Tick}
-use Rattle.vx_play.specs.Terrains.{TerrainData, bare, with_part, IsTerrain}
+use Rattle.vx_block.specs.Part.{part_cell}
+use Rattle.vx_cells.specs.Maps.{MapData}
+use Rattle.vx_cells.specs.Wholes.{bare, with_cell_on, IsMap}
+use Rattle.vx_cells.proofs.Setting.{air_is_map, cell_keeps_map}
 use Rattle.vx_play.specs.Plays.{is_named}
-use Rattle.vx_play.proofs.Whole.{air_is_terrain, part_keeps_terrain}
 use Rattle.vx_region.specs.Words.{is_amid}
 use Rattle.vx_script.specs.Transcript.{with_size, with_cell_set, header_after}
 use Rattle.vx_script.specs.Openings.{IsOpening, SizesAreSound, HeadersKeepTerrain}
@@ -33,9 +35,9 @@ unfolding header_after with_cell_set
 headers_keep_terrain Nothing o next sizes terrain made = let same : o ≡ next = cc in subst IsOpening same terrain
 headers_keep_terrain (World sizes) o next valid terrain made = by o.terrain made
   where
-    by : (z : Option TerrainData) → with_size o sizes z ≡ Some next → IsOpening next
+    by : (z : Option MapData) → with_size o sizes z ≡ Some next → IsOpening next
     by (Some z) made = cc
-    by None made = let same : record o { terrain = Some (bare sizes) } ≡ next = cc in subst IsOpening same (air_is_terrain sizes valid)
+    by None made = let same : record o { terrain = Some (bare sizes) } ≡ next = cc in subst IsOpening same (air_is_map sizes valid)
 headers_keep_terrain (Player name) o next sizes terrain made = by (is_some o.terrain && not (is_named o.names name)) made
   where
     by : (b : Bool) → (if b then Some (record o { names = o.names ++ name ∷ [] }) else None) ≡ Some next → IsOpening next
@@ -43,14 +45,14 @@ headers_keep_terrain (Player name) o next sizes terrain made = by (is_some o.ter
     by true made = let same : record o { names = o.names ++ name ∷ [] } ≡ next = cc in subst IsOpening same terrain
 headers_keep_terrain (Set p part) o next sizes terrain made = by o.terrain terrain made
   where
-    with_terrain : (old : TerrainData) → IsTerrain old → (g : Option TerrainData) → with_part old p part ≡ g → option_map (λ g. record o { terrain = Some g }) g ≡ Some next → IsOpening next
+    with_terrain : (old : MapData) → IsMap old → (g : Option MapData) → with_cell_on old p (part_cell part) ≡ g → option_map (λ g. record o { terrain = Some g }) g ≡ Some next → IsOpening next
     with_terrain old whole None is made = cc
-    with_terrain old whole (Some g) is made = let same : record o { terrain = Some g } ≡ next = cc in subst IsOpening same (part_keeps_terrain old g p part whole is)
+    with_terrain old whole (Some g) is made = let same : record o { terrain = Some g } ≡ next = cc in subst IsOpening same (cell_keeps_map old g p (part_cell part) whole is)
 
-    by : (z : Option TerrainData) → MatchOption z (Unit {0}) IsTerrain
-        → option_map (λ g. record o { terrain = Some g }) (option_and_then (λ g. with_part g p part) z) ≡ Some next → IsOpening next
+    by : (z : Option MapData) → MatchOption z (Unit {0}) IsMap
+        → option_map (λ g. record o { terrain = Some g }) (option_and_then (λ g. with_cell_on g p (part_cell part)) z) ≡ Some next → IsOpening next
     by None whole made = cc
-    by (Some old) whole made = with_terrain old whole (with_part old p part) refl made
+    by (Some old) whole made = with_terrain old whole (with_cell_on old p (part_cell part)) refl made
 headers_keep_terrain (Act name cmd) o next sizes terrain made = cc
 headers_keep_terrain (Region e) o next sizes terrain made = cc
 headers_keep_terrain Tick o next sizes terrain made = cc

@@ -7,7 +7,7 @@ use Rattle.vx_lines.specs.Lines.{lines_of}
 use Rattle.vx_play.specs.Games.{Step, played, game}
 use Rattle.vx_play.specs.Games as games
 use Rattle.vx_play.specs.Plays.{PlayData, most_players, most_ticks, is_named, opened, seat_named, answered, policy_of, ticked}
-use Rattle.vx_play.specs.Terrains.{TerrainData}
+use Rattle.vx_cells.specs.Maps.{MapData}
 use Rattle.vx_policy.specs.Asked.{Asked}
 use Rattle.vx_policy.specs.Refusals.{refusal}
 use Rattle.vx_policy.specs.declared.edit_refusal.EditRefusal.{EditRefusal}
@@ -84,7 +84,7 @@ begun_plays : (rs : Regions) (o : Opening) (n : ℕ) (lines : List (List ℕ)) (
 unfolding begun
 begun_plays rs o n lines body same ends well = by o.terrain well
   where
-    by : (terrain : Option TerrainData) → Plays rs lines (begun_on rs o n body terrain)
+    by : (terrain : Option MapData) → Plays rs lines (begun_on rs o n body terrain)
     by None well = cc
     by (Some terrain) well = few (nat_lt most_players (length o.names)) well
       where

@@ -3,7 +3,7 @@ use Rattle.std.proofs.Common.{ℕ, ◌+◌, Bool, true, false, List, [], ◌∷�
 use Rattle.vx_board.specs.Accepted.{most_edits}
 use Rattle.vx_grammar.specs.ScriptLines.{Said, Nothing, World, Player, Set, Act, Region, Tick}
 use Rattle.vx_lines.specs.Lines.{lines_of}
-use Rattle.vx_play.specs.Terrains.{TerrainData}
+use Rattle.vx_cells.specs.Maps.{MapData}
 use Rattle.vx_play.specs.Plays.{PlayData, most_players, most_ticks, is_named, seat_named, answered, policy_of, ticked}
 use Rattle.vx_policy.specs.Asked.{Asked}
 use Rattle.vx_policy.specs.Refusals.{refusal}
@@ -59,7 +59,7 @@ begun_ends : (rs : Regions) (o : Opening) (n : ℕ) (body : PlayData → Told) �
 unfolding begun
 begun_ends rs o n body ends = by o.terrain
   where
-    by : (terrain : Option TerrainData) → EndsRight (begun_on rs o n body terrain)
+    by : (terrain : Option MapData) → EndsRight (begun_on rs o n body terrain)
     by None = tt
     by (Some terrain) = or_many (nat_lt most_players (length o.names)) _ (ends _)
 

@@ -2,12 +2,12 @@ use Rattle.std.specs.Prelude.{◌≡◌, ℕ, Some}
 use Rattle.std.specs.Option.{MatchOption}
 use Rattle.vx_geom.specs.Sizes.{Sizes, AreSizes}
 use Rattle.vx_grammar.specs.ScriptLines.{Said, World, sizes_of}
-use Rattle.vx_play.specs.Terrains.{IsTerrain}
+use Rattle.vx_cells.specs.Wholes.{IsMap}
 use Rattle.vx_script.specs.Transcript.{Opening, header_after}
 
 -- an opening has each sector of its size in its place, once the size was said
 abbrev pub IsOpening : Opening → Type 0
-IsOpening o = MatchOption o.terrain (Unit {0}) IsTerrain
+IsOpening o = MatchOption o.terrain (Unit {0}) IsMap
 
 -- the sizes that a `world` line can say are those of a world
 abbrev pub SizesAreSound : Type 0

@@ -5,7 +5,7 @@ use Rattle.vx_lines.specs.Lines.{lines_of}
 use Rattle.vx_play.specs.Games.{Step, after_step, game}
 use Rattle.vx_play.specs.Games as games
 use Rattle.vx_play.specs.Plays.{PlayData, opened, seat_named, policy_of}
-use Rattle.vx_play.specs.Terrains.{TerrainData}
+use Rattle.vx_cells.specs.Maps.{MapData}
 use Rattle.vx_policy.specs.Asked.{Asked}
 use Rattle.vx_policy.specs.Refusals.{refusal}
 use Rattle.vx_policy.specs.declared.edit_refusal.EditRefusal.{EditRefusal}
@@ -51,7 +51,7 @@ pub record PlaysGame (rs : Regions) (lines : List (List ℕ)) (text : List ℕ) 
   pub body : List (List ℕ)
   pub parts : lines ≡ header ++ body
   pub number : ℕ
-  pub terrain : TerrainData
+  pub terrain : MapData
   pub names : List (List ℕ)
   pub whole : text ≡ (body_run (opened rs terrain names) number body).text
   pub ends : EndsIn text (game rs terrain names (steps_of (opened rs terrain names) body))

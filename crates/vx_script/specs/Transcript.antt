@@ -2,6 +2,7 @@
 use Rattle.std.specs.Prelude.{ℕ, ◌+◌, Bool, true, false, not, ◌&&◌, ◌==◌, nat_lt, nat_le, codes, decimal, if◌then◌else◌, List, [], ◌∷◌, ◌++◌, length, Option, Some, None, option_map, is_some, Result, Ok, Err}
 use Rattle.std.specs.Option.{option_and_then}
 use Rattle.vx_block.specs.declared.part.Part.{Part}
+use Rattle.vx_block.specs.Part.{part_cell}
 use Rattle.vx_geom.specs.declared.pos.Pos.{Pos}
 use Rattle.vx_geom.specs.Sizes.{Sizes}
 use Rattle.vx_region.specs.Regions.{Regions}
@@ -20,14 +21,15 @@ use Rattle.vx_sector.specs.declared.refusal.Refusal.{Refusal}
 use Rattle.vx_sector.specs.declared.refusal.Refusal.TheVariants as refused
 use Rattle.vx_lines.specs.Lines.{lines_of}
 use Rattle.vx_grammar.specs.ScriptLines.{Said, Nothing, World, Player, Set, Act, Region, Tick, line_of}
-use Rattle.vx_play.specs.Terrains.{TerrainData, bare, with_part}
+use Rattle.vx_cells.specs.Maps.{MapData}
+use Rattle.vx_cells.specs.Wholes.{bare, with_cell_on}
 use Rattle.vx_play.specs.Plays.{PlayData, most_players, most_ticks, is_named, opened, seat_named, answered, calls, policy_of, ticked}
 use Rattle.vx_script.specs.Told.{Told, only, faulted, prepend}
 use Rattle.vx_script.specs.declared.fault.Fault.TheVariants.{HistoryFull, Syntax, TooManyPlayers}
 
 -- the world as it opens, so far: its cells, once its size was said, and its players' names
 pub record Opening : Type 0 where
-  pub terrain : Option TerrainData
+  pub terrain : Option MapData
   pub names : List (List ℕ)
 
 -- nothing was said yet
@@ -43,7 +45,7 @@ unfoldable pub read_of : List ℕ → Option Said
 read_of line = if nat_lt most_bytes (length line) then None else line_of line
 
 -- the size is said once
-abbrev pub with_size : Opening → Sizes → Option TerrainData → Option Opening
+abbrev pub with_size : Opening → Sizes → Option MapData → Option Opening
 with_size o sizes None = Some (record o { terrain = Some (bare sizes) })
 with_size o sizes (Some terrain) = None
 
@@ -58,7 +60,7 @@ with_player o name =
 unfoldable pub with_cell_set : Opening → Pos → Part → Option Opening
 with_cell_set o p part =
     option_map (λ g. record o { terrain = Some g })
-    (option_and_then (λ g. with_part g p part) o.terrain)
+    (option_and_then (λ g. with_cell_on g p (part_cell part)) o.terrain)
 
 -- the opening after a line of the header; none where the line may not stand there
 unfoldable pub header_after : Opening → Said → Option Opening
@@ -71,7 +73,7 @@ header_after o (Region e) = None
 header_after o Tick = None
 
 -- the world made of the opening at line n, and what it tells from there on
-abbrev pub begun_on : Regions → Opening → ℕ → (PlayData → Told) → Option TerrainData → Told
+abbrev pub begun_on : Regions → Opening → ℕ → (PlayData → Told) → Option MapData → Told
 begun_on rs o n body None = faulted (Syntax n)
 begun_on rs o n body (Some terrain) =
     if nat_lt most_players (length o.names)

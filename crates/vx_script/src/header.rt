@@ -5,16 +5,17 @@ use std::alloc::{AllocError, Global};
 use std::marker::Model;
 use vx_block::Part;
 use vx_board::Naming;
+use vx_cells::Whole;
 use vx_geom::{Bounds, Pos};
 use vx_grammar::Line;
-use vx_play::{MAX_PLAYERS, Play, Terrain, number_of};
+use vx_play::{MAX_PLAYERS, Play, number_of};
 use vx_policy::Policy;
 use vx_region::Name;
 
 /// The header of a script: the world as it opens, as far as it was read.
 #[derive(Drop)]
 pub struct Header {
-    terrain: Option<Terrain>,
+    terrain: Option<Whole>,
     names: Vec<Name>,
 }
 
@@ -158,7 +159,7 @@ impl Header {
         if self.terrain.is_some() {
             return Ok(false);
         }
-        self.terrain = Some(Terrain::new(alloc, bounds)?);
+        self.terrain = Some(Whole::new(alloc, bounds)?);
         Ok(true)
     }
 
@@ -180,7 +181,7 @@ impl Header {
         ensures refused { result ≡ Ok false → with_cell_set self.old p part ≡ None }
     {
         match &mut self.terrain {
-            Some(terrain) => terrain.set(p, part),
+            Some(terrain) => terrain.set(p, part.cell()),
             None => Ok(false),
         }
     }

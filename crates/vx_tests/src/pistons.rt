@@ -1,5 +1,5 @@
 //! What pistons would move, and which of the moves are made.
-use crate::game::Game;
+use crate::game::{Placed, moves};
 use std::alloc::{AllocError, Global};
 use std::process::Abort;
 use std::test::Fail;
@@ -12,103 +12,108 @@ use vx_step::{Fate, fates};
 
 const BY_1: Rule = Rule::Member { at: RegionNo(1) };
 
-fn at(x: i32, y: i32, z: i32) -> Pos {
-    Pos::new(x, y, z)
-}
-
-// The position so many steps east of an x, in the row of the pushes and draws.
-fn row(x: i32, steps: i32) -> Pos {
-    at(x.saturating_add(steps), 1, 5)
-}
-
-// A piston at x, facing east, with a lever that is on beside it and so many cells of stone before
-// it, and then a last cell.
-fn push(
-    rt: &impl Abort,
-    alloc: Global,
-    x: i32,
-    stones: i32,
-    last: &str,
-) -> Result<Game, AllocError> {
-    let mut game = Game::small(rt, alloc)?;
-    game.put(rt, row(x, 0), "piston:east:in")?;
-    game.put(rt, at(x, 1, 6), "lever:down:on")?;
-    for n in 0..stones {
-        game.put(rt, row(x, n.saturating_add(1)), "stone")?;
+// The only move takes so many cells, one behind the other, its piston's at x first; none is made
+// where it takes none.
+fn takes(rt: &impl Abort, moves: &[Move], x: i32, cells: usize) {
+    assert_eq!(rt; moves.len(), cells.min(1));
+    for m in moves {
+        assert_eq!(rt; (m.at, m.cells.len()), (Pos::new(x, 1, 5), cells));
+        let mut due = x;
+        for p in m.cells.as_slice() {
+            assert_eq!(rt; *p, Pos::new(due, 1, 5));
+            due = due.saturating_add(1);
+        }
     }
-    game.put(rt, row(x, stones.saturating_add(1)), last)?;
-    Ok(game)
 }
 
-// A piston at x that is out, without power, with its head and a cell behind that.
-fn draw(
+// A piston at x 5, facing east, with a lever that is on beside it and thirteen cells of stone
+// before it.
+const STONES: Placed<'static> = &[
+    (5, 1, 5, "piston:east:in"),
+    (5, 1, 6, "lever:down:on"),
+    (6, 1, 5, "stone"),
+    (7, 1, 5, "stone"),
+    (8, 1, 5, "stone"),
+    (9, 1, 5, "stone"),
+    (10, 1, 5, "stone"),
+    (11, 1, 5, "stone"),
+    (12, 1, 5, "stone"),
+    (13, 1, 5, "stone"),
+    (14, 1, 5, "stone"),
+    (15, 1, 5, "stone"),
+    (16, 1, 5, "stone"),
+    (17, 1, 5, "stone"),
+    (18, 1, 5, "stone"),
+];
+
+// Twelve cells are moved and not thirteen, what breaks ends a row, and what stays stops it. What
+// is given takes the place of one of the stones.
+#[test]
+fn a_push_moves_twelve_cells(rt: HostRuntime) -> Result<(), Fail> {
+    for (x, text, cells) in [
+        (6, "air", 2),
+        (8, "air", 4),
+        (18, "air", 14),
+        (19, "air", 0),
+        (6, "dust:0", 2),
+        (18, "dust:0", 14),
+        (6, "obsidian", 0),
+        (7, "chest", 0),
+    ] {
+        let moves = moves(&rt, rt.alloc(), &[STONES, &[(x, 1, 5, text)]])?;
+        takes(&rt, moves.as_slice(), 5, cells);
+    }
+    Ok(())
+}
+
+// The world ends behind x 31.
+#[test]
+fn a_push_ends_at_the_border_of_the_world(rt: HostRuntime) -> Result<(), Fail> {
+    for (x, stone, cells) in [(29, 30, 3), (30, 31, 0), (31, 30, 0)] {
+        let cells_put = [
+            (x, 1, 5, "piston:east:in"),
+            (x, 1, 6, "lever:down:on"),
+            (stone, 1, 5, "stone"),
+        ];
+        let moves = moves(&rt, rt.alloc(), &[&cells_put])?;
+        takes(&rt, moves.as_slice(), x, cells);
+    }
+    Ok(())
+}
+
+const STICKY: [&str; 2] = ["sticky:east:out", "head:east:sticky"];
+
+const PLAIN: [&str; 2] = ["piston:east:out", "head:east:plain"];
+
+// A sticky piston pulls what moves; a plain one leaves it.
+#[test]
+fn a_sticky_piston_pulls(rt: HostRuntime) -> Result<(), Fail> {
+    for (x, piston, behind, cells) in [
+        (5, STICKY, "stone", 3),
+        (5, STICKY, "air", 2),
+        (5, STICKY, "dust:0", 2),
+        (5, STICKY, "obsidian", 2),
+        (30, STICKY, "air", 2),
+        (5, PLAIN, "stone", 2),
+    ] {
+        let moves = drawn(&rt, rt.alloc(), x, piston, behind)?;
+        takes(&rt, moves.as_slice(), x, cells);
+    }
+    Ok(())
+}
+
+// What a piston at x that is out, without power, asks for, with its head and a cell behind that.
+fn drawn(
     rt: &impl Abort,
     alloc: Global,
     x: i32,
     piston: [&str; 2],
     behind: &str,
-) -> Result<Game, AllocError> {
-    let mut game = Game::small(rt, alloc)?;
-    game.put(rt, row(x, 0), piston[0])?;
-    game.put(rt, row(x, 1), piston[1])?;
-    game.put(rt, row(x, 2), behind)?;
-    Ok(game)
-}
-
-// The only move takes so many cells, one behind the other, its piston's first; none is made where
-// it takes none.
-fn takes(rt: &impl Abort, moves: &[Move], x: i32, cells: usize) {
-    assert_eq!(rt; moves.len(), cells.min(1));
-    for m in moves {
-        assert_eq!(rt; (m.at, m.cells.len()), (row(x, 0), cells));
-        let mut due = row(x, 0);
-        for p in m.cells.as_slice() {
-            assert_eq!(rt; *p, due);
-            due = row(due.x, 1);
-        }
-    }
-}
-
-// Twelve cells are moved and not thirteen, what breaks ends a row, and what stays stops it. The
-// world ends behind x 31.
-#[test]
-fn a_push_moves_twelve_cells(rt: HostRuntime) -> Result<(), Fail> {
-    for (x, stones, last, cells) in [
-        (5, 0, "air", 2),
-        (5, 2, "air", 4),
-        (5, 12, "air", 14),
-        (5, 13, "air", 0),
-        (5, 0, "dust:0", 2),
-        (5, 12, "dust:0", 14),
-        (5, 0, "obsidian", 0),
-        (5, 1, "chest", 0),
-        (29, 1, "air", 3),
-        (30, 1, "air", 0),
-        (31, 0, "air", 0),
-    ] {
-        let game = push(&rt, rt.alloc(), x, stones, last)?;
-        takes(&rt, game.moves(rt.alloc())?.as_slice(), x, cells);
-    }
-    Ok(())
-}
-
-// A sticky piston pulls what moves; a plain one leaves it.
-#[test]
-fn a_sticky_piston_pulls(rt: HostRuntime) -> Result<(), Fail> {
-    let sticky = ["sticky:east:out", "head:east:sticky"];
-    let plain = ["piston:east:out", "head:east:plain"];
-    for (x, piston, behind, cells) in [
-        (5, sticky, "stone", 3),
-        (5, sticky, "air", 2),
-        (5, sticky, "dust:0", 2),
-        (5, sticky, "obsidian", 2),
-        (30, sticky, "air", 2),
-        (5, plain, "stone", 2),
-    ] {
-        let game = draw(&rt, rt.alloc(), x, piston, behind)?;
-        takes(&rt, game.moves(rt.alloc())?.as_slice(), x, cells);
-    }
-    Ok(())
+) -> Result<Vec<Move>, Fail> {
+    let [piston, head] = piston;
+    let (next, last) = (x.saturating_add(1), x.saturating_add(2));
+    let cells = [(x, 1, 5, piston), (next, 1, 5, head), (last, 1, 5, behind)];
+    moves(rt, alloc, &[&cells])
 }
 
 // Regions files with ann's land, number 1.
@@ -122,98 +127,107 @@ const FROM_5: &str =
 const IN_A_COUNTRY: &str =
     "version = 1\n[[region]]\nid = 'land'\nparent = 'country'\ncuboid = [8, 0, 0, 15, 63, 15]\nowners = ['ann']\n[[region]]\nid = 'country'\ncuboid = [0, 0, 0, 15, 63, 15]\nowners = ['ann']\n";
 
-// What becomes of these moves by a regions file.
-fn fates_by(alloc: Global, file: &str, moves: &[Move]) -> Result<Vec<(Pos, Fate)>, Fail> {
+// These moves have these fates by a regions file.
+fn end(
+    rt: &impl Abort,
+    alloc: Global,
+    file: &str,
+    moves: &[Move],
+    due: &[(Pos, Fate)],
+) -> Result<(), Fail> {
     let policy = read_policy(alloc, file.as_bytes())?;
-    Ok(fates(alloc, &Plain::new(policy.regions()), moves)?)
+    let told = fates(alloc, &Plain::new(policy.regions()), moves)?;
+    assert_eq!(&rt; told.as_slice(), due);
+    Ok(())
 }
 
 // The machine owns the land that it stands on, and is a stranger to other land, even in a country
 // of one owner.
 #[test]
 fn a_move_is_denied_at_its_first_foreign_cell(rt: HostRuntime) -> Result<(), Fail> {
-    let push = push(&rt, rt.alloc(), 5, 4, "air")?.moves(rt.alloc())?;
-    let denied = Fate::Denied(at(8, 1, 5), BY_1);
-    for (file, fate) in [
-        (FROM_8, denied),
-        (FROM_5, Fate::Moved),
-        (IN_A_COUNTRY, denied),
-    ] {
-        let told = fates_by(rt.alloc(), file, push.as_slice())?;
-        assert_eq!(&rt; told.as_slice(), [(at(5, 1, 5), fate)].as_slice());
-    }
-    let sticky = ["sticky:east:out", "head:east:sticky"];
-    let draw = draw(&rt, rt.alloc(), 6, sticky, "stone")?.moves(rt.alloc())?;
-    let told = fates_by(rt.alloc(), FROM_8, draw.as_slice())?;
-    assert_eq!(&rt; told.as_slice(), [(at(6, 1, 5), denied)].as_slice());
-    Ok(())
+    let alloc = rt.alloc();
+    let denied = Fate::Denied(Pos::new(8, 1, 5), BY_1);
+    let push = moves(&rt, alloc, &[STONES, &[(10, 1, 5, "air")]])?;
+    let piston = Pos::new(5, 1, 5);
+    end(&rt, alloc, FROM_8, push.as_slice(), &[(piston, denied)])?;
+    end(
+        &rt,
+        alloc,
+        FROM_5,
+        push.as_slice(),
+        &[(piston, Fate::Moved)],
+    )?;
+    end(
+        &rt,
+        alloc,
+        IN_A_COUNTRY,
+        push.as_slice(),
+        &[(piston, denied)],
+    )?;
+    let draw = drawn(&rt, alloc, 6, STICKY, "stone")?;
+    end(
+        &rt,
+        alloc,
+        FROM_8,
+        draw.as_slice(),
+        &[(Pos::new(6, 1, 5), denied)],
+    )
 }
 
 // What claims each of the moves, in order: no policy denies them.
-fn beaten(alloc: Global, moves: &[Move]) -> Result<Vec<Option<Pos>>, AllocError> {
+fn claimed(
+    rt: &impl Abort,
+    alloc: Global,
+    moves: &[Move],
+    due: &[Option<Pos>],
+) -> Result<(), AllocError> {
     let claims = claims(alloc, moves)?;
-    let mut all = Vec::new(alloc);
-    for m in moves {
-        all.push(claims.wins(m))?;
+    assert_eq!(rt; moves.len(), due.len());
+    for (m, by) in moves.iter().zip(due) {
+        assert_eq!(rt; claims.wins(m), *by);
     }
-    Ok(all)
+    Ok(())
 }
 
 // Three want the cell between two pistons that face each other: the first has it.
 #[test]
 fn the_first_of_three_has_the_cell(rt: HostRuntime) -> Result<(), Fail> {
-    let (first, second, third) = (at(4, 1, 4), at(6, 1, 4), at(5, 1, 6));
-    let game = Game::with(
-        &rt,
-        rt.alloc(),
-        &[
-            (first, "piston:east:in"),
-            (at(4, 1, 5), "lever:down:on"),
-            (second, "piston:west:in"),
-            (at(6, 1, 5), "lever:down:on"),
-            (third, "piston:north:in"),
-            (at(5, 1, 7), "lever:down:on"),
-            (at(5, 1, 5), "stone"),
-        ],
-    )?;
-    let moves = game.moves(rt.alloc())?;
-    let told = beaten(rt.alloc(), moves.as_slice())?;
-    assert_eq!(&rt;
-        told.as_slice(),
-        [None, Some(first), Some(first)].as_slice()
-    );
+    let (first, second, third) = (Pos::new(4, 1, 4), Pos::new(6, 1, 4), Pos::new(5, 1, 6));
+    let cells = [
+        (4, 1, 4, "piston:east:in"),
+        (4, 1, 5, "lever:down:on"),
+        (6, 1, 4, "piston:west:in"),
+        (6, 1, 5, "lever:down:on"),
+        (5, 1, 6, "piston:north:in"),
+        (5, 1, 7, "lever:down:on"),
+        (5, 1, 5, "stone"),
+    ];
+    let moves = moves(&rt, rt.alloc(), &[&cells])?;
+    let beaten = [None, Some(first), Some(first)];
+    claimed(&rt, rt.alloc(), moves.as_slice(), &beaten)?;
     // a move that is denied claims nothing
-    let told = fates_by(rt.alloc(), FROM_5, moves.as_slice())?;
     let due = [
-        (first, Fate::Denied(at(5, 1, 4), BY_1)),
+        (first, Fate::Denied(Pos::new(5, 1, 4), BY_1)),
         (second, Fate::Moved),
         (third, Fate::Beaten(second)),
     ];
-    assert_eq!(&rt; told.as_slice(), due.as_slice());
-    Ok(())
+    end(&rt, rt.alloc(), FROM_5, moves.as_slice(), &due)
 }
 
 // The second wants a cell of the first, and the third one of the second.
 #[test]
 fn a_piston_that_is_beaten_still_beats(rt: HostRuntime) -> Result<(), Fail> {
-    let (first, second) = (at(4, 1, 4), at(5, 2, 4));
-    let game = Game::with(
-        &rt,
-        rt.alloc(),
-        &[
-            (first, "piston:east:in"),
-            (at(4, 1, 5), "lever:down:on"),
-            (second, "piston:down:in"),
-            (at(5, 2, 5), "lever:down:on"),
-            (at(6, 2, 4), "piston:west:in"),
-            (at(6, 2, 5), "lever:down:on"),
-        ],
-    )?;
-    let moves = game.moves(rt.alloc())?;
-    let told = beaten(rt.alloc(), moves.as_slice())?;
-    assert_eq!(&rt;
-        told.as_slice(),
-        [None, Some(first), Some(second)].as_slice()
-    );
+    let (first, second) = (Pos::new(4, 1, 4), Pos::new(5, 2, 4));
+    let cells = [
+        (4, 1, 4, "piston:east:in"),
+        (4, 1, 5, "lever:down:on"),
+        (5, 2, 4, "piston:down:in"),
+        (5, 2, 5, "lever:down:on"),
+        (6, 2, 4, "piston:west:in"),
+        (6, 2, 5, "lever:down:on"),
+    ];
+    let moves = moves(&rt, rt.alloc(), &[&cells])?;
+    let beaten = [None, Some(first), Some(second)];
+    claimed(&rt, rt.alloc(), moves.as_slice(), &beaten)?;
     Ok(())
 }

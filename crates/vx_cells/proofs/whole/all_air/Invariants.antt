@@ -1,6 +1,6 @@
 use Rattle.std.proofs.Common.{◌≡◌, length}
-use Rattle.vx_play.specs.Terrains.{airs}
-use Rattle.vx_play.proofs.terrain.all_air.Given as goal
+use Rattle.vx_cells.specs.Wholes.{airs}
+use Rattle.vx_cells.proofs.whole.all_air.Given as goal
 
 -- the sectors up to this number
 abbrev pub invariant-loop-number : goal.invariant-loop-number

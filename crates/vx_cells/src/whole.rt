@@ -1,48 +1,48 @@
 ghost use Rattle.std.specs.Prelude.{◌≡◌, Some, None, true, false, Ok, IfOk, OnErr};
 ghost use Rattle.vx_geom.specs.Sizes.{AreSizes, sector_count};
-ghost use Rattle.vx_play.specs.Terrains.{airs, bare, with_part, IsTerrain};
+ghost use Rattle.vx_cells.specs.Wholes.{airs, bare, with_cell_on, IsMap};
 
+use crate::cells::Cells;
+use crate::frozen::Frozen;
 use std::alloc::{AllocError, Global};
 use std::marker::Model;
-use vx_block::Part;
-use vx_cells::Cells;
+use vx_block::Cell;
 use vx_geom::{Bounds, Pos};
 
-/// The cells of a world before anybody plays, each sector in its place.
+/// The whole map of a world, with its sectors, each in its place.
 #[derive(Drop)]
-pub struct Terrain {
+pub struct Whole {
     bounds: Bounds,
     sectors: Vec<Cells>,
 }
 
-impl Model for Terrain {
-    ghost use Rattle.vx_cells.specs.Maps.{AreSectors};
-    ghost use Rattle.vx_play.specs.Terrains.{TerrainData};
+impl Model for Whole {
+    ghost use Rattle.vx_cells.specs.Maps.{MapData, AreSectors};
 
-    ghost Value = { TerrainData };
+    ghost Value = { MapData };
 
     ghost view = { λ a. record { sizes = a.bounds; sectors = a.sectors.items } };
 
     ghost invariant = { λ a. AreSectors a.bounds a.sectors.items };
 }
 
-impl Terrain {
+impl Whole {
     /// A world of this size with nothing but air.
-    pub fn new(alloc: Global, bounds: Bounds) -> Result<Terrain, AllocError>
-        ensures { IfOk result (λ terrain. terrain ≡ bare bounds) }
+    pub fn new(alloc: Global, bounds: Bounds) -> Result<Whole, AllocError>
+        ensures { IfOk result (λ whole. whole ≡ bare bounds) }
     {
-        Ok(Terrain {
+        Ok(Whole {
             bounds,
             sectors: all_air(alloc, bounds)?,
         })
     }
 
-    /// Sets a part at a position, in place of what was set there before. `Ok(false)` outside the
-    /// world.
-    #[tactic(auto, unfolding(crate::specs::Terrains::with_part))]
-    pub fn set(&mut self, p: Pos, part: Part) -> Result<bool, AllocError>
-        ensures set { result ≡ Ok true → with_part self.old p part ≡ Some self.new }
-        ensures outside { result ≡ Ok false → with_part self.old p part ≡ None }
+    /// Puts a cell down at a position, in place of what was there before; a chest begins empty.
+    /// `Ok(false)` outside the world.
+    #[tactic(auto, unfolding(crate::specs::Wholes::with_cell_on))]
+    pub fn set(&mut self, p: Pos, cell: Cell) -> Result<bool, AllocError>
+        ensures set { result ≡ Ok true → with_cell_on self.old p cell ≡ Some self.new }
+        ensures outside { result ≡ Ok false → with_cell_on self.old p cell ≡ None }
         ensures err { OnErr result (self.new ≡ self.old) }
     {
         let Some(number) = self.bounds.sector_of(p) else {
@@ -54,15 +54,22 @@ impl Terrain {
         if !cells.holds(p) {
             return Ok(false);
         }
-        cells.set(p, part.cell())?;
+        cells.set(p, cell)?;
         Ok(true)
+    }
+
+    /// The map as it stands. Nothing is copied.
+    pub fn frozen(&self) -> Frozen<'_>
+        ensures { result ≡ self.now }
+    {
+        Frozen::new(self.bounds, &self.sectors)
     }
 
     /// The size of the world and its sectors in order. It takes no memory.
     pub fn into_parts(self) -> (Bounds, Vec<Cells>)
         ensures bounds { result.0 ≡ self.sizes }
         ensures sectors { result.1.items ≡ self.sectors }
-        ensures whole { IsTerrain self }
+        ensures whole { IsMap self }
     {
         (self.bounds, self.sectors)
     }

@@ -1,7 +1,7 @@
 use Rattle.std.proofs.Common.{◌≡◌, ℕ, suc, ◌+◌, [], ◌∷◌, ◌++◌, length, ap, ◌∙◌, arith}
 use Rattle.std.proofs.lemmas.List.{length-append}
-use Rattle.vx_play.specs.Terrains.{airs}
-use Rattle.vx_play.proofs.terrain.all_air.Goals as goal
+use Rattle.vx_cells.specs.Wholes.{airs}
+use Rattle.vx_cells.proofs.whole.all_air.Goals as goal
 
 pub loop-number-preserved : goal.loop-number-preserved
 loop-number-preserved c =

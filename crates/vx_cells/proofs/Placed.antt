@@ -6,7 +6,6 @@ use Rattle.vx_geom.specs.declared.pos.Pos.{Pos}
 use Rattle.vx_geom.specs.Sizes.{Sizes, sector_of}
 use Rattle.vx_cells.specs.SectorCells.{SectorCells, only_air, holds}
 use Rattle.vx_cells.specs.Maps.{AreFrom}
-use Rattle.vx_cells.proofs.MapLemmas.{placed_at}
 use Rattle.vx_cells.specs.Wholes.{airs}
 
 pub from_push : (sizes : Sizes) (k : ℕ) (cs : List SectorCells) (c : SectorCells) → AreFrom sizes k cs → c.bounds ≡ sizes → c.sector ≡ k + length cs

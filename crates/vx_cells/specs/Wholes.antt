@@ -1,6 +1,6 @@
 -- A whole map: as it is made, and with a cell put down.
 use Rattle.std.specs.Prelude.{ℕ, zero, suc, if◌then◌else◌, List, [], ◌∷◌, ◌++◌, slice_get, slice_set, Option, Some, None}
-use Rattle.std.specs.Option.{option_and_then}
+use Rattle.std.specs.Option.{option_and_then, unwrap_or}
 use Rattle.vx_block.specs.declared.cell.Cell.{Cell}
 use Rattle.vx_geom.specs.declared.pos.Pos.{Pos}
 use Rattle.vx_geom.specs.Sizes.{Sizes, sector_count, sector_of}
@@ -28,6 +28,11 @@ set_in m p cell k (Some cells) =
 unfoldable pub with_cell_on : MapData → Pos → Cell → Option MapData
 with_cell_on m p cell =
     option_and_then (λ k. set_in m p cell k (slice_get m.sectors k)) (sector_of m.sizes p)
+
+-- the map with these cells put down one after another; those outside the world are left out
+abbrev pub with_cells_on : MapData → List (Pos × Cell) → MapData
+with_cells_on m [] = m
+with_cells_on m (put ∷ puts) = with_cells_on (unwrap_or (with_cell_on m put.0 put.1) m) puts
 
 -- a map has each sector of its size in its place
 abbrev pub IsMap : MapData → Type 0

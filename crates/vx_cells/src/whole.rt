@@ -1,4 +1,4 @@
-ghost use Rattle.std.specs.Prelude.{◌≡◌, Some, None, true, false, Ok, IfOk, OnErr};
+ghost use Rattle.std.specs.Prelude.{◌≡◌, Some, None, true, false, Ok, IfOk, OnOk};
 ghost use Rattle.vx_geom.specs.Sizes.{AreSizes, sector_count};
 ghost use Rattle.vx_cells.specs.Wholes.{airs, bare, with_cell_on, IsMap};
 
@@ -27,6 +27,10 @@ impl Model for Whole {
 }
 
 impl Whole {
+    ghost use Rattle.std.specs.Prelude.{◌≢◌, map};
+    ghost use Rattle.vx_cells.specs.Maps.{AreSectors};
+    ghost use Rattle.vx_cells.specs.Wholes.{with_cells_on};
+
     /// A world of this size with nothing but air.
     pub fn new(alloc: Global, bounds: Bounds) -> Result<Whole, AllocError>
         ensures { IfOk result (λ whole. whole ≡ bare bounds) }
@@ -37,13 +41,35 @@ impl Whole {
         })
     }
 
+    /// The whole map of these sectors: those of a world of this size, in order of their numbers.
+    pub fn from_parts(bounds: Bounds, sectors: Vec<Cells>) -> Whole
+        requires { AreSectors bounds sectors.items }
+        ensures { result ≡ record { sizes = bounds; sectors = sectors.items } }
+    {
+        Whole { bounds, sectors }
+    }
+
+    /// A copy of the map.
+    pub fn try_clone(&self) -> Result<Whole, AllocError>
+        ensures { IfOk result (λ copy. copy ≡ self.now) }
+    {
+        let mut sectors = Vec::new(*self.sectors.allocator());
+        for cells in &self.sectors {
+            sectors.push(cells.try_clone()?)?;
+        }
+        Ok(Whole {
+            bounds: self.bounds,
+            sectors,
+        })
+    }
+
     /// Puts a cell down at a position, in place of what was there before; a chest begins empty.
     /// `Ok(false)` outside the world.
     #[tactic(auto, unfolding(crate::specs::Wholes::with_cell_on))]
     pub fn set(&mut self, p: Pos, cell: Cell) -> Result<bool, AllocError>
         ensures set { result ≡ Ok true → with_cell_on self.old p cell ≡ Some self.new }
         ensures outside { result ≡ Ok false → with_cell_on self.old p cell ≡ None }
-        ensures err { OnErr result (self.new ≡ self.old) }
+        ensures kept { result ≢ Ok true → self.new ≡ self.old }
     {
         let Some(number) = self.bounds.sector_of(p) else {
             return Ok(false);
@@ -58,11 +84,29 @@ impl Whole {
         Ok(true)
     }
 
+    /// Puts these cells down one after another, and leaves out those outside the world. Where
+    /// memory is wanted, the first of them may be put down.
+    pub fn set_all(&mut self, cells: &[(Pos, Cell)]) -> Result<(), AllocError>
+        ensures { OnOk result (self.new ≡ with_cells_on self.old cells.now) }
+    {
+        for (p, cell) in cells {
+            self.set(*p, *cell)?;
+        }
+        Ok(())
+    }
+
     /// The map as it stands. Nothing is copied.
     pub fn frozen(&self) -> Frozen<'_>
         ensures { result ≡ self.now }
     {
         Frozen::new(self.bounds, &self.sectors)
+    }
+
+    /// The sectors in order of their numbers.
+    pub fn sectors(&self) -> &[Cells]
+        ensures { result.now ≡ self.now.sectors }
+    {
+        &self.sectors
     }
 
     /// The size of the world and its sectors in order. It takes no memory.

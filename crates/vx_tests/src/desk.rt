@@ -14,22 +14,39 @@ use vx_region::RegionNo;
 #[test]
 fn edits_are_accepted_or_refused_and_versions_fixed(rt: HostRuntime) -> Result<(), Fail> {
     let mut desk = DeskState::<Brand>::new(rt.alloc(), Policy::new(rt.alloc())?);
-    edit_and_fix(&rt, rt.alloc(), &mut desk)
+    let opening = desk.fix(1)?;
+    edit_and_fix(&rt, rt.alloc(), &mut desk)?;
+    assert_eq!(rt; seen(&opening), (1, 0, 0));
+    Ok(())
 }
 
 fn edit_and_fix(rt: &impl Abort, alloc: Global, desk: &mut DeskState<Brand>) -> Result<(), Fail> {
-    let opening = desk.fix(1)?;
-    assert_eq!(rt; desk.apply(alloc, define(alloc, "plot")?), told(1));
+    answers(rt, alloc, desk, "plot", told(1))?;
     let first = desk.fix(1)?;
-    assert_eq!(rt; desk.apply(alloc, define(alloc, "farm")?), told(2));
+    answers(rt, alloc, desk, "farm", told(2))?;
     let known = Err(DeskError::Refused(EditRefusal::Known));
-    assert_eq!(rt; desk.apply(alloc, define(alloc, "PLOT")?), known);
-    assert_eq!(rt; (desk.count(), seen(&desk.fix(2)?)), (2, (2, 2, 2)));
-    assert_eq!(rt;
-        (desk.accepted().len(), desk.policy().regions().count()),
-        (2, 2)
-    );
-    assert_eq!(rt; [seen(&opening), seen(&first)], [(1, 0, 0), (1, 1, 1)]);
+    answers(rt, alloc, desk, "PLOT", known)?;
+    assert_eq!(rt; seen(&first), (1, 1, 1));
+    fixes_two(rt, desk)
+}
+
+// A definition under that id is answered this.
+fn answers(
+    rt: &impl Abort,
+    alloc: Global,
+    desk: &mut DeskState<Brand>,
+    id: &str,
+    due: Result<Edited, DeskError>,
+) -> Result<(), Fail> {
+    let edit = define(alloc, id)?;
+    assert_eq!(rt; desk.apply(alloc, edit), due);
+    Ok(())
+}
+
+fn fixes_two(rt: &impl Abort, desk: &DeskState<Brand>) -> Result<(), Fail> {
+    assert_eq!(rt; seen(&desk.fix(2)?), (2, 2, 2));
+    let counts = (desk.count(), desk.accepted().len());
+    assert_eq!(rt; (counts, desk.policy().regions().count()), ((2, 2), 2));
     Ok(())
 }
 

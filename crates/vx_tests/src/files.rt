@@ -159,15 +159,14 @@ fn refused(rt: &impl Abort, alloc: Global, bytes: &[u8]) {
     );
 }
 
-fn counts(rt: &impl Abort, alloc: Global, text: &str, regions: u32) {
-    match read_policy(alloc, text.as_bytes()) {
-        Ok(policy) => assert_eq!(rt; policy.regions().count(), regions, "{text}"),
-        Err(fault) => panic!(rt; "{fault:?} for {text}"),
-    }
+fn counts(rt: &impl Abort, alloc: Global, text: &str, regions: u32) -> Result<(), Fail> {
+    let policy = read_policy(alloc, text.as_bytes())?;
+    assert_eq!(rt; policy.regions().count(), regions, "{text}");
+    Ok(())
 }
 
 #[test]
-fn files_with_few_regions(rt: HostRuntime) {
+fn files_with_few_regions(rt: HostRuntime) -> Result<(), Fail> {
     for (text, regions) in [
         ("version = 1", 0),
         ("version = +1\nregion = []\nglobal = {}\n", 0),
@@ -184,8 +183,9 @@ fn files_with_few_regions(rt: HostRuntime) {
             2,
         ),
     ] {
-        counts(&rt, rt.alloc(), text, regions);
+        counts(&rt, rt.alloc(), text, regions)?;
     }
+    Ok(())
 }
 
 // A region that is whole.
@@ -194,7 +194,7 @@ const WHOLE: &str = "version = 1\n[[region]]\nid = 'a'\ncuboid = [0, 0, 0, 1, 1,
 #[test]
 fn what_may_not_stand_in_a_region(rt: HostRuntime) -> Result<(), Fail> {
     let alloc = rt.alloc();
-    counts(&rt, alloc, WHOLE, 1);
+    counts(&rt, alloc, WHOLE, 1)?;
     for more in [
         "colour = 'red'",
         "y = [0, 1]",
@@ -307,7 +307,7 @@ fn a_file_has_a_limit(rt: HostRuntime) -> Result<(), Fail> {
     for _ in 12..1_048_576 {
         text.push(' ')?;
     }
-    counts(&rt, alloc, text.as_str(), 0);
+    counts(&rt, alloc, text.as_str(), 0)?;
     text.push(' ')?;
     refused(&rt, alloc, text.as_bytes());
     Ok(())

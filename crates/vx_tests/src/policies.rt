@@ -23,44 +23,56 @@ fn what_a_set_of_regions_holds_is_read(rt: HostRuntime) -> Result<(), Fail> {
     ];
     let names = [Name::read("ann")?, Name::read("bob")?];
     let policy = read_policy(rt.alloc(), TOWN)?;
-    read(&rt, policy.regions(), &ids);
+    find(&rt, policy.regions(), &ids);
+    climb(&rt, policy.regions());
+    list(&rt, policy.regions());
+    tell(&rt, policy.regions());
     associate(&rt, policy.regions(), names);
     Ok(())
 }
 
-fn read(rt: &impl Abort, regions: &RegionSet, ids: &[Id; 4]) {
-    let (plot, town, world) = (RegionNo(1), RegionNo(2), RegionNo(0));
-    assert_eq!(rt; [regions.count(), regions.last()], [2, 2]);
+const WORLD: RegionNo = RegionNo(0);
+
+const FIRST: RegionNo = RegionNo(1);
+
+const SECOND: RegionNo = RegionNo(2);
+
+fn find(rt: &impl Abort, regions: &RegionSet, ids: &[Id; 4]) {
     for (id, number) in [
-        (0, Some(plot)),
-        (1, Some(town)),
+        (0, Some(FIRST)),
+        (1, Some(SECOND)),
         (2, None),
-        (3, Some(world)),
+        (3, Some(WORLD)),
     ] {
         assert_eq!(rt; regions.find(&ids[id]), number);
     }
-    assert!(rt; regions.get(world).is_none() && regions.get(RegionNo(3)).is_none());
-    assert_eq!(rt; [regions.nth(0).0, regions.nth(1).0], [plot, town]);
-    assert_eq!(rt;
-        [regions.parent(plot), regions.parent(town)],
-        [Some(town), None]
-    );
-    assert!(rt; regions.under(plot, town) && !regions.under(town, plot));
-    assert!(rt; regions.has_child(town) && !regions.has_child(plot));
+    assert!(rt; regions.get(WORLD).is_none() && regions.get(RegionNo(3)).is_none());
+}
+
+fn climb(rt: &impl Abort, regions: &RegionSet) {
+    assert_eq!(rt; regions.parent(FIRST), Some(SECOND));
+    assert_eq!(rt; regions.parent(SECOND), None);
+    assert!(rt; regions.under(FIRST, SECOND) && !regions.under(SECOND, FIRST));
+    assert!(rt; regions.has_child(SECOND) && !regions.has_child(FIRST));
+}
+
+fn list(rt: &impl Abort, regions: &RegionSet) {
+    assert_eq!(rt; [regions.count(), regions.last()], [2, 2]);
+    let [(first, plot), (second, town)] = [regions.nth(0), regions.nth(1)];
+    assert_eq!(rt; [first, second], [FIRST, SECOND]);
+    assert_eq!(rt; [plot.priority(), town.priority()], [0, -3]);
+}
+
+fn tell(rt: &impl Abort, regions: &RegionSet) {
     let setting = Setting {
         state: State::Deny,
         group: Group::Members,
     };
-    assert_eq!(rt; regions.setting(world, Flag::Usage), Some(setting));
-    assert_eq!(rt; regions.setting(plot, Flag::Usage), None);
-    assert_eq!(rt;
-        [regions.nth(0).1.priority(), regions.nth(1).1.priority()],
-        [0, -3]
-    );
+    assert_eq!(rt; regions.setting(WORLD, Flag::Usage), Some(setting));
+    assert_eq!(rt; regions.setting(FIRST, Flag::Usage), None);
 }
 
 fn associate(rt: &impl Abort, regions: &RegionSet, names: [Name; 2]) {
-    let (plot, town, world) = (RegionNo(1), RegionNo(2), RegionNo(0));
     let [ann, bob] = names;
     let (here, there) = (Pos::new(1, 5, 1), Pos::new(2, 5, 2));
     for (subject, in_plot, in_town) in [
@@ -81,9 +93,9 @@ fn associate(rt: &impl Abort, regions: &RegionSet, names: [Name; 2]) {
             Association::Owner,
         ),
     ] {
-        assert_eq!(rt; regions.association(&subject, plot), in_plot);
-        assert_eq!(rt; regions.association(&subject, town), in_town);
-        assert_eq!(rt; regions.association(&subject, world), Association::Stranger);
+        assert_eq!(rt; regions.association(&subject, FIRST), in_plot);
+        assert_eq!(rt; regions.association(&subject, SECOND), in_town);
+        assert_eq!(rt; regions.association(&subject, WORLD), Association::Stranger);
     }
 }
 

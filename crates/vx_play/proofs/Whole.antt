@@ -1,15 +1,12 @@
 -- What a world at play does keeps each of its sectors in its place.
-use Rattle.std.proofs.Common.{◌≡◌, ◌≢◌, ℕ, zero, suc, Bool, true, false, List, [], ◌∷◌, map, set, slice_get, Option, Some, None, option_map, Result, Err, if◌then◌else◌, refl, sym, ap, ◌∙◌, subst, inl, inr, arith}
-use Rattle.std.specs.Option.{option_and_then}
+use Rattle.std.proofs.Common.{◌≡◌, ◌≢◌, ℕ, zero, suc, false, List, [], ◌∷◌, map, set, slice_get, Option, Some, None, option_map, Result, Err, refl, sym, ap, ◌∙◌, subst, inl, inr, arith}
 use Rattle.std.proofs.lemmas.Bool.{cases_Bool}
-use Rattle.std.proofs.lemmas.List.{map-set, length-set, length-map}
+use Rattle.std.proofs.lemmas.List.{map-set, length-map}
 use Rattle.std.proofs.lemmas.Option.{slice_get-map}
-use Rattle.vx_block.specs.declared.part.Part.{Part}
-use Rattle.vx_block.specs.Part.{part_cell}
 use Rattle.vx_geom.specs.declared.pos.Pos.{Pos}
-use Rattle.vx_geom.specs.Sizes.{Sizes, AreSizes, sector_count, sector_of, is_inside}
+use Rattle.vx_geom.specs.Sizes.{sector_of, is_inside}
 use Rattle.vx_geom.proofs.SectorLemmas.{held_at, in_sector}
-use Rattle.vx_cells.specs.SectorCells.{SectorCells, holds, with_block, with_cell}
+use Rattle.vx_cells.specs.SectorCells.{SectorCells, with_block}
 use Rattle.vx_policy.specs.declared.version.Version.{Version}
 use Rattle.vx_sector.specs.Acting.{applied, effect_by}
 use Rattle.vx_sector.specs.Commands.{place_of}

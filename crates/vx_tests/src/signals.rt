@@ -1,5 +1,5 @@
 //! Signals, tick by tick: each tick sets every cell that `next_parts` tells.
-use crate::game::play;
+use crate::game::{Placed, play};
 use std::test::Fail;
 
 // A line of 16 dust, on both sides of a border of sectors, fed at its western end.
@@ -60,54 +60,60 @@ fn a_repeater_of_four_ticks_finishes_its_count(rt: HostRuntime) -> Result<(), Fa
     )
 }
 
+const TWO_REPEATERS: Placed<'static> = &[
+    (6, 1, 5, "repeater:east:1:off:0"),
+    (5, 1, 5, "lever:down:on"),
+    (6, 1, 4, "repeater:south:1:on:0"),
+    (6, 1, 3, "lever:down:on"),
+];
+
+const LOCKED: Placed<'static> = &[(6, 1, 5, "repeater:east:1:off:0")];
+
+const RELEASED: Placed<'static> = &[
+    (6, 1, 4, "repeater:south:1:off:0"),
+    (6, 1, 5, "repeater:east:1:off:0"),
+];
+
 // A repeater that is on and faces the side of another locks it.
 #[test]
 fn a_locked_repeater_stays_as_it_is(rt: HostRuntime) -> Result<(), Fail> {
-    let begun = [
-        (6, 1, 5, "repeater:east:1:off:0"),
-        (5, 1, 5, "lever:down:on"),
-        (6, 1, 4, "repeater:south:1:on:0"),
-        (6, 1, 3, "lever:down:on"),
-    ];
-    let locked = [(6, 1, 5, "repeater:east:1:off:0")];
-    let released = [
-        (6, 1, 4, "repeater:south:1:off:0"),
-        (6, 1, 5, "repeater:east:1:off:0"),
-    ];
     play(
         &rt,
         rt.alloc(),
         &[
-            (&begun, &locked),
-            (&[], &locked),
-            (&[], &locked),
-            (&[(6, 1, 3, "lever:down:off")], &released),
+            (TWO_REPEATERS, LOCKED),
+            (&[], LOCKED),
+            (&[], LOCKED),
+            (&[(6, 1, 3, "lever:down:off")], RELEASED),
             (&[], &[(6, 1, 5, "repeater:east:1:on:0")]),
         ],
     )
 }
 
 // The torch hangs on a block that a lever powers.
+const LAMP_AND_TORCH: Placed<'static> = &[
+    (6, 1, 5, "lamp:off:0"),
+    (5, 1, 5, "lever:down:on"),
+    (5, 1, 8, "lever:east:on"),
+    (6, 1, 8, "stone"),
+    (7, 1, 8, "torch:west:on"),
+];
+
 #[test]
 fn a_lamp_goes_out_a_tick_late_and_a_torch_stays_off(rt: HostRuntime) -> Result<(), Fail> {
-    let begun = [
-        (6, 1, 5, "lamp:off:0"),
-        (5, 1, 5, "lever:down:on"),
-        (5, 1, 8, "lever:east:on"),
-        (6, 1, 8, "stone"),
-        (7, 1, 8, "torch:west:on"),
-    ];
-    let off = (7, 1, 8, "torch:west:off");
     play(
         &rt,
         rt.alloc(),
         &[
-            (&begun, &[(6, 1, 5, "lamp:on:0"), off]),
+            (
+                LAMP_AND_TORCH,
+                &[(6, 1, 5, "lamp:on:0"), (7, 1, 8, "torch:west:off")],
+            ),
             (
                 &[(5, 1, 5, "lever:down:off")],
-                &[(6, 1, 5, "lamp:on:1"), off],
+                &[(6, 1, 5, "lamp:on:1"), (7, 1, 8, "torch:west:off")],
             ),
-            (&[], &[(6, 1, 5, "lamp:off:0"), off]),
+            (&[], &[(6, 1, 5, "lamp:off:0"), (7, 1, 8, "torch:west:off")]),
         ],
     )
 }

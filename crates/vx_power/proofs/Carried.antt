@@ -1,16 +1,21 @@
 -- Levels of two graphs that agree near a place, and so the levels that spread within some columns.
-use Rattle.std.proofs.Common.{◌≡◌, ℕ, zero, suc, ◌-◌, ◌≤◌, Bool, true, ◌&&◌, ◌||◌, if◌then◌else◌, List, [], ◌∷◌, inl, inr, refl, ap, ◌∙◌, arith}
+use Rattle.std.proofs.Common.{◌≡◌, ℕ, zero, suc, ◌-◌, ◌≤◌, Bool, true, false, ◌&&◌, ◌||◌, if◌then◌else◌, List, [], ◌∷◌, ◌++◌, inl, inr, refl, sym, ap, ◌∙◌, arith}
 use Rattle.std.specs.List.{list_any}
+use Rattle.std.proofs.lemmas.Bool.{and_parts, and_from, cases_Bool, false≢true}
 use Rattle.vx_geom.specs.declared.pos.Pos.{Pos}
-use Rattle.vx_geom.specs.Sizes.{Sizes}
+use Rattle.vx_geom.specs.Sizes.{Sizes, AreSizes, is_below}
 use Rattle.vx_block.specs.declared.cell.Cell.{Cell}
-use Rattle.vx_cells.specs.Maps.{MapData, cell_on}
-use Rattle.vx_power.specs.Dust.{links}
-use Rattle.vx_power.specs.Levels.{level_in, is_in, columns_around, AreLevels}
-use Rattle.vx_power.specs.Signals.{is_fed}
-use Rattle.vx_power.specs.Spreading.{fed_in, links_in, SpreadData, IsSpread}
+use Rattle.vx_block.specs.declared.side.Side.TheVariants.{East, West, South, North}
+use Rattle.vx_block.specs.Components.{is_dust}
+use Rattle.vx_cells.specs.Maps.{MapData, cell_on, far}
+use Rattle.vx_cells.proofs.MapLemmas.{near_inside}
+use Rattle.vx_power.specs.Dust.{links, links_on}
+use Rattle.vx_power.specs.Levels.{is_in, columns_around, everywhere, AreLevels, AreAllLevels}
+use Rattle.vx_power.specs.Signals.{has_feeder, is_fed}
+use Rattle.vx_power.specs.Spreading.{fed_in, links_in, level_within}
 use Rattle.vx_power.specs.Walks.{within, level_by, level_of, IsAmong}
 use Rattle.vx_power.proofs.Around.{itself, wider, link_off}
+use Rattle.vx_power.proofs.Stepping.{dust_inside}
 
 -- two tests that agree on each element of a list
 pub any_same : {X : Type 0} (f g : X → Bool) (xs : List X)
@@ -110,12 +115,57 @@ module _ (w : Pos → Cell) (v : Sizes) (k : ℕ) where
       (is_fed w) (links w) (IsDeep v k) deep_less deep_fed deep_links deep_next
       14 p (omega arith, near)
 
--- what has spread over fourteen links are the levels near the sector
-pub told : (m : MapData) (k : ℕ) (s : SpreadData)
-    → s.columns ≡ columns_around m.sizes k 16 → IsSpread (cell_on m) 14 s
-    → AreLevels m k (level_in s.table)
+-- what walks within the columns tell are the levels near the sector
+pub told_near : (m : MapData) (k : ℕ) (level : Pos → ℕ)
+    → ((p : Pos) → level p ≡ level_within (cell_on m) (columns_around m.sizes k 16) p)
+    → AreLevels m k level
 unfolding level_of
-told m k s columns spread p near =
-    spread.levels p
-    ∙ ap (λ c. level_by (fed_in (cell_on m) c) (links_in (cell_on m) c) 14 p) columns
-    ∙ near_levels (cell_on m) m.sizes k p near
+told_near m k level known p near = known p ∙ near_levels (cell_on m) m.sizes k p near
+
+module _ (m : MapData) (sizes : AreSizes m.sizes) where
+  -- dust lies in some column
+  dust_in : (p : Pos) → is_dust (cell_on m p) ≡ true → is_in everywhere p ≡ true
+  dust_in p dust =
+      let near = near_inside m.sizes p sizes (dust_inside m p dust) in
+      let in_x = and_parts _ _ near in
+      let in_z = and_parts _ _ in_x.1 in
+      and_from (is_below p.x far) (is_below p.z far) in_x.0 in_z.1
+
+  -- outside all columns nothing is dust
+  no_dust : (p : Pos) → is_in everywhere p ≡ false → is_dust (cell_on m p) ≡ false
+  no_dust p outside = elim (cases_Bool (is_dust (cell_on m p))) [
+    | inl dust ↦ absurd (false≢true (sym outside ∙ dust_in p dust))
+    | inr other ↦ other
+  ]
+
+  fed_everywhere : (p : Pos) → fed_in (cell_on m) everywhere p ≡ is_fed (cell_on m) p
+  unfolding fed_in is_fed
+  fed_everywhere p = elim (cases_Bool (is_in everywhere p)) [
+    | inl there ↦ ap (λ b. b && is_fed (cell_on m) p) there
+    | inr outside ↦
+        ap (λ b. b && is_fed (cell_on m) p) outside
+        ∙ sym (ap (λ b. b && has_feeder (cell_on m) p) (no_dust p outside))
+  ]
+
+  links_everywhere : (p : Pos) → links_in (cell_on m) everywhere p ≡ links (cell_on m) p
+  unfolding links_in links
+  links_everywhere p = elim (cases_Bool (is_in everywhere p)) [
+    | inl there ↦ ap (λ b. if b then links (cell_on m) p else []) there
+    | inr outside ↦
+        ap (λ b. if b then links (cell_on m) p else []) outside
+        ∙ sym (ap (λ b. if b
+        then links_on (cell_on m) p East ++ (links_on (cell_on m) p West ++ (links_on (cell_on m) p South ++ links_on (cell_on m) p North))
+        else [])
+        (no_dust p outside))
+  ]
+
+  -- walks within all columns tell the levels of the map
+  pub told_all : (level : Pos → ℕ) → ((p : Pos) → level p ≡ level_within (cell_on m) everywhere p)
+      → AreAllLevels m level
+  unfolding level_of
+  told_all level known p =
+      known p
+      ∙ level_by_carried (fed_in (cell_on m) everywhere) (links_in (cell_on m) everywhere)
+      (is_fed (cell_on m)) (links (cell_on m)) (λ n p. Unit {0}) (λ n p deep. tt)
+      (λ p deep. fed_everywhere p) (λ n p deep. links_everywhere p) (λ n p q deep linked. tt)
+      14 p tt

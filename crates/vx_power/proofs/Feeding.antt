@@ -1,4 +1,5 @@
--- The dust that devices near a sector feed is that which is fed in the columns around it.
+-- The dust that devices near a sector feed is that which is fed in the columns around it, and the
+-- dust that all devices feed is all that is fed.
 use Rattle.std.proofs.Common.{◌≡◌, ℕ, zero, suc, ◌+◌, ◌-◌, ◌*◌, ◌/◌, ◌%◌, ◌<◌, ◌≤◌, inl, inr, Bool, true, false, ◌&&◌, if◌then◌else◌, cond, List, [], ◌∷◌, min, filter, unsigned_abs, pos, ℤ, ◌-ℤ◌, ◌≤ℤ◌, ◌<ℤ◌, None, Some, refl, sym, ap, ◌∙◌, subst, arith}
 use Rattle.std.proofs.lemmas.Bool.{or_cases, or_left, or_right, cases_Bool, cases_eq, cases_lt, false≢true}
 use Rattle.std.proofs.lemmas.Bool.Decides.{same_from_decides}
@@ -16,12 +17,13 @@ use Rattle.vx_cells.specs.Listed.{devices_on}
 use Rattle.vx_cells.specs.Maps.{MapData, AreSectors, cell_on}
 use Rattle.vx_cells.proofs.Indices.{index_below}
 use Rattle.vx_cells.proofs.MapLemmas.{outside_is_air}
-use Rattle.vx_power.specs.Levels.{has, is_in, columns_around}
+use Rattle.vx_power.specs.declared.columns.Columns.{Columns}
+use Rattle.vx_power.specs.Levels.{has, is_in, columns_around, everywhere}
 use Rattle.vx_power.specs.Signals.{is_fed}
-use Rattle.vx_power.specs.Spreading.{fed_by, fed_by_sectors, fed_from, fed_in, Reaches, SpreadData, IsSpread}
+use Rattle.vx_power.specs.Spreading.{fed_by, fed_by_sectors, fed_from, fed_in, FeedAll, Reaches, SpreadData, IsSpread}
 use Rattle.vx_power.specs.Walks.{within, level_by, IsAmong}
 use Rattle.vx_power.proofs.Around.{lies_in, wider}
-use Rattle.vx_power.proofs.Feeders.{feeds_at, from_feeds, feeds_fed, fed_feeds, feeds_off, feeds_device}
+use Rattle.vx_power.proofs.Feeders.{Feeds, feeds_at, from_feeds, feeds_fed, fed_feeds, feeds_off, feeds_device}
 use Rattle.vx_power.proofs.Having.{all_at, all_from, has_joined}
 
 -- what passes stays in a filtered list
@@ -160,68 +162,77 @@ module _ (m : MapData) (w : Pos → Cell) where
             (sectors_from (suc k) n i s p (omega arith) (omega arith) among is)
       ]
 
-module _ (m : MapData) (k : ℕ) (sectors : AreSectors m.sizes m.sectors) where
-  -- the dust that the devices of the sectors near feed
-  abbrev fed_near : List Pos
-  fed_near =
-      fed_by_sectors m (cell_on m) (first_near m.sizes k) (end_near m.sizes k - first_near m.sizes k)
-
-  -- that dust is fed
-  to_fed : (p : Pos) → has fed_near p ≡ true → is_fed (cell_on m) p ≡ true
-  to_fed p is =
-      let first = first_near m.sizes k in
-      let found = sectors_at m (cell_on m) first (end_near m.sizes k - first) p is in
+module _ (m : MapData) (sectors : AreSectors m.sizes m.sectors) where
+  -- dust that devices of some sectors feed is fed
+  to_fed : (first n : ℕ) (p : Pos) → has (fed_by_sectors m (cell_on m) first n) p ≡ true
+      → is_fed (cell_on m) p ≡ true
+  to_fed first n p is =
+      let found = sectors_at m (cell_on m) first n p is in
       feeds_fed (cell_on m) found.0 p (feeds_at (cell_on m) found.0 p found.1)
 
-  -- and the dust in the columns that is fed is among it
-  from_fed : (p : Pos) → is_in (columns_around m.sizes k 16) p ≡ true → is_fed (cell_on m) p ≡ true
-      → has fed_near p ≡ true
-  from_fed p there fed =
-      let w = cell_on m in
-      let v = m.sizes in
-      let feeder = fed_feeds w p fed in
-      let s = feeder.0 in
-      let n = sector_number v s in
-      let device = feeds_device w s p feeder.1 in
-      let held = sector_number_is m sectors s (device_inside m sectors s device) in
-      let near = number_near v k n s sectors.valid held
-      (wider v k 16 2 18 p s (omega arith) (feeds_off w s p feeder.1) there) in
-      let below = (in_sector v s n sectors.valid (held_at v s n sectors.valid held)).0 in
-      sectors_from m w (first_near v k) (end_near v k - first_near v k) n s p near.0
-      (reached (first_near v k) (end_near v k) n near.0 near.1)
-      (device_listed m sectors s n device held below) (from_feeds w s p feeder.1)
-    where
-      reached : (first end n : ℕ) → first ≤ n → n < end → n < first + (end - first)
-      reached first end n least most = omega arith
+  module _ (c : Columns) (first end : ℕ)
+      (have : (s p : Pos) (n : ℕ) → is_in c p ≡ true → Feeds (cell_on m) s p
+      → sector_of m.sizes s ≡ Some n → (first ≤ n) × (n < end)) where
+    -- dust in columns whose feeders some sectors have is fed by them
+    from_fed : (p : Pos) → is_in c p ≡ true → is_fed (cell_on m) p ≡ true
+        → has (fed_by_sectors m (cell_on m) first (end - first)) p ≡ true
+    from_fed p there fed =
+        let w = cell_on m in
+        let v = m.sizes in
+        let feeder = fed_feeds w p fed in
+        let s = feeder.0 in
+        let n = sector_number v s in
+        let device = feeds_device w s p feeder.1 in
+        let held = sector_number_is m sectors s (device_inside m sectors s device) in
+        let within = have s p n there feeder.1 held in
+        let below = (in_sector v s n sectors.valid (held_at v s n sectors.valid held)).0 in
+        sectors_from m w first (end - first) n s p within.0 (reached within.0 within.1)
+        (device_listed m sectors s n device held below) (from_feeds w s p feeder.1)
+      where
+        reached : {n : ℕ} → first ≤ n → n < end → n < first + (end - first)
+        reached least most = omega arith
 
-  -- within the columns that is all the dust that is fed
-  fed_is_listed : (p : Pos) → (is_in (columns_around m.sizes k 16) p && has fed_near p)
-      ≡ fed_in (cell_on m) (columns_around m.sizes k 16) p
-  unfolding fed_in
-  fed_is_listed p = elim (cases_Bool (is_in (columns_around m.sizes k 16) p)) [
-    | inl there ↦
-        ap (λ b. is_in (columns_around m.sizes k 16) p && b)
-        (same_from_decides {P = is_fed (cell_on m) p ≡ true} (has fed_near p) (is_fed (cell_on m) p)
-        (to_fed p, from_fed p there) (λ h. h, λ h. h))
-    | inr outside ↦
-        ap (λ b. b && has fed_near p) outside ∙ sym (ap (λ b. b && is_fed (cell_on m) p) outside)
-  ]
+    -- so it is all that is fed there
+    feed_all : FeedAll m c first end
+    unfolding fed_in
+    feed_all p = elim (cases_Bool (is_in c p)) [
+      | inl there ↦
+          let fed = has (fed_by_sectors m (cell_on m) first (end - first)) p in
+          ap (λ b. is_in c p && b)
+          (same_from_decides {P = is_fed (cell_on m) p ≡ true} fed (is_fed (cell_on m) p)
+          (to_fed first (end - first) p, from_fed p there) (λ h. h, λ h. h))
+      | inr outside ↦
+          ap (λ b. b && has (fed_by_sectors m (cell_on m) first (end - first)) p) outside
+          ∙ sym (ap (λ b. b && is_fed (cell_on m) p) outside)
+    ]
 
--- the dust that the devices near a sector feed is what walks of no link tell
-pub begun : (m : MapData) (k : ℕ) (new : SpreadData) → AreSectors m.sizes m.sectors
-    → k < sector_count m.sizes
-    → Reaches 15 (record { columns = columns_around m.sizes k 16; table = []; reached = [] }) new
-    (fed_by_sectors m (cell_on m) (first_near m.sizes k) (end_near m.sizes k - first_near m.sizes k))
+  -- the devices near a sector feed all that is fed around it
+  pub near_feed : (k : ℕ)
+      → FeedAll m (columns_around m.sizes k 16) (first_near m.sizes k) (end_near m.sizes k)
+  near_feed k = feed_all (columns_around m.sizes k 16) (first_near m.sizes k) (end_near m.sizes k)
+      (λ s p n there feeds held. number_near m.sizes k n s sectors.valid held
+      (wider m.sizes k 16 2 18 p s (omega arith) (feeds_off (cell_on m) s p feeds) there))
+
+  -- and those of all sectors all that is fed
+  pub all_feed : FeedAll m everywhere 0 (sector_count m.sizes)
+  all_feed = feed_all everywhere 0 (sector_count m.sizes)
+      (λ s p n there feeds held.
+      (omega arith, (in_sector m.sizes s n sectors.valid (held_at m.sizes s n sectors.valid held)).0))
+
+-- the dust that these devices feed is what walks of no link tell
+pub begun : (m : MapData) (c : Columns) (first end : ℕ) (new : SpreadData) → FeedAll m c first end
+    → Reaches 15 (record { columns = c; table = []; reached = [] }) new
+    (fed_by_sectors m (cell_on m) first (end - first))
     → IsSpread (cell_on m) 0 new
 unfolding within level_by
-begun m k new sectors low reaches = record {
+begun m c first end new fed reaches = record {
   levels = λ p.
       reaches.levels p
-      ∙ ap (λ b. if b then 15 else 0) (fed_is_listed m k sectors p)
+      ∙ ap (λ b. if b then 15 else 0) (fed p)
       ∙ ap (λ c. if fed_in (cell_on m) c p then 15 else 0) (sym reaches.columns);
   reached = λ p.
       reaches.reached p
-      ∙ fed_is_listed m k sectors p
+      ∙ fed p
       ∙ ap (λ c. fed_in (cell_on m) c p) (sym reaches.columns)
       ∙ sym (and_true (fed_in (cell_on m) new.columns p));
 }

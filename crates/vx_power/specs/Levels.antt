@@ -6,7 +6,7 @@ use Rattle.std.specs.Ordering.{int_eq}
 use Rattle.vx_geom.specs.declared.pos.Pos.{Pos}
 use Rattle.vx_geom.specs.Places.{west, north}
 use Rattle.vx_geom.specs.Sizes.{Sizes, span}
-use Rattle.vx_cells.specs.Maps.{MapData, cell_on}
+use Rattle.vx_cells.specs.Maps.{MapData, cell_on, far}
 use Rattle.vx_power.specs.declared.columns.Columns.{Columns}
 use Rattle.vx_power.specs.Laws.{dust_level}
 
@@ -43,6 +43,10 @@ columns_around v k d = record {
   south = pos (north v k + span v + d);
 }
 
+-- all the columns that a world may have
+abbrev pub everywhere : Columns
+everywhere = record { west = pos 0; east = pos far; north = pos 0; south = pos far }
+
 -- how many columns off a sector levels are told: a next part reads no level further off
 abbrev pub told_columns : ℕ
 told_columns = 2
@@ -51,3 +55,7 @@ told_columns = 2
 abbrev pub AreLevels : MapData → ℕ → (Pos → ℕ) → Type 0
 AreLevels m k level = (p : Pos) → is_in (columns_around m.sizes k told_columns) p ≡ true
     → level p ≡ dust_level (cell_on m) p
+
+-- the table has the level of each dust of a map
+abbrev pub AreAllLevels : MapData → (Pos → ℕ) → Type 0
+AreAllLevels m level = (p : Pos) → level p ≡ dust_level (cell_on m) p

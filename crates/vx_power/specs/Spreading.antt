@@ -1,5 +1,5 @@
 -- How levels spread from the dust that is fed, link by link, within some columns.
-use Rattle.std.specs.Prelude.{◌≡◌, ℕ, zero, suc, Bool, false, not, ◌&&◌, ◌||◌, nat_lt, if◌then◌else◌, List, [], ◌∷◌, ◌++◌}
+use Rattle.std.specs.Prelude.{◌≡◌, ℕ, zero, suc, Bool, false, not, ◌&&◌, ◌||◌, ◌-◌, nat_lt, if◌then◌else◌, List, [], ◌∷◌, ◌++◌}
 use Rattle.vx_geom.specs.declared.pos.Pos.{Pos}
 use Rattle.vx_geom.specs.declared.dir.Dir.{Dir}
 use Rattle.vx_geom.specs.declared.dir.Dir.TheVariants.{East, West, Up, Down, South, North}
@@ -8,7 +8,7 @@ use Rattle.vx_block.specs.declared.cell.Cell.{Cell}
 use Rattle.vx_block.specs.Components.{is_dust}
 use Rattle.vx_block.specs.Conductors.{conducts}
 use Rattle.vx_cells.specs.Listed.{devices_on}
-use Rattle.vx_cells.specs.Maps.{MapData}
+use Rattle.vx_cells.specs.Maps.{MapData, cell_on}
 use Rattle.vx_power.specs.declared.columns.Columns.{Columns}
 use Rattle.vx_power.specs.Dust.{links}
 use Rattle.vx_power.specs.Levels.{LevelTable, has, level_in, is_in}
@@ -57,6 +57,17 @@ fed_in w c p = is_in c p && is_fed w p
 
 unfoldable pub links_in : (Pos → Cell) → Columns → Pos → List Pos
 links_in w c p = if is_in c p then links w p else []
+
+-- of the dust in these columns, the devices of the sectors from `first` up to below `end` feed all
+-- that is fed
+abbrev pub FeedAll : MapData → Columns → ℕ → ℕ → Type 0
+FeedAll m c first end = (p : Pos)
+    → (is_in c p && has (fed_by_sectors m (cell_on m) first (end - first)) p)
+    ≡ fed_in (cell_on m) c p
+
+-- the level of dust by walks of fourteen links within these columns
+abbrev pub level_within : (Pos → Cell) → Columns → Pos → ℕ
+level_within w c p = level_by (fed_in w c) (links_in w c) 14 p
 
 -- the columns to which levels spread, a table of levels, and the positions that it got last
 pub record SpreadData : Type 0 where

@@ -15,6 +15,14 @@ pub struct Columns {
 }
 
 impl Columns {
+    /// All the columns that a world may have.
+    pub const EVERYWHERE: Columns = Columns {
+        west: 0,
+        east: 512,
+        north: 0,
+        south: 512,
+    };
+
     /// The columns of a sector, and those up to so many columns off it.
     pub fn around(bounds: Bounds, sector: u32, off: u32) -> Columns
         requires held { sector < sector_count bounds }

@@ -20,4 +20,4 @@ pub use level_table::Levels;
 pub use leveled::Leveled;
 pub use power::{activates, active, powered};
 pub use signals::is_fed;
-pub use spread::levels;
+pub use spread::{all_levels, levels};

@@ -5,12 +5,12 @@ ghost use Rattle.vx_block.specs.Conductors.{conducts};
 ghost use Rattle.vx_cells.specs.Listed.{devices_on};
 ghost use Rattle.vx_cells.specs.Maps.{cell_on};
 ghost use Rattle.vx_geom.specs.Neighbor.{neighbor};
-ghost use Rattle.vx_geom.specs.Places.{first_near, end_near};
+ghost use Rattle.vx_geom.specs.declared.pos.Pos.{Pos};
 ghost use Rattle.vx_geom.specs.Sizes.{sector_count};
 ghost use Rattle.vx_power.specs.Dust.{links, links_on};
-ghost use Rattle.vx_power.specs.Levels.{level_in, columns_around, AreLevels};
+ghost use Rattle.vx_power.specs.Levels.{level_in, AreLevels, AreAllLevels};
 ghost use Rattle.vx_power.specs.Signals.{drives};
-ghost use Rattle.vx_power.specs.Spreading.{dust_at, each_dir, fed_towards, fed_from, fed_by, fed_by_sectors, linked_to, Reaches, IsSpread};
+ghost use Rattle.vx_power.specs.Spreading.{dust_at, each_dir, fed_towards, fed_from, fed_by, fed_by_sectors, linked_to, FeedAll, level_within, Reaches, IsSpread};
 
 use crate::columns::Columns;
 use crate::dust_near::{driven, dust_at, dust_given, dust_over, dust_under};
@@ -39,9 +39,42 @@ pub fn levels(alloc: Global, map: &Frozen<'_>, sector: u32) -> Result<Levels, Al
     ensures { IfOk result (λ levels. AreLevels map.now sector (level_in levels)) }
 {
     map.soundness();
-    let columns = Columns::around(map.bounds(), sector, COLUMNS_OFF);
+    let bounds = map.bounds();
+    let columns = Columns::around(bounds, sector, COLUMNS_OFF);
+    levels_in(
+        alloc,
+        map,
+        columns,
+        bounds.first_near(sector),
+        bounds.end_near(sector),
+    )
+}
+
+/// The levels of all dust of a map. It costs what its devices feed, each dust once.
+pub fn all_levels(alloc: Global, map: &Frozen<'_>) -> Result<Levels, AllocError>
+    ensures { IfOk result (λ levels. AreAllLevels map.now (level_in levels)) }
+{
+    map.soundness();
+    levels_in(alloc, map, Columns::EVERYWHERE, 0, map.bounds().sectors())
+}
+
+// The levels of the dust in some columns, where the devices of the sectors from `first` up to below
+// `end` feed all that is fed there.
+fn levels_in(
+    alloc: Global,
+    map: &Frozen<'_>,
+    columns: Columns,
+    first: u32,
+    end: u32,
+) -> Result<Levels, AllocError>
+    requires order { first ≤ end }
+    requires there { end ≤ sector_count map.now.sizes }
+    requires fed { FeedAll map.now columns first end }
+    ensures { IfOk result (λ levels. (p : Pos)
+        → level_in levels p ≡ level_within (cell_on map.now) columns p) }
+{
     let mut spread = Spread::new(alloc, columns);
-    spread.begin(alloc, map, sector)?;
+    spread.begin(alloc, map, first, end)?;
     for links in 0..MOST_LINKS {
         spread.go_on(alloc, map, MOST_LINKS - links)?;
     }
@@ -77,16 +110,20 @@ impl Spread {
         }
     }
 
-    // Reaches the dust that the devices of the sectors near one feed.
-    fn begin(&mut self, alloc: Global, map: &Frozen<'_>, sector: u32) -> Result<(), AllocError>
-        requires { sector < sector_count map.now.sizes }
-        ensures { let first = first_near map.now.sizes sector in
-            OnOk result (Reaches 15 self.old self.new
-            (fed_by_sectors map.now (cell_on map.now) first
-            (end_near map.now.sizes sector - first))) }
+    // Reaches the dust that the devices of the sectors from `first` up to below `end` feed.
+    fn begin(
+        &mut self,
+        alloc: Global,
+        map: &Frozen<'_>,
+        first: u32,
+        end: u32,
+    ) -> Result<(), AllocError>
+        requires order { first ≤ end }
+        requires there { end ≤ sector_count map.now.sizes }
+        ensures { OnOk result (Reaches 15 self.old self.new
+            (fed_by_sectors map.now (cell_on map.now) first (end - first))) }
     {
-        let bounds = map.bounds();
-        for number in bounds.first_near(sector)..bounds.end_near(sector) {
+        for number in first..end {
             self.begin_in(alloc, map, number)?;
         }
         Ok(())

@@ -1,42 +1,39 @@
-use Rattle.std.proofs.Common.{◌≡◌, ◌+◌, ◌-◌, [], sym, ap, ◌∙◌, subst, arith}
-use Rattle.vx_cells.specs.Maps.{cell_on}
+use Rattle.std.proofs.Common.{◌≡◌, ℕ, sym, ap, ◌∙◌, subst}
+use Rattle.std.proofs.lemmas.Result.{IfOk-weaker}
+use Rattle.vx_cells.specs.Maps.{MapData, cell_on}
+use Rattle.vx_geom.specs.declared.pos.Pos.{Pos}
 use Rattle.vx_geom.specs.Places.{first_near, end_near}
+use Rattle.vx_power.specs.declared.columns.Columns.{Columns}
 use Rattle.vx_power.specs.Levels.{columns_around, level_in, AreLevels}
-use Rattle.vx_power.specs.Spreading.{SpreadData, Reaches, IsSpread, fed_by_sectors}
-use Rattle.vx_power.proofs.Carried.{told}
-use Rattle.vx_power.proofs.Feeding.{begun}
+use Rattle.vx_power.specs.Spreading.{FeedAll, level_within}
+use Rattle.vx_power.proofs.Carried.{told_near}
+use Rattle.vx_power.proofs.Feeding.{near_feed}
 use Rattle.vx_power.proofs.spread.levels.Goals as goal
 
-pub loop-links-init : goal.loop-links-init
-loop-links-init c =
+-- the same of other names
+feed_as : (m : MapData) (a b : Columns) (f g e h : ℕ) → b ≡ a → g ≡ f → h ≡ e → FeedAll m b g h → FeedAll m a f e
+feed_as m a b f g e h columns first end fed =
+    subst (λ e. FeedAll m a f e) end (subst (λ f. FeedAll m a f h) first (subst (λ a. FeedAll m a g h) columns fed))
+
+pub levels_in-requires-clause-fed : goal.levels_in-requires-clause-fed
+levels_in-requires-clause-fed c =
     let m = c.args.map.now in
     let k = c.args.sector in
-    let first = first_near m.sizes k in
-    let fed = fed_by_sectors m (cell_on m) first (end_near m.sizes k - first) in
-    let start : SpreadData = record { columns = columns_around m.sizes k 16; table = []; reached = [] } in
-    let from : c.new-spread.result ≡ start =
-    c.new-spread.ensures ∙ ap (λ around. record start { columns = around })
-    (c.around-columns.ensures ∙ ap (λ v. columns_around v k 16) c.bounds.ensures) in
-    let reaches : Reaches 15 start c.begin.new.self fed =
-    subst (λ s. Reaches 15 s c.begin.new.self fed) from c.in_ok-begin.ensures in
-    record {
-      columns = reaches.columns;
-      spread = begun m k c.begin.new.self c.soundness.ensures c.requires reaches;
-    }
-
-pub loop-links-preserved : goal.loop-links-preserved
-loop-links-preserved c =
-    let next : 15 - (14 - c.loop-links.links) ≡ c.loop-links.links + 1 = omega arith in
-    record {
-      columns = c.in_ok-go_on.ensures.columns ∙ c.loop-links.invariant.columns;
-      spread = subst (λ n. IsSpread (cell_on c.args.map.now) n c.go_on.new.self) next
-          c.in_ok-go_on.ensures.spread;
-    }
+    feed_as m c.around-columns.result (columns_around m.sizes k 16)
+    c.first_near.result (first_near m.sizes k) c.end_near.result (end_near m.sizes k)
+    (sym (c.around-columns.ensures ∙ ap (λ v. columns_around v k 16) c.bounds-bounds.ensures))
+    (sym (c.first_near.ensures.value ∙ ap (λ v. first_near v k) c.bounds-bounds.ensures))
+    (sym (c.end_near.ensures.value ∙ ap (λ v. end_near v k) c.bounds-bounds.ensures))
+    (near_feed m c.soundness.ensures k)
 
 pub returns : goal.returns
 returns c =
     let m = c.args.map.now in
-    let all : c.loop-links.links ≡ 14 = omega arith in
-    let spread = subst (λ n. IsSpread (cell_on m) n c.loop-links.spread) all c.loop-links.invariant.spread in
-    subst (λ table. AreLevels m c.args.sector (level_in table)) (sym c.into_levels.ensures)
-    (told m c.args.sector c.loop-links.spread c.loop-links.invariant.columns spread)
+    let k = c.args.sector in
+    let columns : c.around-columns.result ≡ columns_around m.sizes k 16 =
+    c.around-columns.ensures ∙ ap (λ v. columns_around v k 16) c.bounds-bounds.ensures in
+    IfOk-weaker c.levels_in.result
+    (λ levels. (p : Pos) → level_in levels p ≡ level_within (cell_on m) c.around-columns.result p)
+    (λ levels. AreLevels m k (level_in levels))
+    (λ levels known. told_near m k (level_in levels) (λ p. known p ∙ ap (λ a. level_within (cell_on m) a p) columns))
+    c.levels_in.ensures

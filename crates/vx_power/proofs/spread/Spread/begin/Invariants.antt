@@ -1,14 +1,12 @@
 use Rattle.std.proofs.Common.{◌-◌, ◌≤◌}
 use Rattle.vx_cells.specs.Maps.{cell_on}
-use Rattle.vx_geom.specs.Places.{first_near}
 use Rattle.vx_power.specs.Spreading.{fed_by_sectors, Reaches}
 use Rattle.vx_power.proofs.spread.Spread.begin.Given as goal
 
 -- what the devices of the sectors so far feed is reached
 abbrev pub invariant-loop-number : goal.invariant-loop-number
 invariant-loop-number l = record {
-  from : first_near l.map.sizes l.fn.sector ≤ l.number;
+  from : l.fn.first ≤ l.number;
   reaches : Reaches 15 l.initial.self l.self
-      (fed_by_sectors l.map (cell_on l.map) (first_near l.map.sizes l.fn.sector)
-      (l.number - first_near l.map.sizes l.fn.sector));
+      (fed_by_sectors l.map (cell_on l.map) l.fn.first (l.number - l.fn.first));
 }

@@ -1,2 +1,4 @@
+pub mod Asking
+pub mod PutDown
 pub mod Permitting
 pub mod Told

@@ -1,11 +1,19 @@
 -- What becomes of one move more.
-use Rattle.std.proofs.Common.{◌≡◌, ℕ, ◌+◌, ◌<◌, List, [], ◌∷◌, ◌++◌, length, take, get_or, sym, ap, ◌∙◌, subst}
+use Rattle.std.proofs.Common.{◌≡◌, ℕ, suc, ◌+◌, ◌<◌, List, [], ◌∷◌, ◌++◌, length, take, get_or, refl, sym, ap, ◌∙◌, subst}
 use Rattle.std.proofs.lemmas.List.{take_more}
 use Rattle.vx_geom.specs.declared.pos.Pos.{Pos}
 use Rattle.vx_region.specs.Regions.{Regions}
 use Rattle.vx_piston.specs.Moves.{Moving}
 use Rattle.vx_step.specs.declared.fate.Fate.{Fate}
 use Rattle.vx_step.specs.Fates.{IsFate, AreFates}
+
+-- each move has one fate
+pub fates_length : (rs : Regions) (all moves : List Moving) (fates : List (Pos × Fate))
+    → AreFates rs all moves fates → length fates ≡ length moves
+fates_length rs all [] [] told = refl
+fates_length rs all [] (other ∷ fates) told = absurd told
+fates_length rs all (first ∷ moves) [] told = absurd told
+fates_length rs all (first ∷ moves) (other ∷ fates) told = ap suc (fates_length rs all moves fates told.2)
 
 -- the fates of moves, and of one more behind them
 pub fates_more : (rs : Regions) (all moves : List Moving) (fates : List (Pos × Fate)) (m : Moving)

@@ -1,8 +1,13 @@
-//! What a tick does: so far, what becomes of the moves of its pistons.
+//! A tick: every component becomes its next part, and pistons move where the policy permits it and
+//! no other piston has the cells.
 #![tactic(auto)]
 
+mod effects;
 mod ending;
 mod fate;
+mod found;
+mod stepping;
 
 pub use ending::fates;
 pub use fate::Fate;
+pub use stepping::step_plain;

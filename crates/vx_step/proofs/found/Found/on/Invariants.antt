@@ -1,0 +1,10 @@
+use Rattle.std.proofs.Common.{◌≡◌}
+use Rattle.vx_step.specs.Ticks.{asked_up_to, changed_up_to}
+use Rattle.vx_step.proofs.found.Found.on.Given as goal
+
+-- what was found in the sectors so far
+abbrev pub invariant-loop-sector : goal.invariant-loop-sector
+invariant-loop-sector l = record {
+  changes : l.found.changes.items ≡ changed_up_to l.map l.sector;
+  moves : l.found.moves.items ≡ asked_up_to l.map l.sector;
+}

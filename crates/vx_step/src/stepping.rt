@@ -1,0 +1,54 @@
+//! A tick over the whole map, on one thread.
+ghost use Rattle.std.specs.Prelude.{◌≡◌, length, IfOk};
+ghost use Rattle.vx_cells.specs.Maps.{cell_on};
+ghost use Rattle.vx_cells.specs.Wholes.{with_cells_on};
+ghost use Rattle.vx_step.specs.Ticks.{put_down, IsTick};
+
+use crate::effects::put_down;
+use crate::ending::fates;
+use crate::fate::Fate;
+use crate::found::Found;
+use std::alloc::{AllocError, Global};
+use vx_cells::Whole;
+use vx_decide::Plain;
+use vx_geom::Pos;
+use vx_policy::Version;
+
+/// The map after a tick that this version of the policy judges, and what became of the moves that
+/// pistons asked for, each beside the position of its piston, in the order of positions
+/// (docs/RULES.md). The map as it was stays.
+pub fn step_plain(
+    alloc: Global,
+    map: &Whole,
+    version: &Version,
+) -> Result<(Whole, Vec<(Pos, Fate)>), AllocError>
+    ensures { IfOk result (λ after. IsTick version.now.policy map.now after.0 after.1.items) }
+{
+    let found = Found::on(alloc, &map.frozen())?;
+    let fates = fates(
+        alloc,
+        &Plain::new(version.policy.regions()),
+        found.moves.as_slice(),
+    )?;
+    let next = stepped(alloc, map, &found, fates.as_slice())?;
+    Ok((next, fates))
+}
+
+// The map after a tick that found this, where the moves have these fates.
+fn stepped(
+    alloc: Global,
+    map: &Whole,
+    found: &Found,
+    fates: &[(Pos, Fate)],
+) -> Result<Whole, AllocError>
+    requires each { length fates.now ≡ length found.now.moves.items }
+    ensures { IfOk result (λ next. let advanced = with_cells_on map.now found.now.changes.items in
+        next ≡ with_cells_on advanced
+        (put_down (cell_on advanced) found.now.moves.items fates.now)) }
+{
+    let mut next = map.try_clone()?;
+    next.set_all(found.changes.as_slice())?;
+    let cells = put_down(alloc, &next.frozen(), found.moves.as_slice(), fates)?;
+    next.set_all(cells.as_slice())?;
+    Ok(next)
+}

@@ -27,7 +27,7 @@ impl Model for Whole {
 }
 
 impl Whole {
-    ghost use Rattle.std.specs.Prelude.{◌≢◌, map};
+    ghost use Rattle.std.specs.Prelude.{◌≢◌};
     ghost use Rattle.vx_cells.specs.Maps.{AreSectors};
     ghost use Rattle.vx_cells.specs.Wholes.{with_cells_on};
 

@@ -1,38 +1,42 @@
-//! A world of two sectors side by side, each of 16 by 16 columns, in which components of machines
-//! change with each tick, and nothing else does.
+//! A world of two sectors side by side, each of 16 by 16 columns, tick by tick, under a policy
+//! without regions.
 use std::alloc::{AllocError, Global};
 use std::process::Abort;
 use std::test::Fail;
 use vx_block::Cell;
 use vx_cells::Whole;
 use vx_geom::{Bounds, Pos};
-use vx_part::next_parts;
 use vx_piston::{Move, candidate};
-use vx_power::levels;
+use vx_policy::{Policy, Version};
+use vx_power::{Levels, all_levels};
+use vx_step::step_plain;
 
 /// Cells, by their texts, at x, y and z.
 pub type Placed<'a> = &'a [(i32, i32, i32, &'a str)];
 
 /// Puts cells down, works a tick and looks at cells: so for each of the rows in turn.
 pub fn play(rt: &impl Abort, alloc: Global, rows: &[(Placed, Placed)]) -> Result<(), Fail> {
+    let version = open(alloc)?;
     let mut map = small(alloc)?;
     for (put, due) in rows {
-        turn(rt, alloc, &mut map, put, due)?;
+        put_all(rt, &mut map, put)?;
+        map = ticked(alloc, &map, &version)?;
+        show(rt, &map, due);
     }
     Ok(())
 }
 
-fn turn(
-    rt: &impl Abort,
-    alloc: Global,
-    map: &mut Whole,
-    put: Placed,
-    due: Placed,
-) -> Result<(), AllocError> {
-    put_all(rt, map, put)?;
-    tick(alloc, map)?;
-    show(rt, map, due);
-    Ok(())
+fn open(alloc: Global) -> Result<Version, AllocError> {
+    Ok(Version {
+        tick: 1,
+        edits: 0,
+        policy: Policy::new(alloc)?,
+    })
+}
+
+fn ticked(alloc: Global, map: &Whole, version: &Version) -> Result<Whole, AllocError> {
+    let (next, _) = step_plain(alloc, map, version)?;
+    Ok(next)
 }
 
 /// The moves that pistons ask for, in the order of their positions, where these cells are put down,
@@ -65,54 +69,23 @@ fn show(rt: &impl Abort, map: &Whole, cells: Placed) {
     }
 }
 
-fn tick(alloc: Global, map: &mut Whole) -> Result<(), AllocError> {
-    for (p, cell) in &changes(alloc, map)? {
-        map.set(*p, *cell)?;
-    }
-    Ok(())
-}
-
-fn changes(alloc: Global, map: &Whole) -> Result<Vec<(Pos, Cell)>, AllocError> {
-    let mut all = Vec::new(alloc);
-    for sector in 0..2 {
-        add_changes(alloc, map, sector, &mut all)?;
-    }
-    Ok(all)
-}
-
-fn add_changes(
-    alloc: Global,
-    map: &Whole,
-    sector: u32,
-    all: &mut Vec<(Pos, Cell)>,
-) -> Result<(), AllocError> {
-    let map = map.frozen();
-    if sector < map.bounds().sectors() {
-        let levels = levels(alloc, &map, sector)?;
-        all.append(&mut next_parts(alloc, &map, &levels, sector)?)?;
-    }
-    Ok(())
-}
-
 fn moves_on(alloc: Global, map: &Whole) -> Result<Vec<Move>, AllocError> {
+    let levels = all_levels(alloc, &map.frozen())?;
     let mut all = Vec::new(alloc);
-    for sector in 0..2 {
-        add_moves(alloc, map, sector, &mut all)?;
-    }
+    add_moves(alloc, map, &levels, &mut all)?;
     Ok(all)
 }
 
 fn add_moves(
     alloc: Global,
     map: &Whole,
-    sector: u32,
+    levels: &Levels,
     all: &mut Vec<Move>,
 ) -> Result<(), AllocError> {
     let map = map.frozen();
-    if sector < map.bounds().sectors() {
-        let levels = levels(alloc, &map, sector)?;
+    for sector in 0..map.bounds().sectors() {
         for p in &map.devices(alloc, sector)? {
-            all.extend(candidate(&map, &levels, *p))?;
+            all.extend(candidate(&map, levels, *p))?;
         }
     }
     Ok(())

@@ -1,5 +1,5 @@
 //! What pistons would move, and which of the moves are made.
-use crate::game::{Placed, moves};
+use crate::game::{Placed, moves, play};
 use std::alloc::{AllocError, Global};
 use std::process::Abort;
 use std::test::Fail;
@@ -114,6 +114,47 @@ fn drawn(
     let (next, last) = (x.saturating_add(1), x.saturating_add(2));
     let cells = [(x, 1, 5, piston), (next, 1, 5, head), (last, 1, 5, behind)];
     moves(rt, alloc, &[&cells])
+}
+
+// It pushes a stone and a lamp without power, which goes out on the way, and leaves them when it
+// draws back. A sticky one takes back the cell before its head, and what breaks is gone.
+const ROWS: Placed<'static> = &[
+    (5, 1, 5, "piston:east:in"),
+    (5, 1, 6, "lever:down:on"),
+    (6, 1, 5, "stone"),
+    (7, 1, 5, "lamp:on:0"),
+    (5, 1, 9, "sticky:east:in"),
+    (5, 1, 10, "lever:down:on"),
+    (6, 1, 9, "planks"),
+    (7, 1, 9, "dust:0"),
+];
+
+const PUSHED: Placed<'static> = &[
+    (5, 1, 5, "piston:east:out"),
+    (6, 1, 5, "head:east:plain"),
+    (7, 1, 5, "stone"),
+    (8, 1, 5, "lamp:on:1"),
+    (5, 1, 9, "sticky:east:out"),
+    (6, 1, 9, "head:east:sticky"),
+    (7, 1, 9, "planks"),
+    (8, 1, 9, "air"),
+];
+
+const LEVERS_OFF: Placed<'static> = &[(5, 1, 6, "lever:down:off"), (5, 1, 10, "lever:down:off")];
+
+const DRAWN: Placed<'static> = &[
+    (5, 1, 5, "piston:east:in"),
+    (6, 1, 5, "air"),
+    (7, 1, 5, "stone"),
+    (8, 1, 5, "lamp:off:0"),
+    (5, 1, 9, "sticky:east:in"),
+    (6, 1, 9, "planks"),
+    (7, 1, 9, "air"),
+];
+
+#[test]
+fn pistons_move_cells_by_one(rt: HostRuntime) -> Result<(), Fail> {
+    play(&rt, rt.alloc(), &[(ROWS, PUSHED), (LEVERS_OFF, DRAWN)])
 }
 
 // Regions files with ann's land, number 1.

@@ -1,103 +1,17 @@
-//! Policies as values: their copies, what is equal, and what is read of them.
+//! Policies as values: their copies, and what is equal.
 use std::alloc::{AllocError, Global};
 use std::process::Abort;
 use std::test::Fail;
 use vx_file::read_policy;
-use vx_flag::{Association, Flag, Group, Setting, State};
+use vx_flag::{Flag, Group, Setting, State};
 use vx_geom::{Pos, ShapeSpec};
 use vx_policy::{Edit, EditError, EditRefusal, Listing, Policy, Version};
-use vx_region::{Id, Name, RegionNo, RegionSet, Subject};
+use vx_region::RegionNo;
 
 const PLOT: &[u8] = b"version = 1\n[[region]]\nid = 'plot'\ncuboid = [1, 0, 1, 1, 63, 1]\n";
 
 const TOWN: &[u8] =
     b"version = 1\n[[region]]\nid = 'plot'\nparent = 'town'\nmembers = ['bob']\ncuboid = [1, 0, 1, 1, 63, 1]\n[[region]]\nid = 'Town'\npriority = -3\nowners = ['ann']\ncuboid = [0, 0, 0, 9, 63, 9]\n[global]\nuse = 'deny members'\n";
-
-#[test]
-fn what_a_set_of_regions_holds_is_read(rt: HostRuntime) -> Result<(), Fail> {
-    let ids = [
-        Id::read("pLOT")?,
-        Id::read("town")?,
-        Id::read("mill")?,
-        Id::read("__Global__")?,
-    ];
-    let names = [Name::read("ann")?, Name::read("bob")?];
-    let policy = read_policy(rt.alloc(), TOWN)?;
-    find(&rt, policy.regions(), &ids);
-    climb(&rt, policy.regions());
-    list(&rt, policy.regions());
-    tell(&rt, policy.regions());
-    associate(&rt, policy.regions(), names);
-    Ok(())
-}
-
-const WORLD: RegionNo = RegionNo(0);
-
-const FIRST: RegionNo = RegionNo(1);
-
-const SECOND: RegionNo = RegionNo(2);
-
-fn find(rt: &impl Abort, regions: &RegionSet, ids: &[Id; 4]) {
-    for (id, number) in [
-        (0, Some(FIRST)),
-        (1, Some(SECOND)),
-        (2, None),
-        (3, Some(WORLD)),
-    ] {
-        assert_eq!(rt; regions.find(&ids[id]), number);
-    }
-    assert!(rt; regions.get(WORLD).is_none() && regions.get(RegionNo(3)).is_none());
-}
-
-fn climb(rt: &impl Abort, regions: &RegionSet) {
-    assert_eq!(rt; regions.parent(FIRST), Some(SECOND));
-    assert_eq!(rt; regions.parent(SECOND), None);
-    assert!(rt; regions.under(FIRST, SECOND) && !regions.under(SECOND, FIRST));
-    assert!(rt; regions.has_child(SECOND) && !regions.has_child(FIRST));
-}
-
-fn list(rt: &impl Abort, regions: &RegionSet) {
-    assert_eq!(rt; [regions.count(), regions.last()], [2, 2]);
-    let [(first, plot), (second, town)] = [regions.nth(0), regions.nth(1)];
-    assert_eq!(rt; [first, second], [FIRST, SECOND]);
-    assert_eq!(rt; [plot.priority(), town.priority()], [0, -3]);
-}
-
-fn tell(rt: &impl Abort, regions: &RegionSet) {
-    let setting = Setting {
-        state: State::Deny,
-        group: Group::Members,
-    };
-    assert_eq!(rt; regions.setting(WORLD, Flag::Usage), Some(setting));
-    assert_eq!(rt; regions.setting(FIRST, Flag::Usage), None);
-}
-
-fn associate(rt: &impl Abort, regions: &RegionSet, names: [Name; 2]) {
-    let [ann, bob] = names;
-    let (here, there) = (Pos::new(1, 5, 1), Pos::new(2, 5, 2));
-    for (subject, in_plot, in_town) in [
-        (Subject::Player(ann), Association::Owner, Association::Owner),
-        (
-            Subject::Player(bob),
-            Association::Member,
-            Association::Stranger,
-        ),
-        (
-            Subject::Machine(here),
-            Association::Owner,
-            Association::Owner,
-        ),
-        (
-            Subject::Machine(there),
-            Association::Stranger,
-            Association::Owner,
-        ),
-    ] {
-        assert_eq!(rt; regions.association(&subject, FIRST), in_plot);
-        assert_eq!(rt; regions.association(&subject, SECOND), in_town);
-        assert_eq!(rt; regions.association(&subject, WORLD), Association::Stranger);
-    }
-}
 
 #[test]
 fn copies_of_a_policy_do_not_see_each_other(rt: HostRuntime) -> Result<(), Fail> {

@@ -71,11 +71,7 @@ fn a_window_is_judged_by_its_version(rt: HostRuntime) -> Result<(), Fail> {
         entry(&bob, Cmd::Look(PLACE), Ok(Reply::Seen(Cell::Stone))),
     ];
     play(&rt, &mut sector, &refused);
-    let next = begun(
-        rt.alloc(),
-        sector.cells(),
-        version(2, Policy::new(rt.alloc())?),
-    )?;
+    let next = next_of(rt.alloc(), sector.cells())?;
     let closed = sector.renew(next);
     assert_eq!(rt; closed.as_slice(), refused.as_slice());
     let done = [entry(&bob, Cmd::Break(PLACE), DONE)];
@@ -108,20 +104,34 @@ fn play(rt: &impl Abort, sector: &mut Sector, calls: &[Entry]) {
     assert_eq!(rt; sector.entries(), calls);
 }
 
+// The second window over these cells, under a policy without regions.
+fn next_of(alloc: Global, cells: &Cells) -> Result<Fresh, Fail>
+    ensures { IfOk result (λ fresh. fresh.cells ≡ cells.now) }
+{
+    let version = version(2, Policy::new(alloc)?);
+    begun(alloc, cells, &version)
+}
+
 // A sector of one chunk with this cell at one place, and air everywhere else.
 fn opened(rt: &impl Abort, alloc: Global, cell: Cell, policy: Policy) -> Result<Sector, Fail> {
+    let version = version(1, policy);
+    let start = with_cell(rt, alloc, cell)?;
+    Ok(Sector::new(begun(alloc, &start, &version)?))
+}
+
+fn with_cell(rt: &impl Abort, alloc: Global, cell: Cell) -> Result<Cells, Fail> {
     let bounds = Bounds::new(1, 1, 1).ok_or("no bounds")?;
     let mut start = Cells::new(alloc, bounds, 0)?;
     assert!(rt; start.holds(PLACE));
     start.set(PLACE, cell)?;
-    Ok(Sector::new(begun(alloc, &start, version(1, policy))?))
+    Ok(start)
 }
 
 // A window over these cells.
-fn begun(alloc: Global, cells: &Cells, version: Version) -> Result<Fresh, Fail>
+fn begun(alloc: Global, cells: &Cells, version: &Version) -> Result<Fresh, Fail>
     ensures { IfOk result (λ fresh. fresh.cells ≡ cells.now) }
 {
-    let fresh = Fresh::new(alloc, cells.bounds(), cells.sector(), cells, &version)?;
+    let fresh = Fresh::new(alloc, cells.bounds(), cells.sector(), cells, version)?;
     Ok(fresh)
 }
 

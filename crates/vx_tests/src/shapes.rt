@@ -23,32 +23,6 @@ fn steps_lead_to_the_neighbor_and_not_past_the_ends(rt: HostRuntime) {
 }
 
 #[test]
-fn sectors_meet_at_a_border(rt: HostRuntime) -> Result<(), Fail> {
-    let bounds = Bounds::new(2, 1, 1).ok_or("no bounds")?;
-    assert_eq!(rt;
-        [bounds.sectors(), bounds.span(), bounds.sector_cells()],
-        [2, 16, 16_384]
-    );
-    for (x, y, z, sector) in [
-        (0, 0, 0, Some(0)),
-        (15, 63, 15, Some(0)),
-        (16, 0, 0, Some(1)),
-        (31, 63, 15, Some(1)),
-        (32, 63, 15, None),
-        (0, 64, 0, None),
-        (0, -1, 0, None),
-        (-1, 0, 0, None),
-        (0, 0, 16, None),
-        (0, 0, -1, None),
-    ] {
-        let p = Pos::new(x, y, z);
-        assert_eq!(rt; bounds.sector_of(p), sector, "at {x} {y} {z}");
-        assert_eq!(rt; bounds.inside(p), sector.is_some(), "at {x} {y} {z}");
-    }
-    Ok(())
-}
-
-#[test]
 fn sectors_count_from_the_north_west(rt: HostRuntime) -> Result<(), Fail> {
     let bounds = Bounds::new(3, 2, 2).ok_or("no bounds")?;
     assert_eq!(rt;

@@ -1,4 +1,4 @@
-//! Signals, tick by tick: each tick sets every cell that `next_parts` tells.
+//! Signals, tick by tick.
 use crate::game::{Placed, play};
 use std::test::Fail;
 

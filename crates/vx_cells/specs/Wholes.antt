@@ -16,7 +16,7 @@ airs sizes (suc n) = airs sizes n ++ only_air sizes n ∷ []
 abbrev pub bare : Sizes → MapData
 bare sizes = record { sizes = sizes; sectors = airs sizes (sector_count sizes) }
 
--- a cell put down at a position of the sector of number k; none where that is no sector that holds it
+-- a cell put down at a position of the sector of number k; none where no such sector holds it
 abbrev pub set_in : MapData → Pos → Cell → ℕ → Option SectorCells → Option MapData
 set_in m p cell k None = None
 set_in m p cell k (Some cells) =

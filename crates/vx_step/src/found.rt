@@ -25,8 +25,8 @@ pub struct Found {
 }
 
 impl Found {
-    /// What a tick finds on a map. It costs what the components of the map are, and the dust that has
-    /// power.
+    /// What a tick finds on a map. It costs what the components of the map are, and the dust
+    /// that has power.
     pub fn on(alloc: Global, map: &Frozen<'_>) -> Result<Found, AllocError>
         ensures changes { IfOk result (λ found.
             found.changes.items ≡ changed_up_to map.now (sector_count map.now.sizes)) }

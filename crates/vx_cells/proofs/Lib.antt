@@ -5,6 +5,7 @@ pub mod Listing
 pub mod MapLemmas
 pub mod Marking
 pub mod Placed
+pub mod Putting
 pub mod Setting
 pub mod Stacks
 pub mod StoredBlocks

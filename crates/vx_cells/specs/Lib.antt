@@ -3,6 +3,7 @@ pub mod Chests
 pub mod Codes
 pub mod Laws
 pub mod Listed
+pub mod MapLaws
 pub mod Maps
 pub mod Marks
 pub mod SameCells

@@ -40,7 +40,7 @@ among_filter test (y ∷ xs) x (inr among) passes = kept (test y) (among_filter 
     kept false further = further
 
 -- the position of each index is among those from an index on
-among_from : (v : Sizes) (k index n i : ℕ) → index ≤ i → i < index + n
+pub among_from : (v : Sizes) (k index n i : ℕ) → index ≤ i → i < index + n
     → IsAmong (positions_from v k index n) (position_in_sector v k i)
 among_from v k index zero i low high = absurd (omega arith)
 among_from v k index (suc n) i low high = elim (cases_eq index i) [

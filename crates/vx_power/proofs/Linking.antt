@@ -15,7 +15,7 @@ use Rattle.vx_power.specs.Dust.{beside, over, under, links_beside, links_up, lin
 use Rattle.vx_power.specs.Walks.{IsAmong}
 
 -- an element of one of two lists
-among_either : {X : Type 0} (xs ys : List X) (x : X) → IsAmong (xs ++ ys) x → IsAmong xs x ⊎ IsAmong ys x
+pub among_either : {X : Type 0} (xs ys : List X) (x : X) → IsAmong (xs ++ ys) x → IsAmong xs x ⊎ IsAmong ys x
 among_either [] ys x among = inr among
 among_either (y ∷ xs) ys x (inl same) = inl (inl same)
 among_either (y ∷ xs) ys x (inr among) = elim (among_either xs ys x among) [ inl here ↦ inl (inr here) | inr there ↦ inr there ]

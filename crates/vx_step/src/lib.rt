@@ -6,8 +6,10 @@ mod effects;
 mod ending;
 mod fate;
 mod found;
+mod laws;
 mod stepping;
 
 pub use ending::fates;
 pub use fate::Fate;
+pub use laws::{parts_become_next, ticks_by_position};
 pub use stepping::step_plain;

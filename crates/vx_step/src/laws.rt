@@ -1,0 +1,17 @@
+ghost use Rattle.vx_step.specs.Laws.{PartsBecomeNext, OfTicks, StaysFilled, MovesAreAsked, OthersStay, MadeArePut};
+
+/// Before any move is made, each component of a map has become its next part, by the cells and
+/// signals with which the tick begins, and all else is as it was.
+pub fn parts_become_next()
+    ensures { PartsBecomeNext }
+{}
+
+/// A tick, position by position: each move is what the piston there asks for; in the cells of those
+/// that are made stands what they put there, and in all others what the parts have become. The
+/// world stays as large.
+pub fn ticks_by_position()
+    ensures filled { OfTicks StaysFilled }
+    ensures asked { OfTicks MovesAreAsked }
+    ensures others { OfTicks OthersStay }
+    ensures made { OfTicks MadeArePut }
+{}

@@ -1,6 +1,8 @@
 pub mod Advancing
 pub mod Asking
 pub mod Making
+pub mod Movers
+pub mod Pairs
 pub mod PutDown
 pub mod Permitting
 pub mod Puts

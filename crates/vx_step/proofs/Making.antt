@@ -41,7 +41,7 @@ module _ {X : Type 0} where
   of_each P (y ∷ ys) x all (inl same) = subst P same (All-head P y ys all)
   of_each P (y ∷ ys) x all (inr further) = of_each P ys x (All-tail P y ys all) further
 
-  found_among : (xs : List X) (n : ℕ) (x : X) → slice_get xs n ≡ Some x → IsAmong xs x
+  pub found_among : (xs : List X) (n : ℕ) (x : X) → slice_get xs n ≡ Some x → IsAmong xs x
   found_among [] n x found = cc
   found_among (y ∷ ys) zero x found = inl cc
   found_among (y ∷ ys) (suc n) x found = inr (found_among ys n x found)
@@ -167,21 +167,21 @@ stays_filled rs m next fates tick filled =
 
 module _ (rs : Regions) (m next : MapData) (fates : List (Pos × Fate)) (tick : IsTick rs m next fates)
     (filled : IsFilled m) where
-  abbrev w : Pos → Cell
+  abbrev pub w : Pos → Cell
   w = cell_on (advanced m)
 
-  advanced_filled : IsFilled (advanced m) × ((advanced m).sizes ≡ m.sizes)
+  pub advanced_filled : IsFilled (advanced m) × ((advanced m).sizes ≡ m.sizes)
   advanced_filled = puts_filled m (changed_up_to m (sector_count m.sizes)) filled
 
   -- what is put down at a position is so by a move that is made and takes it
-  record IsFrom (p : Pos) (cell : Cell) : Type 0 where
-    move : Moving
-    made : IsMade rs tick.moves move
-    index : ℕ
-    at : slice_get move.cells index ≡ Some p
-    is : slice_get (moved_cells w move) index ≡ Some cell
+  pub record IsFrom (p : Pos) (cell : Cell) : Type 0 where
+    pub move : Moving
+    pub made : IsMade rs tick.moves move
+    pub index : ℕ
+    pub at : slice_get move.cells index ≡ Some p
+    pub is : slice_get (moved_cells w move) index ≡ Some cell
 
-  is_from : (p : Pos) (cell : Cell) → IsAmong (put_down w tick.moves fates) (p, cell) → IsFrom p cell
+  pub is_from : (p : Pos) (cell : Cell) → IsAmong (put_down w tick.moves fates) (p, cell) → IsFrom p cell
   is_from p cell among =
       let by = put_by rs tick.moves w p cell tick.moves fates tick.told among in
       let is = by.1 in
@@ -200,8 +200,14 @@ module _ (rs : Regions) (m next : MapData) (fates : List (Pos × Fate)) (tick : 
 
   module _ (move : Moving) (n : ℕ) (p : Pos) (cell : Cell) (made : IsMade rs tick.moves move)
       (at : slice_get move.cells n ≡ Some p) (is : slice_get (moved_cells w move) n ≡ Some cell) where
-    asked_by : candidate m (dust_level (cell_on m)) move.at ≡ Some move
+    pub asked_by : candidate m (dust_level (cell_on m)) move.at ≡ Some move
     asked_by = moves_are_asked rs m next fates tick filled move made.0
+
+    -- it is among what is put down
+    pub is_put : IsAmong (put_down w tick.moves fates) (p, cell)
+    is_put =
+        puts rs tick.moves w p cell tick.moves fates move tick.told
+        (made.0, made.1, made.2, pair_from move.cells (moved_cells w move) n p cell at is)
 
     one_move : (other : Cell) (from : IsFrom p other) → from.move.at ≡ move.at → other ≡ cell
     one_move other from place =
@@ -228,15 +234,13 @@ module _ (rs : Regions) (m next : MapData) (fates : List (Pos × Fate)) (tick : 
               (has_from move.cells p (found_among move.cells n p at)))
         ]
 
-    stands : block_on next p ≡ placed cell
+    pub stands : block_on next p ≡ placed cell
     stands =
         ap (λ x. block_on x p) tick.after
         ∙ all_put (advanced m) (put_down w tick.moves fates) p cell advanced_filled.0
         (ap (λ s. is_inside s p) advanced_filled.1
         ∙ inside m (dust_level (cell_on m)) move.at move asked_by p (found_among move.cells n p at))
-        one_cell
-        (puts rs tick.moves w p cell tick.moves fates move tick.told
-        (made.0, made.1, made.2, pair_from move.cells (moved_cells w move) n p cell at is))
+        one_cell is_put
 
 pub others_stay : OfTicks OthersStay
 others_stay rs m next fates tick filled p none = others rs m next fates tick filled p none

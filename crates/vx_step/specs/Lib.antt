@@ -1,3 +1,4 @@
 pub mod Fates
 pub mod Laws
+pub mod Pairing
 pub mod Ticks

@@ -1,4 +1,5 @@
 ghost use Rattle.vx_step.specs.Laws.{PartsBecomeNext, OfTicks, StaysFilled, MovesAreAsked, OthersStay, MadeArePut};
+ghost use Rattle.vx_step.specs.Pairing.{StaysPaired};
 
 /// Before any move is made, each component of a map has become its next part, by the cells and
 /// signals with which the tick begins, and all else is as it was.
@@ -14,4 +15,10 @@ pub fn ticks_by_position()
     ensures asked { OfTicks MovesAreAsked }
     ensures others { OfTicks OthersStay }
     ensures made { OfTicks MadeArePut }
+{}
+
+/// Where each piston that is out has its head before it, and each head its piston behind it, that
+/// is so after a tick.
+pub fn heads_stay_with_pistons()
+    ensures { OfTicks StaysPaired }
 {}

@@ -1,5 +1,5 @@
 -- What is read on a map after a cell was put down.
-use Rattle.std.proofs.Common.{◌≡◌, ◌≢◌, ℕ, zero, suc, ◌<◌, Bool, true, false, List, [], ◌∷◌, length, nat_eq, set, slice_get, Option, Some, None, is_some, if◌then◌else◌, refl, sym, ap, ◌∙◌, subst, arith}
+use Rattle.std.proofs.Common.{◌≡◌, ◌≢◌, ℕ, zero, suc, Bool, true, false, List, [], ◌∷◌, nat_eq, set, slice_get, Option, Some, None, is_some, if◌then◌else◌, refl, sym, ap, ◌∙◌, subst, arith}
 use Rattle.std.specs.List.{All}
 use Rattle.std.specs.Option.{option_and_then}
 use Rattle.std.proofs.lemmas.Bool.{eqb-true, eq-eqb, false≢true}
@@ -8,13 +8,12 @@ use Rattle.std.proofs.lemmas.List.Elements.{All-replicate, All-set}
 use Rattle.std.proofs.lemmas.Option.{slice_get_within, get_or_from_slice_get}
 use Rattle.vx_block.specs.declared.cell.Cell.{Cell}
 use Rattle.vx_geom.specs.declared.pos.Pos.{Pos}
-use Rattle.vx_geom.specs.Sizes.{AreSizes, is_inside, sector_number, sector_of, sector_count}
+use Rattle.vx_geom.specs.Sizes.{AreSizes, is_inside, sector_number, sector_of}
 use Rattle.vx_geom.proofs.SectorLemmas.{held_at, in_sector}
-use Rattle.vx_cells.specs.Laws.{SetBlockIsRead, OtherBlocksStay}
 use Rattle.vx_cells.specs.MapLaws.{block_in, block_on, IsFilled, CellOfBlock, PutInside, PutStaysFilled, PutCellIsRead, OthersStay}
 use Rattle.vx_cells.specs.Maps.{MapData, sector_at, cell_in, cell_on}
-use Rattle.vx_cells.specs.SectorCells.{SectorCells, Block, IsBlock, IsSlot, IsWhole, slot_count, placed, holds, block_at, with_block, with_cell}
-use Rattle.vx_cells.specs.Wholes.{set_in, with_cell_on, IsMap}
+use Rattle.vx_cells.specs.SectorCells.{SectorCells, IsBlock, IsSlot, IsWhole, slot_count, placed, holds, block_at, with_block, with_cell}
+use Rattle.vx_cells.specs.Wholes.{set_in, with_cell_on}
 use Rattle.vx_cells.proofs.CellLaws.{set_block_is_read, other_blocks_stay}
 use Rattle.vx_cells.proofs.MapLemmas.{placed_at, is_held}
 use Rattle.vx_cells.proofs.Placed.{found_within}
@@ -163,11 +162,13 @@ others_stay m next p q cell filled made differ =
 
 pub put_stays_filled : PutStaysFilled
 put_stays_filled m next p cell filled made =
-    let put = is_put m next p cell made in
-    (record {
-      map = cell_keeps_map m next p cell filled.map made;
-      each = all_whole m next p cell filled put;
-    }, sizes_stay m next p cell filled put)
+    let put = is_put m next p cell made in (
+      record {
+        map = cell_keeps_map m next p cell filled.map made;
+        each = all_whole m next p cell filled put;
+      },
+      sizes_stay m next p cell filled put,
+    )
 
 -- a sector is there for each position inside the world
 module _ (m : MapData) (p : Pos) (cell : Cell) (filled : IsFilled m) where

@@ -1,5 +1,5 @@
 -- What a cell put down on a map is to what stands there.
-use Rattle.std.specs.Prelude.{◌≡◌, ◌≢◌, List, Option, Some, None, is_some}
+use Rattle.std.specs.Prelude.{◌≡◌, ◌≢◌, Option, Some, None, is_some}
 use Rattle.std.specs.List.{All}
 use Rattle.vx_block.specs.declared.cell.Cell.{Cell}
 use Rattle.vx_block.specs.declared.cell.Cell.TheVariants.{Air}

@@ -1,18 +1,17 @@
 -- Each component of a map becomes its next part, and all else stays.
-use Rattle.std.proofs.Common.{◌≡◌, ◌≢◌, ◌⊎◌, ℕ, zero, suc, ◌+◌, ◌<◌, ◌≤◌, Bool, true, false, inl, inr, List, [], ◌∷◌, ◌++◌, Option, Some, None, if◌then◌else◌, refl, sym, ap, ◌∙◌, subst, zero-le, arith}
+use Rattle.std.proofs.Common.{◌≡◌, ◌≢◌, ℕ, zero, suc, ◌<◌, Bool, true, false, inl, inr, List, [], ◌∷◌, Option, Some, None, if◌then◌else◌, refl, sym, ap, ◌∙◌, subst, zero-le, arith}
 use Rattle.std.proofs.lemmas.Bool.{cases_eq, false≢true}
 use Rattle.vx_geom.specs.declared.pos.Pos.{Pos}
-use Rattle.vx_geom.specs.Places.{positions, position_in_sector}
-use Rattle.vx_geom.specs.Sizes.{Sizes, is_inside, sector_number, sector_of, sector_count, sector_cells, index_in_sector}
+use Rattle.vx_geom.specs.Places.{positions}
+use Rattle.vx_geom.specs.Sizes.{is_inside, sector_number, sector_of, sector_count, sector_cells, index_in_sector}
 use Rattle.vx_geom.proofs.Places.{indices_are_places}
 use Rattle.vx_geom.proofs.SectorLemmas.{held_at, in_sector}
 use Rattle.vx_block.specs.declared.cell.Cell.{Cell}
 use Rattle.vx_block.specs.declared.cell.Cell.TheVariants.{Air}
 use Rattle.vx_cells.specs.CellsLaws.{cell_decided}
-use Rattle.vx_cells.specs.MapLaws.{block_on, IsFilled}
+use Rattle.vx_cells.specs.MapLaws.{IsFilled}
 use Rattle.vx_cells.specs.Maps.{MapData, cell_on}
 use Rattle.vx_cells.specs.SameCells.{same_cell}
-use Rattle.vx_cells.specs.SectorCells.{placed}
 use Rattle.vx_cells.proofs.Indices.{index_below}
 use Rattle.vx_cells.proofs.MapLemmas.{outside_is_air}
 use Rattle.vx_cells.proofs.Putting.{cell_of_block}

@@ -1,6 +1,5 @@
 -- The pistons that move in a tick, and the cells that they take and put down.
-use Rattle.std.proofs.Common.{◌≡◌, ◌⊎◌, ℕ, zero, suc, Bool, true, false, inl, inr, List, [], ◌∷◌, ◌++◌, map, drop, slice_get, Option, Some, None, option_map, if◌then◌else◌, refl, sym, ap, ◌∙◌, subst}
-use Rattle.std.proofs.lemmas.Bool.{false≢true}
+use Rattle.std.proofs.Common.{◌≡◌, ◌⊎◌, ℕ, zero, suc, Bool, true, false, inl, inr, List, [], ◌∷◌, ◌++◌, map, slice_get, Option, Some, None, option_map, if◌then◌else◌, refl, sym, ap, ◌∙◌, subst}
 use Rattle.vx_geom.specs.declared.dir.Dir.{Dir}
 use Rattle.vx_geom.specs.declared.pos.Pos.{Pos}
 use Rattle.vx_geom.specs.Neighbor.{neighbor}
@@ -13,10 +12,7 @@ use Rattle.vx_block.specs.Mobilities.{mobility_of}
 use Rattle.vx_cells.specs.Maps.{MapData, cell_on}
 use Rattle.vx_power.specs.Signals.{is_active}
 use Rattle.vx_power.specs.Walks.{IsAmong}
-use Rattle.vx_power.proofs.Linking.{among_either}
-use Rattle.vx_piston.specs.Laws.{IsPush}
-use Rattle.vx_piston.specs.Moves.{Moving, row, if_inside, pulled, pushing, drawing, move_of, candidate}
-use Rattle.vx_step.specs.Ticks.{moved_cells}
+use Rattle.vx_piston.specs.Moves.{Moving, row, pulled, pushing, drawing, move_of, candidate}
 
 -- a piston that is out, or a head: what a pair is made of
 abbrev pub is_tied : Cell → Bool

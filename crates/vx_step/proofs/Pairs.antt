@@ -19,7 +19,7 @@ use Rattle.vx_cells.proofs.Putting.{cell_of_block}
 use Rattle.vx_power.specs.Laws.{dust_level}
 use Rattle.vx_power.specs.Walks.{IsAmong}
 use Rattle.vx_power.proofs.Linking.{among_either}
-use Rattle.vx_part.specs.Parts.{next_of, next_part}
+use Rattle.vx_part.specs.Parts.{next_of}
 use Rattle.vx_piston.specs.Laws.{steps, IsPush}
 use Rattle.vx_piston.specs.Moves.{Moving, candidate, if_inside, pulled, drawing}
 use Rattle.vx_piston.proofs.MoveLaws.{in_line}
@@ -244,9 +244,9 @@ put_or_not [] p = inr (λ c among. among)
 put_or_not (x ∷ xs) p = elim (cases_place x.0 p) [
   | inl here ↦ inl (x.1, inl (λ i. (here i, x.1)))
   | inr differ ↦ elim (put_or_not xs p) [
-      | inl found ↦ inl (found.0, inr found.1)
-      | inr none ↦ inr (λ c among. elim among [ inl same ↦ differ (ap (λ y. y.0) same) | inr further ↦ none c further ])
-    ]
+    | inl found ↦ inl (found.0, inr found.1)
+    | inr none ↦ inr (λ c among. elim among [ inl same ↦ differ (ap (λ y. y.0) same) | inr further ↦ none c further ])
+  ]
 ]
 
 -- there is a first of these
@@ -407,10 +407,12 @@ module _ (rs : Regions) (m next : MapData) (fates : List (Pos × Fate)) (tick : 
 
     head_put : (c : Cell) × Puts (neighbor move.at move.facing) c
     head_put =
-        let first = first_put w (drop 2 move.cells) in
-        (first.0, is_put rs m next fates tick filled move 1 (neighbor move.at move.facing) first.0 made
-        (ap (λ ps. slice_get ps 1) cells_are)
-        (ap (λ cs. slice_get cs 1) (draw_puts m filled move by) ∙ first.1))
+        let first = first_put w (drop 2 move.cells) in (
+          first.0,
+          is_put rs m next fates tick filled move 1 (neighbor move.at move.facing) first.0 made
+              (ap (λ ps. slice_get ps 1) cells_are)
+              (ap (λ cs. slice_get cs 1) (draw_puts m filled move by) ∙ first.1),
+        )
 
   -- what nothing is put over keeps its other
   module _ (p : Pos) (none : (c : Cell) → Puts p c → ⊥) where

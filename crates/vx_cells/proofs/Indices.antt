@@ -3,7 +3,7 @@ use Rattle.std.proofs.Common.{◌≡◌, ℕ, ◌<◌, Bool, true, false, Option
 use Rattle.std.specs.Option.{option_map_or}
 use Rattle.std.proofs.lemmas.Bool.{eqb-true}
 use Rattle.vx_geom.specs.declared.pos.Pos.{Pos}
-use Rattle.vx_geom.specs.Sizes.{Sizes, AreSizes, sector_cells, is_inside, sector_number, sector_of, index_in_sector}
+use Rattle.vx_geom.specs.Sizes.{Sizes, AreSizes, sector_cells, sector_count, is_inside, sector_number, sector_of, index_in_sector}
 use Rattle.vx_geom.proofs.Places as places
 use Rattle.vx_geom.proofs.SectorLemmas as geom
 use Rattle.vx_cells.specs.SectorCells.{SectorCells, holds}
@@ -32,3 +32,13 @@ inside_from_holds c p h = inside_at c.bounds p c.sector (sector_at c p h)
 -- every position of a sector has an index among its cells
 pub index_below : (v : Sizes) (p : Pos) → AreSizes v → is_inside v p ≡ true → index_in_sector v p < sector_cells v
 index_below v p sizes inside = places.index_below v p sizes (geom.inside_at v p inside)
+
+-- a position inside is of the sector of its number
+pub numbered : (v : Sizes) (p : Pos) → is_inside v p ≡ true → sector_of v p ≡ Some (sector_number v p)
+unfolding sector_of
+numbered v p inside = ap (λ b. if b then Some (sector_number v p) else None) inside
+
+-- and that is the number of a sector
+pub number_below : (v : Sizes) (p : Pos) → AreSizes v → is_inside v p ≡ true → sector_number v p < sector_count v
+number_below v p sizes inside =
+    (geom.in_sector v p (sector_number v p) sizes (geom.held_at v p (sector_number v p) sizes (numbered v p inside))).0

@@ -9,12 +9,12 @@ use Rattle.std.proofs.lemmas.Option.{slice_get_within, get_or_from_slice_get}
 use Rattle.vx_block.specs.declared.cell.Cell.{Cell}
 use Rattle.vx_geom.specs.declared.pos.Pos.{Pos}
 use Rattle.vx_geom.specs.Sizes.{AreSizes, is_inside, sector_number, sector_of}
-use Rattle.vx_geom.proofs.SectorLemmas.{held_at, in_sector}
 use Rattle.vx_cells.specs.MapLaws.{block_in, block_on, IsFilled, CellOfBlock, PutInside, PutStaysFilled, PutCellIsRead, OthersStay}
 use Rattle.vx_cells.specs.Maps.{MapData, sector_at, cell_in, cell_on}
 use Rattle.vx_cells.specs.SectorCells.{SectorCells, IsBlock, IsSlot, IsWhole, slot_count, placed, holds, block_at, with_block, with_cell}
 use Rattle.vx_cells.specs.Wholes.{set_in, with_cell_on}
 use Rattle.vx_cells.proofs.CellLaws.{set_block_is_read, other_blocks_stay}
+use Rattle.vx_cells.proofs.Indices.{numbered, number_below}
 use Rattle.vx_cells.proofs.MapLemmas.{placed_at, is_held}
 use Rattle.vx_cells.proofs.Placed.{found_within}
 use Rattle.vx_cells.proofs.Setting.{cell_keeps_map, cell_is_set}
@@ -172,15 +172,10 @@ put_stays_filled m next p cell filled made =
 
 -- a sector is there for each position inside the world
 module _ (m : MapData) (p : Pos) (cell : Cell) (filled : IsFilled m) where
-  numbered : is_inside m.sizes p ≡ true → sector_of m.sizes p ≡ Some (sector_number m.sizes p)
-  unfolding sector_of
-  numbered inside = ap (λ b. if b then Some (sector_number m.sizes p) else None) inside
-
   has_sector : is_inside m.sizes p ≡ true → (c : SectorCells) × (slice_get m.sectors (sector_number m.sizes p) ≡ Some c)
   has_sector inside =
-      let held = held_at m.sizes p (sector_number m.sizes p) filled.map.valid (numbered inside) in
-      let within = (in_sector m.sizes p (sector_number m.sizes p) filled.map.valid held).0 in
-      found_within m.sectors (sector_number m.sizes p) (omega (arith, filled.map.all, within))
+      found_within m.sectors (sector_number m.sizes p)
+      (omega (arith, filled.map.all, number_below m.sizes p filled.map.valid inside))
 
   -- so there a cell is put down
   by_inside : (b : Bool) → is_inside m.sizes p ≡ b → is_some (with_cell_on m p cell) ≡ b
@@ -189,7 +184,7 @@ module _ (m : MapData) (p : Pos) (cell : Cell) (filled : IsFilled m) where
       ap (λ b. is_some (option_and_then (λ k. set_in m p cell k (slice_get m.sectors k)) (if b then Some (sector_number m.sizes p) else None))) outside
   by_inside true inside =
       let found = has_sector inside in
-      let is = numbered inside in
+      let is = numbered m.sizes p inside in
       ap is_some (cell_is_set m p cell (sector_number m.sizes p) found.0 (with_cell found.0 p cell) is found.1
       (is_held m p (sector_number m.sizes p) is found.0 filled.map found.1) refl)
 

@@ -15,7 +15,7 @@ use Rattle.vx_block.specs.declared.cell.Cell.{Cell}
 use Rattle.vx_block.specs.Components.{is_device}
 use Rattle.vx_cells.specs.Listed.{devices_on}
 use Rattle.vx_cells.specs.Maps.{MapData, AreSectors, cell_on}
-use Rattle.vx_cells.proofs.Indices.{index_below}
+use Rattle.vx_cells.proofs.Indices.{index_below, numbered}
 use Rattle.vx_cells.proofs.MapLemmas.{outside_is_air}
 use Rattle.vx_power.specs.declared.columns.Columns.{Columns}
 use Rattle.vx_power.specs.Levels.{has, is_in, columns_around, everywhere}
@@ -40,13 +40,23 @@ among_filter test (y ∷ xs) x (inr among) passes = kept (test y) (among_filter 
     kept false further = further
 
 -- the position of each index is among those from an index on
-pub among_from : (v : Sizes) (k index n i : ℕ) → index ≤ i → i < index + n
+among_from : (v : Sizes) (k index n i : ℕ) → index ≤ i → i < index + n
     → IsAmong (positions_from v k index n) (position_in_sector v k i)
 among_from v k index zero i low high = absurd (omega arith)
 among_from v k index (suc n) i low high = elim (cases_eq index i) [
   | inl same ↦ inl (ap (position_in_sector v k) same)
   | inr further ↦ inr (among_from v k (suc index) n i (omega arith) (omega arith))
 ]
+
+-- a position inside is among those of its sector
+pub is_listed : (v : Sizes) (p : Pos) (n : ℕ) → AreSizes v → is_inside v p ≡ true
+    → sector_of v p ≡ Some n → n < sector_count v → IsAmong (positions v n) p
+unfolding positions
+is_listed v p n sizes inside held low =
+    let i = index_in_sector v p in
+    let most : i < sector_cells v = index_below v p sizes inside in
+    subst (IsAmong (positions v n)) ((indices_are_places v n sizes low).found p held)
+    (among_from v n 0 (sector_cells v) i (omega arith) (omega (arith, most)))
 
 module _ (m : MapData) (sectors : AreSectors m.sizes m.sectors) where
   -- a device stands in the world
@@ -58,25 +68,13 @@ module _ (m : MapData) (sectors : AreSectors m.sizes m.sectors) where
         absurd (false≢true (sym (ap is_device air) ∙ device))
   ]
 
-  -- a position in the world is of the sector of its number
-  sector_number_is : (s : Pos) → is_inside m.sizes s ≡ true
-      → sector_of m.sizes s ≡ Some (sector_number m.sizes s)
-  unfolding sector_of
-  sector_number_is s inside = ap (λ b. if b then Some (sector_number m.sizes s) else None) inside
-
   -- a device is listed in its sector
   device_listed : (s : Pos) (n : ℕ) → is_device (cell_on m s) ≡ true → sector_of m.sizes s ≡ Some n
       → n < sector_count m.sizes → IsAmong (devices_on m n) s
-  unfolding devices_on positions
+  unfolding devices_on
   device_listed s n device held low =
-      let v = m.sizes in
-      let i = index_in_sector v s in
-      let inside = device_inside s device in
-      let found = (indices_are_places v n sectors.valid low).found s held in
-      let most : i < sector_cells v = index_below v s sectors.valid inside in
-      let among = among_from v n 0 (sector_cells v) i (omega arith) (omega (arith, most)) in
-      among_filter (λ p. is_device (cell_on m p)) (positions v n) s
-      (subst (IsAmong (positions v n)) found among) device
+      among_filter (λ p. is_device (cell_on m p)) (positions m.sizes n) s
+      (is_listed m.sizes s n sectors.valid (device_inside s device) held low) device
 
 -- a number that lies at most 18 off a part lies at most two parts off it
 part_near : (w a b x : ℕ) → 16 ≤ w → w * a ≤ x → x < w * (a + 1) → w * b ≤ x + 18 → x < w * b + w + 18
@@ -183,7 +181,7 @@ module _ (m : MapData) (sectors : AreSectors m.sizes m.sectors) where
         let s = feeder.0 in
         let n = sector_number v s in
         let device = feeds_device w s p feeder.1 in
-        let held = sector_number_is m sectors s (device_inside m sectors s device) in
+        let held = numbered m.sizes s (device_inside m sectors s device) in
         let within = have s p n there feeder.1 held in
         let below = (in_sector v s n sectors.valid (held_at v s n sectors.valid held)).0 in
         sectors_from m w first (end - first) n s p within.0 (reached within.0 within.1)

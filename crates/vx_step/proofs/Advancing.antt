@@ -4,20 +4,18 @@ use Rattle.std.proofs.lemmas.Bool.{cases_eq, false≢true}
 use Rattle.vx_geom.specs.declared.pos.Pos.{Pos}
 use Rattle.vx_geom.specs.Places.{positions}
 use Rattle.vx_geom.specs.Sizes.{is_inside, sector_number, sector_of, sector_count, sector_cells, index_in_sector}
-use Rattle.vx_geom.proofs.Places.{indices_are_places}
-use Rattle.vx_geom.proofs.SectorLemmas.{held_at, in_sector}
 use Rattle.vx_block.specs.declared.cell.Cell.{Cell}
 use Rattle.vx_block.specs.declared.cell.Cell.TheVariants.{Air}
 use Rattle.vx_cells.specs.CellsLaws.{cell_decided}
 use Rattle.vx_cells.specs.MapLaws.{IsFilled}
 use Rattle.vx_cells.specs.Maps.{MapData, cell_on}
 use Rattle.vx_cells.specs.SameCells.{same_cell}
-use Rattle.vx_cells.proofs.Indices.{index_below}
+use Rattle.vx_cells.proofs.Indices.{numbered, number_below}
 use Rattle.vx_cells.proofs.MapLemmas.{outside_is_air}
 use Rattle.vx_cells.proofs.Putting.{cell_of_block}
 use Rattle.vx_power.specs.Laws.{dust_level}
 use Rattle.vx_power.specs.Walks.{IsAmong}
-use Rattle.vx_power.proofs.Feeding.{among_from}
+use Rattle.vx_power.proofs.Feeding.{is_listed}
 use Rattle.vx_power.proofs.Linking.{among_either, among_left, among_right}
 use Rattle.vx_part.specs.Changes.{change_at, before, changes}
 use Rattle.vx_part.specs.Parts.{next_of, next_part}
@@ -106,26 +104,6 @@ module _ (m : MapData) (filled : IsFilled m) where
             among_left (changed_up_to m n) _ (p, cell) (has_one n k p cell (omega (arith, low)) among is)
       ]
 
-  numbered : (p : Pos) → is_inside m.sizes p ≡ true → sector_of m.sizes p ≡ Some (sector_number m.sizes p)
-  unfolding sector_of
-  numbered p inside = ap (λ b. if b then Some (sector_number m.sizes p) else None) inside
-
-  sector_below : (p : Pos) → is_inside m.sizes p ≡ true → sector_number m.sizes p < sector_count m.sizes
-  sector_below p inside =
-      (in_sector m.sizes p (sector_number m.sizes p) filled.map.valid
-      (held_at m.sizes p (sector_number m.sizes p) filled.map.valid (numbered p inside))).0
-
-  -- each position inside is one of its sector
-  is_listed : (p : Pos) → is_inside m.sizes p ≡ true → IsAmong (positions m.sizes (sector_number m.sizes p)) p
-  unfolding positions
-  is_listed p inside =
-      let k = sector_number m.sizes p in
-      let index = index_in_sector m.sizes p in
-      subst (IsAmong (positions m.sizes k))
-      ((indices_are_places m.sizes k filled.map.valid (sector_below p inside)).found p (numbered p inside))
-      (among_from m.sizes k 0 (sector_cells m.sizes) index zero-le
-      (omega (arith, index_below m.sizes p filled.map.valid inside)))
-
   -- what changes lies inside
   changes_inside : (p : Pos) (cell : Cell)
       → change_at (cell_on m) (dust_level (cell_on m)) p ≡ Some cell → is_inside m.sizes p ≡ true
@@ -148,11 +126,12 @@ module _ (m : MapData) (filled : IsFilled m) where
       ∙ sym (no_change (cell_on m) (dust_level (cell_on m)) p none)
   becomes p (Some cell) some =
       let inside = changes_inside p cell some in
+      let low = number_below m.sizes p filled.map.valid inside in
       sym (cell_of_block (advanced m) p)
       ∙ ap (λ b. b.cell) (all_put m (changed_up_to m (sector_count m.sizes)) p cell filled inside
       (λ other among. let is = is_one (sector_count m.sizes) p other among in cc)
-      (has_one (sector_count m.sizes) (sector_number m.sizes p) p cell (sector_below p inside)
-      (is_listed p inside) some))
+      (has_one (sector_count m.sizes) (sector_number m.sizes p) p cell low
+      (is_listed m.sizes p (sector_number m.sizes p) filled.map.valid inside (numbered m.sizes p inside) low) some))
       ∙ (a_change (cell_on m) (dust_level (cell_on m)) p cell some).0
 
 pub parts_become_next : PartsBecomeNext

@@ -1,9 +1,9 @@
 -- Each component of a map becomes its next part, and all else stays.
-use Rattle.std.proofs.Common.{◌≡◌, ◌≢◌, ℕ, zero, suc, ◌<◌, Bool, true, false, inl, inr, List, [], ◌∷◌, Option, Some, None, if◌then◌else◌, refl, sym, ap, ◌∙◌, subst, zero-le, arith}
+use Rattle.std.proofs.Common.{◌≡◌, ◌≢◌, ℕ, zero, suc, ◌<◌, Bool, true, false, inl, inr, List, [], ◌∷◌, Option, Some, None, if◌then◌else◌, refl, sym, ap, ◌∙◌, subst, arith}
 use Rattle.std.proofs.lemmas.Bool.{cases_eq, false≢true}
 use Rattle.vx_geom.specs.declared.pos.Pos.{Pos}
 use Rattle.vx_geom.specs.Places.{positions}
-use Rattle.vx_geom.specs.Sizes.{is_inside, sector_number, sector_of, sector_count, sector_cells, index_in_sector}
+use Rattle.vx_geom.specs.Sizes.{is_inside, sector_number, sector_count}
 use Rattle.vx_block.specs.declared.cell.Cell.{Cell}
 use Rattle.vx_block.specs.declared.cell.Cell.TheVariants.{Air}
 use Rattle.vx_cells.specs.CellsLaws.{cell_decided}

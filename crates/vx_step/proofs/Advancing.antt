@@ -7,7 +7,7 @@ use Rattle.vx_geom.specs.Sizes.{is_inside, sector_number, sector_count}
 use Rattle.vx_block.specs.declared.cell.Cell.{Cell}
 use Rattle.vx_block.specs.declared.cell.Cell.TheVariants.{Air}
 use Rattle.vx_cells.specs.CellsLaws.{cell_decided}
-use Rattle.vx_cells.specs.MapLaws.{IsFilled}
+use Rattle.vx_cells.specs.MapLaws.{block_on, IsFilled}
 use Rattle.vx_cells.specs.Maps.{MapData, cell_on}
 use Rattle.vx_cells.specs.SameCells.{same_cell}
 use Rattle.vx_cells.proofs.Indices.{numbered, number_below}
@@ -20,7 +20,7 @@ use Rattle.vx_power.proofs.Linking.{among_either, among_left, among_right}
 use Rattle.vx_part.specs.Changes.{change_at, before, changes}
 use Rattle.vx_part.specs.Parts.{next_of, next_part}
 use Rattle.vx_step.specs.Ticks.{changed_up_to, advanced}
-use Rattle.vx_step.specs.Laws.{PartsBecomeNext}
+use Rattle.vx_step.specs.Laws.{PartsBecomeNext, UnchangedStay}
 use Rattle.vx_step.proofs.Puts.{none_put, all_put}
 
 module _ (w : Pos → Cell) (level : Pos → ℕ) where
@@ -116,12 +116,17 @@ module _ (m : MapData) (filled : IsFilled m) where
           (air_stays (cell_on m) (dust_level (cell_on m)) p
           (outside_is_air m p (λ inside. false≢true (sym outside ∙ inside)))))
 
+  nothing_put : (p : Pos) → change_at (cell_on m) (dust_level (cell_on m)) p ≡ None
+      → block_on (advanced m) p ≡ block_on m p
+  nothing_put p none =
+      none_put m (changed_up_to m (sector_count m.sizes)) p filled
+      (λ cell among. let some = is_one (sector_count m.sizes) p cell among in cc)
+
   becomes : (p : Pos) (o : Option Cell) → change_at (cell_on m) (dust_level (cell_on m)) p ≡ o
       → cell_on (advanced m) p ≡ next_part (cell_on m) (dust_level (cell_on m)) p
   becomes p None none =
       sym (cell_of_block (advanced m) p)
-      ∙ ap (λ b. b.cell) (none_put m (changed_up_to m (sector_count m.sizes)) p filled
-      (λ cell among. let some = is_one (sector_count m.sizes) p cell among in cc))
+      ∙ ap (λ b. b.cell) (nothing_put p none)
       ∙ cell_of_block m p
       ∙ sym (no_change (cell_on m) (dust_level (cell_on m)) p none)
   becomes p (Some cell) some =
@@ -137,3 +142,12 @@ module _ (m : MapData) (filled : IsFilled m) where
 pub parts_become_next : PartsBecomeNext
 parts_become_next m p filled =
     becomes m filled p (change_at (cell_on m) (dust_level (cell_on m)) p) refl
+
+pub unchanged_stay : UnchangedStay
+unchanged_stay m p filled same = by (change_at (cell_on m) (dust_level (cell_on m)) p) refl
+  where
+    by : (o : Option Cell) → change_at (cell_on m) (dust_level (cell_on m)) p ≡ o
+        → block_on (advanced m) p ≡ block_on m p
+    by None none = nothing_put m filled p none
+    by (Some cell) some =
+        absurd ((a_change (cell_on m) (dust_level (cell_on m)) p cell some).1 same)

@@ -21,6 +21,12 @@ abbrev pub PartsBecomeNext : Type 0
 PartsBecomeNext = (m : MapData) (p : Pos)
     → IsFilled m → cell_on (advanced m) p ≡ next_part (cell_on m) (dust_level (cell_on m)) p
 
+-- where that is the cell that stood there, its slots are as they were, too
+abbrev pub UnchangedStay : Type 0
+UnchangedStay = (m : MapData) (p : Pos) → IsFilled m
+    → next_part (cell_on m) (dust_level (cell_on m)) p ≡ cell_on m p
+    → block_on (advanced m) p ≡ block_on m p
+
 -- P holds of each tick of a map with something at each place
 abbrev pub OfTicks : ((rs : Regions) (m next : MapData) (fates : List (Pos × Fate))
     → IsTick rs m next fates → Type 0) → Type 0

@@ -1,10 +1,11 @@
-ghost use Rattle.vx_step.specs.Laws.{PartsBecomeNext, OfTicks, StaysFilled, MovesAreAsked, OthersStay, MadeArePut};
+ghost use Rattle.vx_step.specs.Laws.{PartsBecomeNext, UnchangedStay, OfTicks, StaysFilled, MovesAreAsked, OthersStay, MadeArePut};
 ghost use Rattle.vx_step.specs.Pairing.{StaysPaired};
 
 /// Before any move is made, each component of a map has become its next part, by the cells and
-/// signals with which the tick begins, and all else is as it was.
+/// signals with which the tick begins, and all else is as it was, slots of chests too.
 pub fn parts_become_next()
-    ensures { PartsBecomeNext }
+    ensures next { PartsBecomeNext }
+    ensures others { UnchangedStay }
 {}
 
 /// A tick, position by position: each move is what the piston there asks for; in the cells of those

@@ -28,6 +28,7 @@ impl Model for Whole {
 
 impl Whole {
     ghost use Rattle.std.specs.Prelude.{◌≢◌};
+    ghost use Rattle.vx_cells.specs.MapLaws.{IsFilled};
     ghost use Rattle.vx_cells.specs.Maps.{AreSectors};
     ghost use Rattle.vx_cells.specs.Wholes.{with_cells_on};
 
@@ -100,6 +101,15 @@ impl Whole {
         ensures { result ≡ self.now }
     {
         Frozen::new(self.bounds, &self.sectors)
+    }
+
+    /// What holds of all maps: each sector stands in its place, with something at each place of it.
+    pub fn soundness(&self)
+        ensures { IsFilled self.now }
+    {
+        for cells in &self.sectors {
+            cells.soundness();
+        }
     }
 
     /// The sectors in order of their numbers.

@@ -1,5 +1,5 @@
 -- The first of two positions, and of all that a test holds of.
-use Rattle.std.proofs.Common.{◌≡◌, ◌⊎◌, true, false, if◌then◌else◌, inl, inr, Option, None, Some, sym, ap, ◌∙◌, subst}
+use Rattle.std.proofs.Common.{◌≡◌, ◌⊎◌, true, false, if◌then◌else◌, inl, inr, Option, None, Some, refl, sym, ap, ◌∙◌, subst}
 use Rattle.std.proofs.lemmas.Bool.{both_ways, cases_Bool, or_from, false_from_ne_true}
 use Rattle.vx_geom.specs.declared.pos.Pos.{Pos}
 use Rattle.vx_geom.specs.Order.{comes_before}
@@ -9,13 +9,13 @@ use Rattle.vx_power.proofs.Having.{place_is, place_of}
 use Rattle.vx_piston.specs.Claims.{first_of, first_found, before}
 
 -- of two positions at most one comes before the other
-not_back : (p q : Pos) → comes_before p q ≡ true → comes_before q p ≡ false
+pub not_back : (p q : Pos) → comes_before p q ≡ true → comes_before q p ≡ false
 not_back p q less =
     false_from_ne_true _ (λ back.
     both_ways _ (positions_ordered.irreflexive p) (positions_ordered.transitive p q p less back))
 
 -- where none does they are one
-one_place : (p q : Pos) → comes_before p q ≡ false → comes_before q p ≡ false → p ≡ q
+pub one_place : (p q : Pos) → comes_before p q ≡ false → comes_before q p ≡ false → p ≡ q
 one_place p q no_less no_more = elim (cases_Bool (same_place p q)) [
   | inl same ↦ place_is p q same
   | inr apart ↦
@@ -91,6 +91,13 @@ pub first_same : {P Q : Pos → Type 0} (o : Option Pos) → ((q : Pos) → P q 
     → IsFirst P o → IsFirst Q o
 first_same None to back first = λ q is. first q (back q is)
 first_same (Some p) to back first = (to p first.0, λ q is. first.1 q (back q is))
+
+-- there is one first
+pub one_first : (P : Pos → Type 0) (o r : Option Pos) → IsFirst P o → IsFirst P r → o ≡ r
+one_first P None None one other = refl
+one_first P None (Some b) one other = absurd (one b other.0)
+one_first P (Some a) None one other = absurd (other a one.0)
+one_first P (Some a) (Some b) one other = ap Some (one_place a b (other.1 a one.0) (one.1 b other.0))
 
 -- the first of those that either holds of
 pub first_either : (P Q : Pos → Type 0) (o r : Option Pos) → IsFirst P o → IsFirst Q r

@@ -41,11 +41,19 @@ abbrev pub before : Pos → Option Pos → Option Pos
 before at None = None
 before at (Some q) = if comes_before q at then Some q else None
 
+-- the first piston with a claim that passes a test
+abbrev pub first_such : (Moving → Bool) → List Moving → Option Pos
+first_such test [] = None
+first_such test (claim ∷ claims) =
+    if test claim then first_of claim.at (first_such test claims) else first_such test claims
+
+-- the piston that beats a move, if one does
+abbrev pub beaten_by : List Moving → Moving → Option Pos
+beaten_by claims m = first_such (λ claim. beats claim m) claims
+
 -- the first piston whose claim takes a cell
 abbrev pub claimant : List Moving → Pos → Option Pos
-claimant [] p = None
-claimant (claim ∷ claims) p =
-    if has claim.cells p then first_of claim.at (claimant claims p) else claimant claims p
+claimant claims p = first_such (λ claim. has claim.cells p) claims
 
 -- a table that has it for each cell
 abbrev pub IsTable : List Moving → List (Pos × Pos) → Type 0

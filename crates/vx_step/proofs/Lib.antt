@@ -1,7 +1,9 @@
 pub mod Advancing
 pub mod Asking
+pub mod InOrder
 pub mod Making
 pub mod Movers
+pub mod OneTick
 pub mod Pairs
 pub mod PutDown
 pub mod Permitting

@@ -5,6 +5,7 @@ use Rattle.vx_block.specs.declared.cell.Cell.{Cell}
 use Rattle.vx_cells.specs.MapLaws.{block_on, IsFilled}
 use Rattle.vx_cells.specs.Maps.{MapData, cell_on}
 use Rattle.vx_cells.specs.SectorCells.{placed}
+use Rattle.vx_cells.specs.Wholes.{IsMap}
 use Rattle.vx_power.specs.Laws.{dust_level}
 use Rattle.vx_power.specs.Levels.{has}
 use Rattle.vx_power.specs.Walks.{IsAmong}
@@ -13,7 +14,7 @@ use Rattle.vx_piston.specs.Moves.{Moving, candidate}
 use Rattle.vx_region.specs.Regions.{Regions}
 use Rattle.vx_cause.specs.Laws.{IsMade}
 use Rattle.vx_step.specs.declared.fate.Fate.{Fate}
-use Rattle.vx_step.specs.Ticks.{advanced, moved_cells, IsTick}
+use Rattle.vx_step.specs.Ticks.{advanced, moved_cells, fates_on, stepped, IsTick}
 
 -- before any move is made, each component has become its next part, by the cells and signals with
 -- which the tick begins, and all else is as it was
@@ -58,3 +59,17 @@ MadeArePut rs m next fates tick = (move : Moving) (n : ℕ) (p : Pos) (cell : Ce
     → IsMade rs tick.moves move → slice_get move.cells n ≡ Some p
     → slice_get (moved_cells (cell_on (advanced m)) move) n ≡ Some cell
     → block_on next p ≡ placed cell
+
+-- a tick of a map is the one that is stepped, fates and all
+abbrev pub TickIsStepped : Type 0
+TickIsStepped = (rs : Regions) (m next : MapData) (fates : List (Pos × Fate))
+    → IsTick rs m next fates → (next ≡ stepped rs m) × (fates ≡ fates_on rs m)
+
+-- and that is a tick
+abbrev pub SteppedIsTick : Type 0
+SteppedIsTick = (rs : Regions) (m : MapData) → IsTick rs m (stepped rs m) (fates_on rs m)
+
+-- which leaves each sector in its place, and the world as large
+abbrev pub StepsKeepMaps : Type 0
+StepsKeepMaps = (rs : Regions) (m : MapData) → IsMap m
+    → IsMap (stepped rs m) × ((stepped rs m).sizes ≡ m.sizes)

@@ -3,7 +3,7 @@ use Rattle.std.specs.Prelude.{◌≡◌, ℕ, zero, suc, Bool, true, false, if�
 use Rattle.std.specs.List.{zip}
 use Rattle.std.specs.List.Sorted.{IsPermutation, IsSortedByKey}
 use Rattle.vx_geom.specs.declared.pos.Pos.{Pos}
-use Rattle.vx_geom.specs.Order.{compared}
+use Rattle.vx_geom.specs.Order.{comes_before, compared}
 use Rattle.vx_geom.specs.Places.{positions}
 use Rattle.vx_geom.specs.Sizes.{sector_count}
 use Rattle.vx_block.specs.declared.cell.Cell.{Cell}
@@ -16,7 +16,7 @@ use Rattle.vx_piston.specs.Moves.{Moving, candidate}
 use Rattle.vx_region.specs.Regions.{Regions}
 use Rattle.vx_step.specs.declared.fate.Fate.{Fate}
 use Rattle.vx_step.specs.declared.fate.Fate.TheVariants.{Moved}
-use Rattle.vx_step.specs.Fates.{AreFates}
+use Rattle.vx_step.specs.Fates.{AreFates, fates_of}
 
 -- the move of a piston, where it asks for one, before others
 abbrev pub asked_before : Option Moving → List Moving → List Moving
@@ -94,3 +94,27 @@ pub record IsTick (rs : Regions) (m next : MapData) (fates : List (Pos × Fate))
   pub asked : AreMoves m moves
   pub told : AreFates rs moves moves fates
   pub after : next ≡ with_cells_on (advanced m) (put_down (cell_on (advanced m)) moves fates)
+
+-- a move among others in the order of positions, and all in that order
+abbrev pub inserted : Moving → List Moving → List Moving
+inserted m [] = m ∷ []
+inserted m (n ∷ moves) =
+    if comes_before n.at m.at then n ∷ inserted m moves else m ∷ n ∷ moves
+
+abbrev pub ordered : List Moving → List Moving
+ordered [] = []
+ordered (m ∷ moves) = inserted m (ordered moves)
+
+-- the moves that all pistons of a map ask for, in the order of the pistons' positions
+abbrev pub moves_of : MapData → List Moving
+moves_of m = ordered (asked_up_to m (sector_count m.sizes))
+
+-- what becomes of the moves of a map, in their order
+unfoldable pub fates_on : Regions → MapData → List (Pos × Fate)
+fates_on rs m = fates_of rs (moves_of m) (moves_of m)
+
+-- the map after a tick
+unfoldable pub stepped : Regions → MapData → MapData
+stepped rs m =
+    with_cells_on (advanced m)
+    (put_down (cell_on (advanced m)) (moves_of m) (fates_of rs (moves_of m) (moves_of m)))

@@ -1,4 +1,4 @@
-ghost use Rattle.vx_step.specs.Laws.{PartsBecomeNext, UnchangedStay, OfTicks, StaysFilled, MovesAreAsked, OthersStay, MadeArePut};
+ghost use Rattle.vx_step.specs.Laws.{PartsBecomeNext, UnchangedStay, OfTicks, StaysFilled, MovesAreAsked, OthersStay, MadeArePut, TickIsStepped, SteppedIsTick, StepsKeepMaps};
 ghost use Rattle.vx_step.specs.Pairing.{StaysPaired};
 
 /// Before any move is made, each component of a map has become its next part, by the cells and
@@ -22,4 +22,12 @@ pub fn ticks_by_position()
 /// is so after a tick.
 pub fn heads_stay_with_pistons()
     ensures { OfTicks StaysPaired }
+{}
+
+/// A map has one tick under a policy, and that is the one of the definition by a function: the same
+/// next map and the same fates in the same order.
+pub fn there_is_one_tick()
+    ensures only { TickIsStepped }
+    ensures tick { SteppedIsTick }
+    ensures map { StepsKeepMaps }
 {}

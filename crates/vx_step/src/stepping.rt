@@ -2,7 +2,7 @@
 ghost use Rattle.std.specs.Prelude.{◌≡◌, length, IfOk};
 ghost use Rattle.vx_cells.specs.Maps.{cell_on};
 ghost use Rattle.vx_cells.specs.Wholes.{with_cells_on};
-ghost use Rattle.vx_step.specs.Ticks.{put_down, IsTick};
+ghost use Rattle.vx_step.specs.Ticks.{put_down, fates_on, stepped, IsTick};
 
 use crate::effects::put_down;
 use crate::ending::fates;
@@ -18,6 +18,18 @@ use vx_policy::Version;
 /// pistons asked for, each beside the position of its piston, in the order of positions
 /// (docs/RULES.md). The map as it was stays.
 pub fn step_plain(
+    alloc: Global,
+    map: &Whole,
+    version: &Version,
+) -> Result<(Whole, Vec<(Pos, Fate)>), AllocError>
+    ensures map { IfOk result (λ after. after.0 ≡ stepped version.now.policy map.now) }
+    ensures fates { IfOk result (λ after. after.1.items ≡ fates_on version.now.policy map.now) }
+{
+    tick(alloc, map, version)
+}
+
+// The map after a tick, and the fates of its moves.
+fn tick(
     alloc: Global,
     map: &Whole,
     version: &Version,

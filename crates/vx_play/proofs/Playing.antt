@@ -24,13 +24,11 @@ use Rattle.vx_sector.proofs.ActingLemmas.{denied_by_the_policy}
 use Rattle.vx_sector.proofs.Outside.{elsewhere_is_refused, full_is_refused, answered_by_the_rules}
 use Rattle.vx_sector.proofs.WindowLemmas.{command_keeps_sector}
 use Rattle.vx_cells.specs.Maps.{MapData}
-use Rattle.vx_play.specs.Plays.{PlayData, cells_of, IsWorld, ticked, opened, opened_with, sector_asked, answered, answered_at, answer_in, left_in, renewed_by, next_version}
+use Rattle.vx_play.specs.Plays.{PlayData, cells_of, IsWorld, ticked, opened, opened_with, sector_asked, answered, answered_at, answer_in, left_in, renewed_over, next_version, next_map}
 use Rattle.vx_play.specs.Games.{Step, Command, Accepted, Tick, after_step, played, game, edits_of, ticks_of, version_after, AreJudgedBy, base_of}
-use Rattle.vx_play.specs.Laws.{GamesStayWhole, TicksLeaveCells, NoEditCountsBeforeATick, EditsCountFromTheNextTick, IsJudged, IsDeniedBy, DeniedByTheOpening, DeniedByTheLastTick, StepsAreCounted, RecordsAreWindows, FirstWindowsBeginWithTheTerrain, WindowsBeginWithTheTick}
-use Rattle.vx_play.proofs.Whole.{cells_renewed, worlds_begin_whole, commands_keep_worlds, ticks_keep_worlds}
-
-pub ticks_leave_cells : TicksLeaveCells
-ticks_leave_cells play = cells_renewed (next_version play) play.sectors
+use Rattle.vx_play.specs.Laws.{GamesStayWhole, NoEditCountsBeforeATick, EditsCountFromTheNextTick, IsJudged, IsDeniedBy, DeniedByTheOpening, DeniedByTheLastTick, StepsAreCounted, RecordsAreWindows, FirstWindowsBeginWithTheTerrain, WindowsBeginWithTheTick}
+use Rattle.vx_play.proofs.Renewals.{all_bring, bases_renewed}
+use Rattle.vx_play.proofs.Whole.{as_many_cells, worlds_begin_whole, commands_keep_worlds, ticks_keep_worlds}
 
 -- a part of a sector that no entry changes is as it was after a command
 part_stays : {X : Type 0} (f : SectorData → X) → ((s : SectorData) (entry : EntryData) → f (recorded s entry) ≡ f s)
@@ -70,12 +68,12 @@ module _ (P : SectorData → Type 0) (kept : (s : SectorData) (seat : SeatData) 
   until_the_next_tick play (Tick ∷ steps) none all = cc
 
   -- and for ever, where ticks keep it too
-  for_ever : ((version : Version) (s : SectorData) → P s → P (renewed_by version s)) → (play : PlayData) (steps : List Step) → All P play.sectors → All P (played play steps).sectors
+  for_ever : ((version : Version) (s : SectorData) (cells : SectorCells) → P s → P (renewed_over version s cells)) → (play : PlayData) (steps : List Step) → All P play.sectors → All P (played play steps).sectors
   for_ever by_ticks play [] all = all
   for_ever by_ticks play (Command seat cmd ∷ steps) all = for_ever by_ticks (after_step play (Command seat cmd)) steps (command_keeps_all play seat cmd all)
   for_ever by_ticks play (Accepted edit ∷ steps) all = for_ever by_ticks (after_step play (Accepted edit)) steps all
   for_ever by_ticks play (Tick ∷ steps) all =
-      for_ever by_ticks (after_step play Tick) steps (All-map P (renewed_by (next_version play)) play.sectors (λ k d within. by_ticks (next_version play) _ (all k d within)))
+      for_ever by_ticks (after_step play Tick) steps (all_bring (next_version play) P P (by_ticks (next_version play)) play.sectors (next_map play).sectors all)
 
 -- a part of each sector that no entry changes is as it was until the next tick
 module _ {X : Type 0} (f : SectorData → X) (kept : (s : SectorData) (entry : EntryData) → f (recorded s entry) ≡ f s) where
@@ -147,33 +145,56 @@ fixed_by_the_tick rs terrain names before =
 judged_as_before : (version : Version) (s : SectorData) (seat : SeatData) (cmd : Cmd) → s.version ≡ version → (sector_after s seat cmd (answer_of s seat cmd)).version ≡ version
 judged_as_before version s seat cmd is = part_stays (λ (r : SectorData). r.version) (λ s entry. refl) s seat cmd _ ∙ is
 
-renewed_version : (version : Version) (s : SectorData) → (renewed_by version s).version ≡ version
+renewed_version : (version : Version) (s : SectorData) (cells : SectorCells) → (renewed_over version s cells).version ≡ version
 unfolding renewed
-renewed_version version s = refl
+renewed_version version s cells = refl
+
+-- until the next tick the machines are judged by one version
+machines_kept : (play : PlayData) (steps : List Step) → ticks_of steps ≡ 0 → (played play steps).version ≡ play.version
+machines_kept play [] none = refl
+machines_kept play (Command seat cmd ∷ steps) none = machines_kept (after_step play (Command seat cmd)) steps none
+machines_kept play (Accepted edit ∷ steps) none = machines_kept (after_step play (Accepted edit)) steps none
+machines_kept play (Tick ∷ steps) none = cc
+
+judged_on : (version : Version) (play : PlayData) (steps : List Step) → ticks_of steps ≡ 0
+    → AreJudgedBy version play → AreJudgedBy version (played play steps)
+judged_on version play steps none judged = record {
+  commands = until_the_next_tick (λ s. s.version ≡ version) (judged_as_before version) play steps none judged.commands;
+  machines = machines_kept play steps none ∙ judged.machines;
+}
 
 judged_after_the_tick : (play : PlayData) → AreJudgedBy (next_version play) (ticked play)
-judged_after_the_tick play = All-map (λ s. s.version ≡ next_version play) (renewed_by (next_version play)) play.sectors (λ k d within. renewed_version (next_version play) _)
+judged_after_the_tick play = record {
+  commands =
+      all_bring (next_version play) (λ s. Unit {0}) (λ s. s.version ≡ next_version play)
+      (λ s cells known. renewed_version (next_version play) s cells) play.sectors (next_map play).sectors
+      (λ k d within. tt);
+  machines = refl;
+}
 
 pub no_edit_counts_before_a_tick : NoEditCountsBeforeATick
 no_edit_counts_before_a_tick rs terrain names steps none =
     let first = version_after rs [] 0 in
-    until_the_next_tick (λ s. s.version ≡ first) (judged_as_before first) (opened rs terrain names) steps none
-    (All-map (λ s. s.version ≡ first) (opened_with rs) terrain.sectors (λ k d within. refl))
+    judged_on first (opened rs terrain names) steps none (record {
+      commands = All-map (λ s. s.version ≡ first) (opened_with rs) terrain.sectors (λ k d within. refl);
+      machines = refl;
+    })
 
 pub edits_count_from_the_next_tick : EditsCountFromTheNextTick
 edits_count_from_the_next_tick rs terrain names before since none =
     let play = game rs terrain names before in
     let next = version_after rs (edits_of before) (ticks_of before + 1) in
     subst (AreJudgedBy next) (sym (played_append (opened rs terrain names) before (Tick ∷ since)))
-    (until_the_next_tick (λ s. s.version ≡ next) (judged_as_before next) (ticked play) since none
+    (judged_on next (ticked play) since none
     (subst (λ version. AreJudgedBy version (ticked play)) (fixed_by_the_tick rs terrain names before) (judged_after_the_tick play)))
 
 first_is_sector : (rs : Regions) (cells : SectorCells) → IsSector (opened_with rs cells)
 first_is_sector rs cells = record { window = tt; cells = refl; most = lit≤ tt }
 
-renewed_is_sector : (version : Version) (s : SectorData) → IsSector s → IsSector (renewed_by version s)
+renewed_is_sector : (version : Version) (s : SectorData) (cells : SectorCells) → IsSector s
+    → IsSector (renewed_over version s cells)
 unfolding renewed
-renewed_is_sector version s sector = record { window = tt; cells = refl; most = omega (arith, sector.most) }
+renewed_is_sector version s cells sector = record { window = tt; cells = refl; most = omega (arith, sector.most) }
 
 pub records_are_windows : RecordsAreWindows
 records_are_windows rs terrain names steps =
@@ -184,21 +205,17 @@ bases_opened : (rs : Regions) (cs : List SectorCells) → map base_of (map (open
 bases_opened rs [] = refl
 bases_opened rs (c ∷ cs) = ap (λ ds. c ∷ ds) (bases_opened rs cs)
 
-bases_renewed : (version : Version) (ss : List SectorData) → map base_of (map (renewed_by version) ss) ≡ map cells_of ss
-unfolding renewed
-bases_renewed version [] = refl
-bases_renewed version (s ∷ ss) = ap (λ cs. s.cells ∷ cs) (bases_renewed version ss)
-
 pub first_windows_begin_with_the_terrain : FirstWindowsBeginWithTheTerrain
 first_windows_begin_with_the_terrain rs terrain names steps none =
     same_until_the_next_tick base_of (λ s entry. refl) (opened rs terrain names) steps none ∙ bases_opened rs terrain.sectors
 
 pub windows_begin_with_the_tick : WindowsBeginWithTheTick
-windows_begin_with_the_tick rs terrain names before since none =
+windows_begin_with_the_tick rs terrain names before since whole none =
     let play = game rs terrain names before in
     ap (λ (play : PlayData). map base_of play.sectors) (played_append (opened rs terrain names) before (Tick ∷ since))
     ∙ same_until_the_next_tick base_of (λ s entry. refl) (ticked play) since none
-    ∙ bases_renewed (next_version play) play.sectors
+    ∙ bases_renewed (next_version play) play.sectors (next_map play).sectors
+    (as_many_cells play (games_stay_whole rs terrain names before whole))
 
 -- the answer of a sector of this version
 judged_in : (version : Version) (s : SectorData) (seat : SeatData) (cmd : Cmd) (rule : Rule) → s.version ≡ version
@@ -226,7 +243,7 @@ denied_by version play seat cmd all is_judged rule = by (sector_asked play cmd) 
 
     there : (k : ℕ) (s : Option SectorData) → slice_get play.sectors k ≡ s → Is (answer_in seat cmd s)
     there k None found asked = absurd (asked.0 refl)
-    there k (Some s) found asked = judged_in version s seat cmd rule (of_found (λ s. s.version ≡ version) play.sectors k s all found) asked.0 asked.1
+    there k (Some s) found asked = judged_in version s seat cmd rule (of_found (λ s. s.version ≡ version) play.sectors k s all.commands found) asked.0 asked.1
 
     by : (k : Option ℕ) → Is (answered_at play.sectors seat cmd k).0
     by None = λ asked. absurd (asked.0 refl)

@@ -1,10 +1,10 @@
 -- What a world at play does keeps each of its sectors in its place.
-use Rattle.std.proofs.Common.{◌≡◌, ◌≢◌, ℕ, zero, suc, false, List, [], ◌∷◌, map, set, slice_get, Option, Some, None, option_map, Result, Err, refl, sym, ap, ◌∙◌, subst, inl, inr, arith}
+use Rattle.std.proofs.Common.{◌≡◌, ◌≢◌, ℕ, zero, suc, false, List, [], ◌∷◌, length, map, set, slice_get, Option, Some, None, option_map, Result, Err, refl, sym, ap, ◌∙◌, subst, inl, inr, arith}
 use Rattle.std.proofs.lemmas.Bool.{cases_Bool}
 use Rattle.std.proofs.lemmas.List.{map-set, length-map}
 use Rattle.std.proofs.lemmas.Option.{slice_get-map}
 use Rattle.vx_geom.specs.declared.pos.Pos.{Pos}
-use Rattle.vx_geom.specs.Sizes.{sector_of, is_inside}
+use Rattle.vx_geom.specs.Sizes.{sector_count, sector_of, is_inside}
 use Rattle.vx_geom.proofs.SectorLemmas.{held_at, in_sector}
 use Rattle.vx_cells.specs.SectorCells.{SectorCells, with_block}
 use Rattle.vx_policy.specs.declared.version.Version.{Version}
@@ -20,12 +20,15 @@ use Rattle.vx_sector.specs.declared.refusal.Refusal.{Refusal}
 use Rattle.vx_sector.specs.declared.refusal.Refusal.TheVariants.{OutOfWorld}
 use Rattle.vx_sector.proofs.Outside.{inside_is_not_refused}
 use Rattle.vx_cells.specs.Maps.{AreSectors}
-use Rattle.vx_play.specs.Plays.{PlayData, cells_of, IsWorld, opened_by, sector_asked, answered, answered_at, answer_in, left_in, renewed_by, next_version}
-use Rattle.vx_play.specs.Laws.{WorldsBeginWhole, CommandsKeepWorlds, TicksKeepWorlds, OutOfWorldIsOutside}
+use Rattle.vx_cells.specs.Wholes.{IsMap}
+use Rattle.vx_play.specs.Plays.{PlayData, cells_of, IsWorld, opened_by, sector_asked, answered, answered_at, answer_in, left_in, map_of, next_version, next_map, next_fates, ticked}
+use Rattle.vx_play.specs.Laws.{WorldsBeginWhole, CommandsKeepWorlds, TicksKeepWorlds, TicksAreSteps, OutOfWorldIsOutside}
 use Rattle.vx_cells.proofs.MapLemmas.{placed_at}
 use Rattle.vx_cells.proofs.Placed.{holds_found, found_within}
 use Rattle.vx_cells.proofs.Setting.{again}
-use Rattle.vx_play.proofs.Renewals.{changed_up_to}
+use Rattle.vx_step.specs.Ticks.{IsTick}
+use Rattle.vx_step.proofs.OneTick.{stepped_is_tick, steps_keep_maps}
+use Rattle.vx_play.proofs.Renewals.{cells_renewed}
 
 -- the world that is made has the sectors of the terrain
 pub cells_opened : (v : Version) (cs : List SectorCells) → map cells_of (map (opened_by v) cs) ≡ cs
@@ -71,13 +74,33 @@ commands_keep_worlds play seat cmd whole = by (sector_asked play cmd)
     by None = whole
     by (Some k) = in_sector_of k (slice_get play.sectors k) refl
 
-pub cells_renewed : (v : Version) (ss : List SectorData) → map cells_of (map (renewed_by v) ss) ≡ map cells_of ss
-unfolding renewed
-cells_renewed v [] = refl
-cells_renewed v (s ∷ ss) = ap (λ cs. s.cells ∷ cs) (cells_renewed v ss)
+-- a tick keeps the map, and has a cell of it for each of the world's
+module _ (play : PlayData) (whole : IsWorld play) where
+  next_whole : IsMap (next_map play) × ((next_map play).sizes ≡ play.sizes)
+  next_whole = steps_keep_maps play.version.policy (map_of play) whole
+
+  pub as_many_cells : length play.sectors ≡ length (next_map play).sectors
+  as_many_cells =
+      sym (length-map play.sectors cells_of) ∙ whole.all ∙ sym (ap sector_count next_whole.1) ∙ sym next_whole.0.all
+
+  cells_ticked : map cells_of (ticked play).sectors ≡ (next_map play).sectors
+  cells_ticked = cells_renewed (next_version play) play.sectors (next_map play).sectors as_many_cells
+
+  tick_keeps_world : IsWorld (ticked play)
+  tick_keeps_world =
+      subst (AreSectors play.sizes) (sym cells_ticked)
+      (subst (λ sizes. AreSectors sizes (next_map play).sectors) next_whole.1 next_whole.0)
+
+  pub map_ticked : map_of (ticked play) ≡ next_map play
+  map_ticked = λ i. record { sizes = sym next_whole.1 i; sectors = cells_ticked i }
 
 pub ticks_keep_worlds : TicksKeepWorlds
-ticks_keep_worlds play whole = subst (AreSectors play.sizes) (sym (cells_renewed (next_version play) play.sectors)) whole
+ticks_keep_worlds play whole = tick_keeps_world play whole
+
+pub ticks_are_steps : TicksAreSteps
+ticks_are_steps play whole =
+    subst (λ next. IsTick play.version.policy (map_of play) next (next_fates play)) (sym (map_ticked play whole))
+    (stepped_is_tick play.version.policy (map_of play))
 
 -- inside the world a command meets the sector that holds its position
 met_inside : (play : PlayData) (seat : SeatData) (cmd : Cmd) (k : ℕ) → IsWorld play → sector_of play.sizes (place_of cmd) ≡ Some k
@@ -99,13 +122,6 @@ out_of_world_is_outside play seat cmd whole = (outside, λ other. rw other refl)
       | inl inside ↦ absurd (met_inside play seat cmd _ whole (rw inside refl) (rw inside at same))
       | inr other ↦ other
     ]
-
--- sectors that are renewed, and those that are not yet, keep their cells
-pub renewals_keep_cells : (v : Version) (i : ℕ) (ss : List SectorData) → map cells_of (changed_up_to (renewed_by v) i ss) ≡ map cells_of ss
-unfolding renewed
-renewals_keep_cells v i [] = refl
-renewals_keep_cells v zero (s ∷ ss) = refl
-renewals_keep_cells v (suc i) (s ∷ ss) = ap (λ cs. s.cells ∷ cs) (renewals_keep_cells v i ss)
 
 -- a command is answered in the sector of its position
 module _ (play : PlayData) (seat : SeatData) (cmd : Cmd) (k : ℕ) (s : SectorData) (found : sector_of play.sizes (place_of cmd) ≡ Some k) (there : slice_get play.sectors k ≡ Some s) where

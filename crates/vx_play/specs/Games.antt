@@ -49,9 +49,10 @@ abbrev pub version_after : Regions → List Asked → ℕ → Version
 version_after rs edits ticks =
     record { tick = ticks + 1; edits = length edits; policy = after rs edits }
 
--- each sector judges its commands by this version
-abbrev pub AreJudgedBy : Version → PlayData → Type 0
-AreJudgedBy version play = All (λ s. s.version ≡ version) play.sectors
+-- each sector judges its commands by this version, and so does the next tick the machines
+pub record AreJudgedBy (version : Version) (play : PlayData) : Type 0 where
+  pub commands : All (λ (s : SectorData). s.version ≡ version) play.sectors
+  pub machines : play.version ≡ version
 
 -- the cells of a sector as its window began
 abbrev pub base_of : SectorData → SectorCells

@@ -14,7 +14,8 @@ use Rattle.vx_sector.specs.declared.cmd.Cmd.{Cmd}
 use Rattle.vx_sector.specs.declared.refusal.Refusal.TheVariants.{OutOfWorld, HistoryFull, Denied}
 use Rattle.vx_cells.specs.Maps.{MapData}
 use Rattle.vx_cells.specs.Wholes.{IsMap}
-use Rattle.vx_play.specs.Plays.{PlayData, cells_of, IsWorld, opened, answered, ticked}
+use Rattle.vx_step.specs.Ticks.{IsTick}
+use Rattle.vx_play.specs.Plays.{PlayData, IsWorld, opened, answered, map_of, next_map, next_fates, ticked}
 use Rattle.vx_play.specs.Games.{Step, Tick, game, edits_of, ticks_of, version_after, AreJudgedBy, base_of}
 
 -- the world that is made of a terrain has each sector in its place
@@ -41,10 +42,11 @@ abbrev pub OutOfWorldIsOutside : Type 0
 OutOfWorldIsOutside = (play : PlayData) (seat : SeatData) (cmd : Cmd) → IsWorld play
     → ((answered play seat cmd).0 ≡ Err OutOfWorld) ↔ (is_inside play.sizes (place_of cmd) ≡ false)
 
--- a tick leaves the cells of every sector, slots too
-abbrev pub TicksLeaveCells : Type 0
-TicksLeaveCells = (play : PlayData)
-    → map cells_of (ticked play).sectors ≡ map cells_of play.sectors
+-- a tick makes of a world what the rules of ticks make of its map by the version that judged the
+-- window before, and these are its fates
+abbrev pub TicksAreSteps : Type 0
+TicksAreSteps = (play : PlayData) → IsWorld play
+    → IsTick play.version.policy (map_of play) (map_of (ticked play)) (next_fates play)
 
 -- before the first tick no edit counts: each sector judges by the policy of the opening
 abbrev pub NoEditCountsBeforeATick : Type 0
@@ -104,9 +106,9 @@ FirstWindowsBeginWithTheTerrain = (rs : Regions) (terrain : MapData)
     (names : List (List ℕ)) (steps : List Step) → ticks_of steps ≡ 0
     → map base_of (game rs terrain names steps).sectors ≡ terrain.sectors
 
--- after a tick, and until the next one, it began with the cells as they were at that tick
+-- after a tick, and until the next one, it began with the cells that the tick made
 abbrev pub WindowsBeginWithTheTick : Type 0
 WindowsBeginWithTheTick = (rs : Regions) (terrain : MapData) (names : List (List ℕ))
-    (before since : List Step) → ticks_of since ≡ 0
+    (before since : List Step) → IsMap terrain → ticks_of since ≡ 0
     → map base_of (game rs terrain names (before ++ Tick ∷ since)).sectors
-    ≡ map cells_of (game rs terrain names before).sectors
+    ≡ (next_map (game rs terrain names before)).sectors

@@ -1,5 +1,6 @@
 use Rattle.std.specs.Prelude.{ℕ, ◌+◌, ◌^◌, Bool, bytes_eq, if◌then◌else◌, List, [], ◌∷◌, length, map, slice_get, slice_set, Option, Some, None, option_map, is_some, Result, Err}
 use Rattle.std.specs.List.{sum_by}
+use Rattle.vx_geom.specs.declared.pos.Pos.{Pos}
 use Rattle.vx_geom.specs.Sizes.{Sizes, sector_of}
 use Rattle.vx_cells.specs.SectorCells.{SectorCells}
 use Rattle.vx_region.specs.Regions.{Regions}
@@ -13,14 +14,17 @@ use Rattle.vx_sector.specs.declared.cmd.Cmd.{Cmd}
 use Rattle.vx_sector.specs.declared.reply.Reply.{Reply}
 use Rattle.vx_sector.specs.declared.refusal.Refusal.{Refusal}
 use Rattle.vx_sector.specs.declared.refusal.Refusal.TheVariants.{OutOfWorld}
-use Rattle.vx_cells.specs.Maps.{AreSectors}
-use Rattle.vx_cells.specs.Maps.{MapData}
+use Rattle.vx_cells.specs.Maps.{MapData, AreSectors}
+use Rattle.vx_step.specs.Ticks.{fates_on, stepped}
+use Rattle.vx_step.specs.declared.fate.Fate.{Fate}
 
--- a world at play: its size and its sectors, its players' names in order of their seats, the policy
--- that it opened with, the edits accepted since, and how many ticks there were
+-- a world at play: its size and its sectors, the version that judges the commands of their windows
+-- and the machines of the next tick, its players' names in order of their seats, the policy that it
+-- opened with, the edits accepted since, and how many ticks there were
 pub record PlayData : Type 0 where
   pub sizes : Sizes
   pub sectors : List SectorData
+  pub version : Version
   pub names : List (List ℕ)
   pub first : Regions
   pub accepted : List Asked
@@ -64,15 +68,20 @@ window_over version cells = record { cells = cells; version = version }
 abbrev pub opened_by : Version → SectorCells → SectorData
 opened_by version cells = first_window (window_over version cells)
 
+-- the policy of the opening as a version
+abbrev pub first_version : Regions → Version
+first_version rs = record { tick = 1; edits = 0; policy = rs }
+
 -- the same, judged by the policy of the opening
 abbrev pub opened_with : Regions → SectorCells → SectorData
-opened_with rs = opened_by (record { tick = 1; edits = 0; policy = rs })
+opened_with rs = opened_by (first_version rs)
 
 -- the world of this terrain and these players under this policy, with nothing done yet
 abbrev pub opened : Regions → MapData → List (List ℕ) → PlayData
 opened rs terrain names = record {
   sizes = terrain.sizes;
   sectors = map (opened_with rs) terrain.sectors;
+  version = first_version rs;
   names = names;
   first = rs;
   accepted = [];
@@ -119,13 +128,35 @@ abbrev pub next_version : PlayData → Version
 next_version play =
     record { tick = play.ticks + 2; edits = length play.accepted; policy = policy_of play }
 
--- a sector as it begins its next window over its cells, judged by this version
-abbrev pub renewed_by : Version → SectorData → SectorData
-renewed_by version s = renewed s (window_over version s.cells)
+-- the map of a world at play
+abbrev pub map_of : PlayData → MapData
+map_of play = record { sizes = play.sizes; sectors = map cells_of play.sectors }
 
--- the play after a tick: each sector begins a window by the next version
+-- a sector as it begins its next window over these cells, judged by this version
+abbrev pub renewed_over : Version → SectorData → SectorCells → SectorData
+renewed_over version s cells = renewed s (window_over version cells)
+
+-- the sectors as each begins its next window, over its own cells where there are no others
+abbrev pub all_renewed : Version → List SectorData → List SectorCells → List SectorData
+all_renewed version [] cells = []
+all_renewed version (s ∷ sectors) [] =
+    renewed_over version s s.cells ∷ all_renewed version sectors []
+all_renewed version (s ∷ sectors) (c ∷ cells) =
+    renewed_over version s c ∷ all_renewed version sectors cells
+
+-- the map after the next tick, which the version judges that judged the window before
+abbrev pub next_map : PlayData → MapData
+next_map play = stepped play.version.policy (map_of play)
+
+-- the fates of the moves of that tick
+abbrev pub next_fates : PlayData → List (Pos × Fate)
+next_fates play = fates_on play.version.policy (map_of play)
+
+-- the play after a tick: each sector begins a window over its cells of the next map, judged by the
+-- next version
 abbrev pub ticked : PlayData → PlayData
 ticked play = record play {
-  sectors = map (renewed_by (next_version play)) play.sectors;
+  sectors = all_renewed (next_version play) play.sectors (next_map play).sectors;
+  version = next_version play;
   ticks = play.ticks + 1;
 }

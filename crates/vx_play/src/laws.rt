@@ -1,4 +1,4 @@
-ghost use Rattle.vx_play.specs.Laws.{WorldsBeginWhole, CommandsKeepWorlds, TicksKeepWorlds, GamesStayWhole, OutOfWorldIsOutside, TicksLeaveCells, NoEditCountsBeforeATick, EditsCountFromTheNextTick, StepsAreCounted, DeniedByTheOpening, DeniedByTheLastTick, RecordsAreWindows, FirstWindowsBeginWithTheTerrain, WindowsBeginWithTheTick};
+ghost use Rattle.vx_play.specs.Laws.{WorldsBeginWhole, CommandsKeepWorlds, TicksKeepWorlds, GamesStayWhole, OutOfWorldIsOutside, TicksAreSteps, NoEditCountsBeforeATick, EditsCountFromTheNextTick, StepsAreCounted, DeniedByTheOpening, DeniedByTheLastTick, RecordsAreWindows, FirstWindowsBeginWithTheTerrain, WindowsBeginWithTheTick};
 
 /// A world has each sector in its place: as it is made, after each command and after each tick, and
 /// so in every game.
@@ -14,14 +14,16 @@ pub fn out_of_world_is_outside()
     ensures { OutOfWorldIsOutside }
 {}
 
-/// A tick leaves the cells of every sector and the slots of every chest.
-pub fn ticks_leave_cells()
-    ensures { TicksLeaveCells }
+/// A tick makes of the world what the rules of ticks make of its map: each component becomes its
+/// next part, and the pistons' moves have the fates that are told, by the version of the policy that
+/// judged the commands of the window before.
+pub fn ticks_are_steps()
+    ensures { TicksAreSteps }
 {}
 
 /// An edit counts from the next tick on, and not before. In every game each sector judges its
-/// commands by the policy after exactly the edits that were accepted before the last tick; where
-/// there was no tick yet, by the policy of the opening.
+/// commands, and the next tick the machines, by the policy after exactly the edits that were
+/// accepted before the last tick; where there was no tick yet, by the policy of the opening.
 pub fn edits_count_from_the_next_tick()
     ensures none { NoEditCountsBeforeATick }
     ensures next { EditsCountFromTheNextTick }
@@ -39,7 +41,7 @@ pub fn denied_by_the_last_tick()
 
 /// In every game the record of each sector is a window: each answer is the one that the rules give
 /// on the cells that the entries before it leave, from the cells with which the window began, which
-/// are those of the last tick, or of the terrain.
+/// are those that the last tick made, or those of the terrain.
 pub fn records_are_windows()
     ensures windows { RecordsAreWindows }
     ensures first { FirstWindowsBeginWithTheTerrain }

@@ -1,5 +1,6 @@
 ghost use Rattle.std.specs.Prelude.{◌≡◌, map, vec_len, IfOk, OnOk};
-ghost use Rattle.vx_play.specs.Plays.{cells_of, window_over, opened_by, renewed_by};
+ghost use Rattle.vx_cells.specs.Maps.{AreSectors};
+ghost use Rattle.vx_play.specs.Plays.{cells_of, window_over, opened_by, all_renewed};
 
 use crate::names::number_of;
 use crate::tick_error::TickError;
@@ -7,10 +8,11 @@ use std::alloc::{AllocError, Global};
 use std::marker::Model;
 use vx_board::{DeskError, DeskState, Edited, Naming};
 use vx_cells::{Cells, Whole};
-use vx_geom::Bounds;
+use vx_geom::{Bounds, Pos};
 use vx_policy::{Edit, Policy, Version};
 use vx_region::Name;
 use vx_sector::{Cmd, Fresh, Refusal, Reply, Seat, Sector};
+use vx_step::{Fate, step_plain};
 
 /// How many players a world may have.
 pub const MAX_PLAYERS: usize = 16;
@@ -24,6 +26,7 @@ const MAX_TICKS: u64 = 1_099_511_627_776;
 pub struct Play<J: Naming> {
     bounds: Bounds,
     sectors: Vec<Sector>,
+    version: Version,
     names: Vec<Name>,
     desk: DeskState<J>,
     ticks: u64,
@@ -41,6 +44,7 @@ impl<J: Naming> Model for Play<J> {
     ghost view = { λ a. record {
       sizes = a.bounds;
       sectors = a.sectors.items;
+      version = a.version;
       names = texts a.names.items;
       first = J.first;
       accepted = a.desk;
@@ -58,7 +62,7 @@ impl<J: Naming> Play<J> {
     ghost use Rattle.vx_region.specs.Texts.{texts};
     ghost use Rattle.vx_sector.specs.SectorData.{seat_of};
     ghost use Rattle.vx_play.specs.declared.tick_error.TickError.TheVariants.{HistoryFull};
-    ghost use Rattle.vx_play.specs.Plays.{IsWorld, answered, calls, opened, policy_of, seat_named, ticked, most_ticks};
+    ghost use Rattle.vx_play.specs.Plays.{IsWorld, answered, calls, opened, policy_of, seat_named, ticked, next_fates, most_ticks};
 
     /// The world of this terrain under this policy, with nothing done yet.
     pub fn open(
@@ -78,6 +82,7 @@ impl<J: Naming> Play<J> {
         Ok(Play {
             bounds,
             sectors,
+            version,
             names,
             desk,
             ticks: 0,
@@ -126,21 +131,39 @@ impl<J: Naming> Play<J> {
         self.desk.apply(alloc, edit)
     }
 
-    /// Begins the next window of each sector, by the policy after the edits so far, and answers how
-    /// many ticks there were. For want of memory some sectors may be in their next window, and
-    /// others not.
-    pub fn tick(&mut self, alloc: Global) -> Result<u64, TickError>
+    /// Makes a tick, judged by the version that judged the windows so far, and begins the next
+    /// window of each sector, judged by the policy after the edits so far. It answers the fates of
+    /// the moves that pistons asked for, each beside the position of its piston, in the order of
+    /// positions. For want of memory some sectors may be in their next window, and others not.
+    pub fn tick(&mut self, alloc: Global) -> Result<Vec<(Pos, Fate)>, TickError>
         ensures ok { OnOk result (self.new ≡ ticked self.old) }
-        ensures count { IfOk result (λ ticks. ticks ≡ self.new.ticks) }
+        ensures fates { IfOk result (λ fates. fates.items ≡ next_fates self.old) }
         ensures full { (result ≡ Err HistoryFull) ↔ (most_ticks ≤ self.old.ticks) }
     {
         if MAX_TICKS <= self.ticks {
             return Err(TickError::HistoryFull);
         }
+        let map = map_of(alloc, self.bounds, &self.sectors)?;
+        let (next, fates) = step_plain(alloc, &map, &self.version)?;
         let version = self.desk.fix(self.ticks + 2)?;
-        renew_sectors(alloc, &mut self.sectors, &version)?;
+        self.renew(alloc, &next, version)?;
+        Ok(fates)
+    }
+
+    // Begins the next window of each sector over its cells of this map, judged by this version.
+    fn renew(&mut self, alloc: Global, next: &Whole, version: Version) -> Result<(), AllocError>
+        requires sizes { next.now.sizes ≡ self.old.sizes }
+        requires more { self.old.ticks < most_ticks }
+        ensures { OnOk result (self.new ≡ record self.old {
+            sectors = all_renewed version self.old.sectors next.now.sectors;
+            version = version;
+            ticks = self.old.ticks + 1 }) }
+    {
+        next.frozen().soundness();
+        renew_sectors(alloc, self.bounds, &mut self.sectors, next.sectors(), &version)?;
+        self.version = version;
         self.ticks += 1;
-        Ok(self.ticks)
+        Ok(())
     }
 
     /// What holds of every world at play: it has each sector of its size in its place.
@@ -184,14 +207,45 @@ fn open_sectors(
     Ok(sectors)
 }
 
-// Begins the next window of each sector, judged by this version.
-fn renew_sectors(alloc: Global, sectors: &mut [Sector], version: &Version) -> Result<(), AllocError>
-    ensures renewed { OnOk result (sectors.new ≡ map (renewed_by version.now) sectors.old) }
-    ensures cells { map cells_of sectors.new ≡ map cells_of sectors.old }
+// The map of these sectors, which is a copy of their cells.
+fn map_of(alloc: Global, bounds: Bounds, sectors: &[Sector]) -> Result<Whole, AllocError>
+    requires { AreSectors bounds (map cells_of sectors.now) }
+    ensures { IfOk result (λ whole.
+        whole ≡ record { sizes = bounds; sectors = map cells_of sectors.now }) }
 {
-    for sector in sectors.iter_mut() {
-        let fresh = fresh(alloc, sector.cells(), version)?;
-        let _closed = sector.renew(fresh);
+    let cells = all_cells(alloc, sectors)?;
+    Ok(Whole::from_parts(bounds, cells))
+}
+
+// A copy of the cells of each sector.
+fn all_cells(alloc: Global, sectors: &[Sector]) -> Result<Vec<Cells>, AllocError>
+    ensures { IfOk result (λ cells. cells.items ≡ map cells_of sectors.now) }
+{
+    let mut cells = Vec::with_capacity(alloc, sectors.len())?;
+    for sector in sectors {
+        cells.push(sector.cells().try_clone()?)?;
+    }
+    Ok(cells)
+}
+
+// Begins the next window of each sector of a world of this size over these cells, judged by this
+// version.
+fn renew_sectors(
+    alloc: Global,
+    bounds: Bounds,
+    sectors: &mut [Sector],
+    cells: &[Cells],
+    version: &Version,
+) -> Result<(), AllocError>
+    requires sectors { AreSectors bounds (map cells_of sectors.old) }
+    requires cells { AreSectors bounds cells.now }
+    ensures renewed { OnOk result
+        (sectors.new ≡ all_renewed version.now sectors.old cells.now) }
+    ensures placed { AreSectors bounds (map cells_of sectors.new) }
+{
+    for i in 0..sectors.len() {
+        let fresh = fresh(alloc, &cells[i], version)?;
+        let _closed = sectors[i].renew(fresh);
     }
     Ok(())
 }

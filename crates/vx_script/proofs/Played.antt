@@ -17,7 +17,7 @@ use Rattle.vx_sector.specs.declared.cmd.Cmd.{Cmd}
 use Rattle.vx_script.specs.declared.fault.Fault.TheVariants.{HistoryFull, TooManyPlayers}
 use Rattle.vx_script.specs.Played.{accepted_of, step_of, steps_on, steps_of, EndsIn, PlaysGame, ScriptsAreGames}
 use Rattle.vx_script.specs.Told.{Told, only, faulted, prepend}
-use Rattle.vx_script.specs.Transcript.{Opening, read_of, or_syntax, is_history, command_told, judged_told, edit_told, tick_told, body_told, body_run, begun, begun_on, first_line, header_after, header_told, header_end, is_peopled, done_text, line_text, header_run, no_opening, transcript}
+use Rattle.vx_script.specs.Transcript.{Opening, read_of, or_syntax, is_history, command_told, judged_told, edit_told, tick_told, body_told, body_run, begun, begun_on, first_line, header_after, header_told, header_end, is_peopled, done_text, tick_text, header_run, no_opening, transcript}
 
 -- without fault, what is told ends in this play
 abbrev Ends : Told → PlayData → Type 0
@@ -57,7 +57,7 @@ module _ (play : PlayData) (n : ℕ) (go : PlayData → Told) (steps : PlayData 
       or_full (nat_le most_edits (length play.accepted)) (judged_told play e go (refusal (policy_of play) e))
       (played play (steps_on play steps (accepted_of e (refusal (policy_of play) e)))) (judged_plays e (refusal (policy_of play) e)) well
   line_plays (Some Tick) well =
-      let text = line_text (codes "tick " ++ decimal (play.ticks + 1)) in
+      let text = tick_text play in
       or_full (nat_le most_ticks play.ticks) (prepend text (go (ticked play))) (played (ticked play) (steps (ticked play)))
       (prepended text (go (ticked play)) (played (ticked play) (steps (ticked play))) (later (ticked play))) well
 

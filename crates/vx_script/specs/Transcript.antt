@@ -1,11 +1,15 @@
 -- What a script writes, line by line.
 use Rattle.std.specs.Prelude.{ℕ, ◌+◌, Bool, true, false, not, ◌&&◌, ◌==◌, nat_lt, nat_le, codes, decimal, if◌then◌else◌, List, [], ◌∷◌, ◌++◌, length, Option, Some, None, option_map, is_some, Result, Ok, Err}
+use Rattle.std.specs.Fmt.{signed_decimal}
 use Rattle.std.specs.Option.{option_and_then}
 use Rattle.vx_block.specs.declared.part.Part.{Part}
 use Rattle.vx_block.specs.Part.{part_cell}
 use Rattle.vx_geom.specs.declared.pos.Pos.{Pos}
 use Rattle.vx_geom.specs.Sizes.{Sizes}
 use Rattle.vx_region.specs.Regions.{Regions}
+use Rattle.vx_decide.specs.Texts.{rule_text}
+use Rattle.vx_step.specs.declared.fate.Fate.{Fate}
+use Rattle.vx_step.specs.declared.fate.Fate.TheVariants.{Moved, Denied, Beaten}
 use Rattle.vx_policy.specs.Asked.{Asked}
 use Rattle.vx_policy.specs.Edits.{number_given}
 use Rattle.vx_policy.specs.Refusals.{refusal}
@@ -23,7 +27,7 @@ use Rattle.vx_lines.specs.Lines.{lines_of}
 use Rattle.vx_grammar.specs.ScriptLines.{Said, Nothing, World, Player, Set, Act, Region, Tick, line_of}
 use Rattle.vx_cells.specs.Maps.{MapData}
 use Rattle.vx_cells.specs.Wholes.{bare, with_cell_on}
-use Rattle.vx_play.specs.Plays.{PlayData, most_players, most_ticks, is_named, opened, seat_named, answered, calls, policy_of, ticked}
+use Rattle.vx_play.specs.Plays.{PlayData, most_players, most_ticks, is_named, opened, seat_named, answered, calls, policy_of, next_fates, ticked}
 use Rattle.vx_script.specs.Told.{Told, only, faulted, prepend}
 use Rattle.vx_script.specs.declared.fault.Fault.TheVariants.{HistoryFull, Syntax, TooManyPlayers}
 
@@ -133,12 +137,34 @@ edit_told play e go =
     then faulted HistoryFull
     else judged_told play e go (refusal (policy_of play) e)
 
+-- a position as it is written
+abbrev pub pos_text : Pos → List ℕ
+pos_text p =
+    signed_decimal p.x ++ codes " " ++ signed_decimal p.y ++ codes " " ++ signed_decimal p.z
+
+-- what became of a piston's move as it is written, with the position of the piston
+abbrev pub fate_text : Pos → Fate → List ℕ
+fate_text p Moved = codes "moved " ++ pos_text p
+fate_text p (Denied cell rule) =
+    codes "denied " ++ pos_text p ++ codes " at " ++ pos_text cell ++ codes " " ++ rule_text rule
+fate_text p (Beaten by) = codes "beaten " ++ pos_text p ++ codes " by " ++ pos_text by
+
+-- fates as they are written, a line for each
+abbrev pub fates_text : List (Pos × Fate) → List ℕ
+fates_text [] = []
+fates_text (told ∷ fates) = line_text (fate_text told.0 told.1) ++ fates_text fates
+
+-- a tick as it is written: its number, and the fates of the moves that pistons asked for
+abbrev pub tick_text : PlayData → List ℕ
+tick_text play =
+    line_text (codes "tick " ++ decimal (play.ticks + 1)) ++ fates_text (next_fates play)
+
 -- what is told for a tick, and then the rest
 unfoldable pub tick_told : PlayData → (PlayData → Told) → Told
 tick_told play go =
     if nat_le most_ticks play.ticks
     then faulted HistoryFull
-    else prepend (line_text (codes "tick " ++ decimal (play.ticks + 1))) (go (ticked play))
+    else prepend (tick_text play) (go (ticked play))
 
 -- what is told for a line of the body, and then the rest
 unfoldable pub body_told : PlayData → ℕ → Option Said → (PlayData → Told) → Told

@@ -1,21 +1,23 @@
 //! The lines of the body of a script, and the replies to them.
-ghost use Rattle.std.specs.Prelude.{◌≡◌, OnOk, IfErr, option_map};
+ghost use Rattle.std.specs.Prelude.{◌≡◌, ◌++◌, codes, decimal, OnOk, IfErr, option_map};
 ghost use Rattle.std.specs.Io.KnownBytes.{Appends};
 ghost use Rattle.vx_grammar.specs.ScriptLines.{said};
 ghost use Rattle.vx_play.specs.Plays.{seat_named};
 ghost use Rattle.vx_policy.specs.Asked.{asked};
 ghost use Rattle.vx_script.specs.Told.{IsOfReply, Replies, Stops};
-ghost use Rattle.vx_script.specs.Transcript.{body_told, command_told, done_text, edit_told, or_syntax, tick_told};
+ghost use Rattle.vx_script.specs.Transcript.{body_told, command_told, done_text, edit_told, fate_text, fates_text, line_text, or_syntax, tick_told};
 
 use crate::fault::Fault;
 use std::alloc::Global;
 use std::io::Write;
 use vx_board::{DeskError, Naming};
+use vx_geom::Pos;
 use vx_grammar::Line;
 use vx_play::{Play, TickError};
 use vx_policy::Edit;
 use vx_region::Name;
 use vx_sector::{Cmd, Refusal};
+use vx_step::Fate;
 
 /// Takes a line of the body and writes the reply to it.
 #[tactic(auto, unfolding(crate::specs::Transcript::body_told))]
@@ -92,7 +94,7 @@ fn edit<J: Naming, W: Write>(
     }
 }
 
-// Makes a tick, and writes its number.
+// Makes a tick, and writes its number and the fates of the moves that pistons asked for.
 #[tactic(auto, unfolding(crate::specs::Transcript::tick_told))]
 fn tick<J: Naming, W: Write>(play: &mut Play<J>, alloc: Global, writer: &mut W) -> Result<(), Fault>
     ensures ok { Replies (W.contents writer.old) (W.contents writer.new) result
@@ -102,10 +104,52 @@ fn tick<J: Naming, W: Write>(play: &mut Play<J>, alloc: Global, writer: &mut W) 
     ensures fault { IfErr result IsOfReply }
 {
     match play.tick(alloc) {
-        Ok(tick) => writeln!(writer, "tick {tick}").map_err(|_| Fault::WriteFailed),
+        Ok(fates) => tell(play.ticks(), fates.as_slice(), writer),
         Err(TickError::HistoryFull) => Err(Fault::HistoryFull),
         Err(TickError::NoMemory) => Err(Fault::NoMemory),
     }
+}
+
+// Writes the number of a tick and the fates of its moves.
+fn tell<W: Write>(tick: u64, fates: &[(Pos, Fate)], writer: &mut W) -> Result<(), Fault>
+    ensures ok { OnOk result (Appends (W.contents writer.old) (W.contents writer.new)
+        (line_text (codes "tick " ++ decimal tick) ++ fates_text fates.now)) }
+    ensures err { IfErr result (λ fault. fault ≡ Fault.WriteFailed) }
+{
+    writeln!(writer, "tick {tick}").map_err(|_| Fault::WriteFailed)?;
+    write_fates(fates, writer)
+}
+
+fn write_fates<W: Write>(fates: &[(Pos, Fate)], writer: &mut W) -> Result<(), Fault>
+    ensures ok { OnOk result
+        (Appends (W.contents writer.old) (W.contents writer.new) (fates_text fates.now)) }
+    ensures err { IfErr result (λ fault. fault ≡ Fault.WriteFailed) }
+{
+    for (p, fate) in fates {
+        write_fate(*p, *fate, writer)?;
+    }
+    Ok(())
+}
+
+// Writes what became of the move of the piston at p.
+fn write_fate<W: Write>(p: Pos, fate: Fate, writer: &mut W) -> Result<(), Fault>
+    ensures ok { OnOk result
+        (Appends (W.contents writer.old) (W.contents writer.new) (line_text (fate_text p fate))) }
+    ensures err { IfErr result (λ fault. fault ≡ Fault.WriteFailed) }
+{
+    let Pos { x, y, z } = p;
+    match fate {
+        Fate::Moved => writeln!(writer, "moved {x} {y} {z}"),
+        Fate::Denied(cell, rule) => {
+            let (a, b, c) = (cell.x, cell.y, cell.z);
+            writeln!(writer, "denied {x} {y} {z} at {a} {b} {c} {rule}")
+        }
+        Fate::Beaten(by) => {
+            let (a, b, c) = (by.x, by.y, by.z);
+            writeln!(writer, "beaten {x} {y} {z} by {a} {b} {c}")
+        }
+    }
+    .map_err(|_| Fault::WriteFailed)
 }
 
 /// Writes the last line.

@@ -17,7 +17,7 @@ module _ (g : Over) (c : goal.After-self-2-1 g) where
   with_sectors : List SectorData → PlayData
   with_sectors ss =
       let i = c.self.inside in
-      record { sizes = i.bounds; sectors = ss; names = texts i.names.items; first = g.J.Naming.first; accepted = i.desk; ticks = i.ticks }
+      record { sizes = i.bounds; sectors = ss; version = i.version; names = texts i.names.items; first = g.J.Naming.first; accepted = i.desk; ticks = i.ticks }
 
   found : sector_of c.self.inside.bounds (place_of c.args.cmd) ≡ Some c.in-Some.number
   found = ap (sector_of c.self.inside.bounds) (sym c.place.ensures) ∙ sym c.in-Some.ensures

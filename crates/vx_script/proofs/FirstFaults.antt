@@ -19,7 +19,7 @@ use Rattle.vx_script.specs.declared.fault.Fault.{Fault}
 use Rattle.vx_script.specs.declared.fault.Fault.TheVariants.{HistoryFull, Syntax, TooManyPlayers}
 use Rattle.vx_script.specs.FirstFault.{IsFirstFault, FirstFault}
 use Rattle.vx_script.specs.Told.{Told, only, faulted, prepend}
-use Rattle.vx_script.specs.Transcript.{Opening, read_of, or_syntax, answer_text, line_text, is_history, command_told, judged_told, edit_told, tick_told, body_told, body_run, begun, begun_on, first_line, header_after, header_told, header_end, is_peopled, done_text, header_run, no_opening, transcript}
+use Rattle.vx_script.specs.Transcript.{Opening, read_of, or_syntax, answer_text, line_text, is_history, command_told, judged_told, edit_told, tick_told, body_told, body_run, begun, begun_on, first_line, header_after, header_told, header_end, is_peopled, done_text, tick_text, header_run, no_opening, transcript}
 
 abbrev fault_of : Told → Option Fault
 fault_of told = told.fault
@@ -117,11 +117,11 @@ module _ (play : PlayData) (n : ℕ) (line : List ℕ) (lines : List (List ℕ))
   tick_line reads later fault = by (nat_le most_ticks play.ticks) refl fault
     where
       by : (full : Bool) → nat_le most_ticks play.ticks ≡ full
-          → (if full then faulted HistoryFull else prepend (line_text (codes "tick " ++ decimal (play.ticks + 1))) (body_run (ticked play) (n + 1) lines)).fault ≡ Some (Syntax k)
+          → (if full then faulted HistoryFull else prepend (tick_text play) (body_run (ticked play) (n + 1) lines)).fault ≡ Some (Syntax k)
           → IsFirstFault (body_run play n) n (line ∷ lines) k
       by true full at = cc
-      by false room at = goes_on Tick reads (line_text (codes "tick " ++ decimal (play.ticks + 1))) (ticked play)
-          (λ go. ap (λ b. if b then faulted HistoryFull else prepend (line_text (codes "tick " ++ decimal (play.ticks + 1))) (go (ticked play))) room) later fault
+      by false room at = goes_on Tick reads (tick_text play) (ticked play)
+          (λ go. ap (λ b. if b then faulted HistoryFull else prepend (tick_text play) (go (ticked play))) room) later fault
 
   -- a line of the body, by what it says
   body_line : (said : Option Said) → read_of line ≡ said → Later

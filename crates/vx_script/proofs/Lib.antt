@@ -1,3 +1,4 @@
+pub mod FateLines
 pub mod FirstFaults
 pub mod Going
 pub mod Openings

@@ -7,7 +7,9 @@ ghost use Rattle.vx_policy.specs.Asked.{asked};
 ghost use Rattle.vx_script.specs.Told.{IsOfReply, Replies, Stops};
 ghost use Rattle.vx_script.specs.Transcript.{body_told, command_told, done_text, edit_told, fate_text, fates_text, line_text, or_syntax, tick_told};
 
+use crate::fate_line::FateLine;
 use crate::fault::Fault;
+use crate::place::Place;
 use std::alloc::Global;
 use std::io::Write;
 use vx_board::{DeskError, Naming};
@@ -137,19 +139,9 @@ fn write_fate<W: Write>(p: Pos, fate: Fate, writer: &mut W) -> Result<(), Fault>
         (Appends (W.contents writer.old) (W.contents writer.new) (line_text (fate_text p fate))) }
     ensures err { IfErr result (λ fault. fault ≡ Fault.WriteFailed) }
 {
-    let Pos { x, y, z } = p;
-    match fate {
-        Fate::Moved => writeln!(writer, "moved {x} {y} {z}"),
-        Fate::Denied(cell, rule) => {
-            let (a, b, c) = (cell.x, cell.y, cell.z);
-            writeln!(writer, "denied {x} {y} {z} at {a} {b} {c} {rule}")
-        }
-        Fate::Beaten(by) => {
-            let (a, b, c) = (by.x, by.y, by.z);
-            writeln!(writer, "beaten {x} {y} {z} by {a} {b} {c}")
-        }
-    }
-    .map_err(|_| Fault::WriteFailed)
+    let piston = Place { pos: p };
+    let line = FateLine { piston, fate };
+    writeln!(writer, "{line}").map_err(|_| Fault::WriteFailed)
 }
 
 /// Writes the last line.

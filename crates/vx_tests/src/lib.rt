@@ -9,18 +9,10 @@ mod desk;
 #[cfg(test)]
 mod files;
 #[cfg(test)]
-mod game;
-#[cfg(test)]
-mod machines;
-#[cfg(test)]
-mod pistons;
-#[cfg(test)]
 mod policies;
 #[cfg(test)]
 mod sectors;
 #[cfg(test)]
 mod shapes;
-#[cfg(test)]
-mod signals;
 #[cfg(test)]
 mod words;

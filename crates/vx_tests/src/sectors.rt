@@ -1,14 +1,14 @@
-//! A sector of cells that no script can set today, and its windows.
+//! The windows of a sector, by its calls.
 ghost use Rattle.std.specs.Prelude.{◌≡◌, IfOk};
 
 use std::alloc::Global;
 use std::process::Abort;
 use std::test::Fail;
-use vx_block::{Cell, Part};
+use vx_block::Cell;
 use vx_cells::Cells;
 use vx_decide::Rule;
 use vx_file::read_policy;
-use vx_geom::{Bounds, Dir, Pos};
+use vx_geom::{Bounds, Pos};
 use vx_policy::{Policy, Version};
 use vx_region::{Name, RegionNo};
 use vx_sector::{Cmd, Entry, Fresh, Refusal, Reply, Seat, Sector};
@@ -21,43 +21,6 @@ const DONE: Answer = Ok(Reply::Done(Rule::Default));
 const DENIED: Answer = Err(Refusal::Denied(Rule::Member { at: RegionNo(1) }));
 
 const PLACE: Pos = Pos { x: 6, y: 1, z: 5 };
-
-#[test]
-fn an_extended_piston_and_its_head_do_not_break(rt: HostRuntime) -> Result<(), Fail> {
-    for sticky in [false, true] {
-        stays(&rt, rt.alloc(), &extended(sticky))?;
-        stays(&rt, rt.alloc(), &head(sticky))?;
-    }
-    Ok(())
-}
-
-fn extended(sticky: bool) -> Cell {
-    Cell::Piston {
-        facing: Dir::East,
-        sticky,
-        extended: true,
-    }
-}
-
-fn head(sticky: bool) -> Cell {
-    Cell::Head {
-        facing: Dir::East,
-        sticky,
-    }
-}
-
-fn stays(rt: &impl Abort, alloc: Global, cell: &Cell) -> Result<(), Fail> {
-    let mut sector = opened(rt, alloc, *cell, Policy::new(alloc)?)?;
-    let bob = bob()?;
-    let calls = [
-        entry(&bob, Cmd::Look(PLACE), Ok(Reply::Seen(*cell))),
-        entry(&bob, Cmd::Break(PLACE), Err(Refusal::Extended)),
-        entry(&bob, Cmd::Place(PLACE, Part::Stone), Err(Refusal::Occupied)),
-        entry(&bob, Cmd::Turn(PLACE), Err(Refusal::NotLever)),
-    ];
-    play(rt, &mut sector, &calls);
-    Ok(())
-}
 
 // Bob is a stranger where the first version judges, and nobody is where the second does.
 #[test]

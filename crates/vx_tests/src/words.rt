@@ -1,23 +1,22 @@
 //! Words that no script reads or writes, or not all of them.
 use std::process::Abort;
 use std::test::Fail;
-use vx_block::{Cell, Delay, Kind, Lamp, Level, Mount, Repeater, Side};
+use vx_block::{Cell, Delay, Kind, Lamp, Repeater, Side};
 use vx_board::{DeskError, Edited};
 use vx_decide::Rule;
 use vx_flag::Flag;
-use vx_geom::{BadShape, Dir};
+use vx_geom::BadShape;
 use vx_policy::{EditError, EditRefusal};
 use vx_region::{BadId, BadName, Id, Name, RegionNo};
-use vx_sector::Refusal;
 
 #[test]
 fn refusals_that_no_script_meets_have_their_words(rt: HostRuntime) -> Result<(), Fail> {
-    let (extended, full) = (Refusal::Extended, DeskError::HistoryFull);
+    let full = DeskError::HistoryFull;
     let (edit, desk) = (EditError::NoMemory, DeskError::NoMemory);
-    let line = format!(in rt.alloc(); "{extended}, {full}, {edit}, {desk}")?;
+    let line = format!(in rt.alloc(); "{full}, {edit}, {desk}")?;
     assert_eq!(rt;
         line.as_str(),
-        "refused 8 extended, refused 13 history, refused 14 memory, refused 14 memory"
+        "refused 13 history, refused 14 memory, refused 14 memory"
     );
     let known = EditRefusal::Known;
     let (edit, desk) = (EditError::Refused(known), DeskError::Refused(known));
@@ -77,47 +76,10 @@ fn has_text(rt: &impl Abort, cell: &Cell, kind: Kind, text: &str) {
     assert_eq!(rt; Cell::read(text), Some(*cell), "{text}");
 }
 
+// A text is read back as its cell, also where no part begins as that.
 #[test]
-fn cells_that_no_part_begins_as_have_their_texts(rt: HostRuntime) {
-    for (cell, kind, text) in [
-        (Cell::Air, Kind::Air, "air"),
-        (Cell::Dust(Level::new(9)), Kind::Dust, "dust:9"),
-        (Cell::Dust(Level::new(15)), Kind::Dust, "dust:15"),
-        (Cell::Lamp(Lamp::Lit), Kind::Lamp, "lamp:on:0"),
-        (Cell::Lamp(Lamp::Cooling), Kind::Lamp, "lamp:on:1"),
-        (unlit(Side::West), Kind::Torch, "torch:west:off"),
-        (extended(Dir::Up, false), Kind::Piston, "piston:up:out"),
-        (
-            extended(Dir::North, true),
-            Kind::StickyPiston,
-            "sticky:north:out",
-        ),
-        (head(Dir::Down, false), Kind::Head, "head:down:plain"),
-        (head(Dir::North, true), Kind::Head, "head:north:sticky"),
-    ] {
-        has_text(&rt, &cell, kind, text);
-    }
+fn texts_of_cells_are_read(rt: HostRuntime) {
+    has_text(&rt, &Cell::Lamp(Lamp::Cooling), Kind::Lamp, "lamp:on:1");
     let counting = Cell::Repeater(Repeater::new(Side::North, Delay::Four, true, 3));
     has_text(&rt, &counting, Kind::Repeater, "repeater:north:4:on:3");
-    let counting = Cell::Repeater(Repeater::new(Side::West, Delay::Two, false, 1));
-    has_text(&rt, &counting, Kind::Repeater, "repeater:west:2:off:1");
-}
-
-fn unlit(side: Side) -> Cell {
-    Cell::Torch {
-        facing: Mount::Wall(side),
-        lit: false,
-    }
-}
-
-fn extended(facing: Dir, sticky: bool) -> Cell {
-    Cell::Piston {
-        facing,
-        sticky,
-        extended: true,
-    }
-}
-
-fn head(facing: Dir, sticky: bool) -> Cell {
-    Cell::Head { facing, sticky }
 }

@@ -24,7 +24,7 @@ use Rattle.vx_sector.proofs.ActingLemmas.{denied_by_the_policy}
 use Rattle.vx_sector.proofs.Outside.{elsewhere_is_refused, full_is_refused, answered_by_the_rules}
 use Rattle.vx_sector.proofs.WindowLemmas.{command_keeps_sector}
 use Rattle.vx_cells.specs.Maps.{MapData}
-use Rattle.vx_play.specs.Plays.{PlayData, cells_of, IsWorld, ticked, opened, opened_with, sector_asked, answered, answered_at, answer_in, left_in, renewed_over, next_version, next_map}
+use Rattle.vx_play.specs.Plays.{PlayData, IsWorld, ticked, opened, opened_with, sector_asked, answered, answered_at, answer_in, left_in, renewed_over, next_version, next_map}
 use Rattle.vx_play.specs.Games.{Step, Command, Accepted, Tick, after_step, played, game, edits_of, ticks_of, version_after, AreJudgedBy, base_of}
 use Rattle.vx_play.specs.Laws.{GamesStayWhole, NoEditCountsBeforeATick, EditsCountFromTheNextTick, IsJudged, IsDeniedBy, DeniedByTheOpening, DeniedByTheLastTick, StepsAreCounted, RecordsAreWindows, FirstWindowsBeginWithTheTerrain, WindowsBeginWithTheTick}
 use Rattle.vx_play.proofs.Renewals.{all_bring, bases_renewed}

@@ -1,5 +1,5 @@
 -- What a world at play does keeps each of its sectors in its place.
-use Rattle.std.proofs.Common.{◌≡◌, ◌≢◌, ℕ, zero, suc, false, List, [], ◌∷◌, length, map, set, slice_get, Option, Some, None, option_map, Result, Err, refl, sym, ap, ◌∙◌, subst, inl, inr, arith}
+use Rattle.std.proofs.Common.{◌≡◌, ◌≢◌, ℕ, false, List, [], ◌∷◌, length, map, set, slice_get, Option, Some, None, option_map, Result, Err, refl, sym, ap, ◌∙◌, subst, inl, inr, arith}
 use Rattle.std.proofs.lemmas.Bool.{cases_Bool}
 use Rattle.std.proofs.lemmas.List.{map-set, length-map}
 use Rattle.std.proofs.lemmas.Option.{slice_get-map}
@@ -10,7 +10,7 @@ use Rattle.vx_cells.specs.SectorCells.{SectorCells, with_block}
 use Rattle.vx_policy.specs.declared.version.Version.{Version}
 use Rattle.vx_sector.specs.Acting.{applied, effect_by}
 use Rattle.vx_sector.specs.Commands.{place_of}
-use Rattle.vx_sector.specs.Windows.{answer_of, is_recorded, sector_after, renewed}
+use Rattle.vx_sector.specs.Windows.{answer_of, is_recorded, sector_after}
 use Rattle.vx_sector.specs.SectorData.{SectorData, SeatData}
 use Rattle.vx_sector.specs.declared.cmd.Cmd.{Cmd}
 use Rattle.vx_sector.specs.declared.effect.Effect.{Effect}

@@ -155,12 +155,19 @@ impl<J: Naming> Play<J> {
         requires sizes { next.now.sizes ≡ self.old.sizes }
         requires more { self.old.ticks < most_ticks }
         ensures { OnOk result (self.new ≡ record self.old {
-            sectors = all_renewed version self.old.sectors next.now.sectors;
-            version = version;
-            ticks = self.old.ticks + 1 }) }
+          sectors = all_renewed version self.old.sectors next.now.sectors;
+          version = version;
+          ticks = self.old.ticks + 1;
+        }) }
     {
         next.frozen().soundness();
-        renew_sectors(alloc, self.bounds, &mut self.sectors, next.sectors(), &version)?;
+        renew_sectors(
+            alloc,
+            self.bounds,
+            &mut self.sectors,
+            next.sectors(),
+            &version,
+        )?;
         self.version = version;
         self.ticks += 1;
         Ok(())

@@ -1,9 +1,9 @@
 -- Moves in the order of positions: there is one such order.
-use Rattle.std.proofs.Common.{◌≡◌, ◌⊎◌, ℕ, zero, suc, ◌+◌, ◌<◌, Bool, true, false, List, [], ◌∷◌, length, get_or, set, if◌then◌else◌, inl, inr, refl, sym, ap, ◌∙◌, subst, arith, add-one, IsPermutation, is_lt}
+use Rattle.std.proofs.Common.{◌≡◌, ℕ, zero, suc, ◌<◌, Bool, true, false, List, [], ◌∷◌, length, get_or, set, inl, inr, refl, sym, ap, ◌∙◌, subst, arith, add-one, IsPermutation, is_lt}
 use Rattle.std.specs.Bool.{⊤}
 use Rattle.std.specs.List.{AllByRecursion, swap}
 use Rattle.std.specs.List.Sorted.{IsSortedByKey}
-use Rattle.std.proofs.lemmas.Bool.{cases_Bool, both_ways, false≢true}
+use Rattle.std.proofs.lemmas.Bool.{cases_Bool, false≢true}
 use Rattle.std.proofs.lemmas.List.Sorted.{IsPermutation-keeps, IsPermutation-refl, IsPermutation-cons, IsPermutation-trans, IsPermutation-middle}
 use Rattle.vx_geom.specs.declared.pos.Pos.{Pos}
 use Rattle.vx_geom.specs.Order.{comes_before, compared}
@@ -78,8 +78,7 @@ module _ (P : Moving → Type 0) (alone : (a b : Moving) → P a → P b → a.a
   swap_same [] i j low high all = absurd (omega arith)
   swap_same (d ∷ ms) i j low high all =
       let of_i = element (d ∷ ms) i d low all in
-      let of_j = element (d ∷ ms) j d high all in
-      (
+      let of_j = element (d ∷ ms) j d high all in (
         all_set _ j (get_or (d ∷ ms) i d) (all_set (d ∷ ms) i (get_or (d ∷ ms) j d) all of_j) of_i,
         swap_two (d ∷ ms) i j d low high all,
       )

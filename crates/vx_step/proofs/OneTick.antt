@@ -1,5 +1,5 @@
 -- A map has one tick under a policy: that of the definition by a function.
-use Rattle.std.proofs.Common.{◌≡◌, ◌⊎◌, ℕ, zero, suc, List, [], ◌∷◌, ◌++◌, Option, Some, None, inl, inr, refl, sym, ap, ap₂, ◌∙◌, subst}
+use Rattle.std.proofs.Common.{◌≡◌, ℕ, zero, suc, List, [], ◌∷◌, ◌++◌, Option, Some, None, refl, sym, ap, ap₂, ◌∙◌}
 use Rattle.std.specs.List.{AllByRecursion}
 use Rattle.vx_geom.specs.declared.pos.Pos.{Pos}
 use Rattle.vx_geom.specs.Places.{positions}
@@ -19,7 +19,7 @@ use Rattle.vx_step.specs.declared.fate.Fate.{Fate}
 use Rattle.vx_step.specs.declared.fate.Fate.TheVariants.{Moved, Denied, Beaten}
 use Rattle.vx_step.specs.Fates.{IsFate, AreFates, fate_by, fate_of, fates_of}
 use Rattle.vx_step.specs.Laws.{TickIsStepped, SteppedIsTick, StepsKeepMaps}
-use Rattle.vx_step.specs.Ticks.{asked_before, asked, asked_up_to, AreMoves, changed_up_to, advanced, put_down, ordered, moves_of, fates_on, stepped, IsTick}
+use Rattle.vx_step.specs.Ticks.{asked_before, asked, asked_up_to, AreMoves, changed_up_to, advanced, put_down, moves_of, fates_on, stepped}
 use Rattle.vx_step.proofs.InOrder.{ordered_same, in_order, ordered_sorted, ordered_permutes}
 use Rattle.vx_step.proofs.Puts.{puts_whole}
 
@@ -108,10 +108,9 @@ pub tick_is_stepped : TickIsStepped
 unfolding fates_on stepped
 tick_is_stepped rs m next fates tick =
     let moves = one_list m tick.moves tick.asked in
-    let told = one_fates rs tick.moves tick.moves fates tick.told ∙ ap (λ ms. fates_of rs ms ms) moves in
-    (
+    let told = one_fates rs tick.moves tick.moves fates tick.told ∙ ap (λ ms. fates_of rs ms ms) moves in (
       tick.after
-      ∙ ap₂ (λ ms fs. with_cells_on (advanced m) (put_down (cell_on (advanced m)) ms fs)) moves told,
+          ∙ ap₂ (λ ms fs. with_cells_on (advanced m) (put_down (cell_on (advanced m)) ms fs)) moves told,
       told,
     )
 

@@ -1,11 +1,11 @@
-use Rattle.std.proofs.Common.{◌≡◌, ◌<◌, ◌+◌, length, get_or, set, map, sym, ap, ◌∙◌, subst, add-one, arith}
+use Rattle.std.proofs.Common.{◌≡◌, ◌<◌, length, get_or, set, map, sym, ap, ◌∙◌, subst, add-one, arith}
 use Rattle.std.proofs.lemmas.List.{length-map}
 use Rattle.vx_cells.specs.Maps.{AreSectors}
 use Rattle.vx_cells.specs.SectorCells.{SectorCells}
 use Rattle.vx_sector.specs.SectorData.{SectorData}
 use Rattle.vx_sector.specs.Windows.{renewed}
 use Rattle.vx_play.specs.Plays.{cells_of, window_over, renewed_over}
-use Rattle.vx_play.proofs.Renewals.{cells_placed, sector_placed, renewed_up_to, renewed_none, renewed_all, as_many, next_as_before, one_more, still_placed}
+use Rattle.vx_play.proofs.Renewals.{cells_placed, sector_placed, renewed_up_to, renewed_none, renewed_all, next_as_before, one_more, still_placed}
 use Rattle.vx_play.proofs.play.renew_sectors.Goals as goal
 
 pub loop-i-init : goal.loop-i-init
@@ -29,8 +29,7 @@ renew-closed-requires c =
     let place = sector_placed c.args.bounds 0 i ss d c.requires.sectors.each within in
     let there = ap (λ (s : SectorData). s.cells) (ap (λ xs. get_or xs i d) c.loop-i.invariant ∙ next_as_before c.args.version.now ss c.args.cells.now i d) in
     let made : c.in_ok-fresh.fresh.cells ≡ get_or c.args.cells.now i cell =
-    ap (λ f. f.cells) c.in_ok-fresh.ensures ∙ c.index-cells-i.is in
-    (
+    ap (λ f. f.cells) c.in_ok-fresh.ensures ∙ c.index-cells-i.is in (
       ap (λ (x : SectorCells). x.bounds) made ∙ these.0 ∙ sym place.0 ∙ sym (ap (λ (x : SectorCells). x.bounds) there),
       ap (λ (x : SectorCells). x.sector) made ∙ these.1 ∙ sym place.1 ∙ sym (ap (λ (x : SectorCells). x.sector) there),
     )

@@ -1,6 +1,7 @@
 pub mod ActingLemmas
 pub mod ChestLemmas
 pub mod ContentsLemmas
+pub mod Keeping
 pub mod Outside
 pub mod Transfers
 pub mod WindowLemmas

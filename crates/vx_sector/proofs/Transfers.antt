@@ -41,48 +41,53 @@ none_against : (o : Option Refusal) (x y : Reply) → ok_unless o x ≡ Ok y →
 none_against None x y same = refl
 none_against (Some refusal) x y same = cc
 
-none_first : (o : Option Refusal) (os : List (Option Refusal)) → first_some (o ∷ os) ≡ None → (o ≡ None) × (first_some os ≡ None)
+pub none_first : (o : Option Refusal) (os : List (Option Refusal)) → first_some (o ∷ os) ≡ None → (o ≡ None) × (first_some os ≡ None)
 none_first None os none = (refl, none)
 none_first (Some refusal) os none = cc
 
-not_so : (b : Bool) (refusal : Refusal) → refuse_if b refusal ≡ None → b ≡ false
+pub not_so : (b : Bool) (refusal : Refusal) → refuse_if b refusal ≡ None → b ≡ false
 not_so true refusal none = cc
 not_so false refusal none = refl
 
-not_hindered : (regions : Regions) (c : SectorCells) (seat : SeatData) (cmd : Cmd) (reply : Reply) → rules_answer regions c seat cmd ≡ Ok reply → first_some (hindrances c cmd) ≡ None
+pub not_hindered : (regions : Regions) (c : SectorCells) (seat : SeatData) (cmd : Cmd) (reply : Reply) → rules_answer regions c seat cmd ≡ Ok reply → first_some (hindrances c cmd) ≡ None
 unfolding rules_answer
 not_hindered regions c seat cmd reply answer =
     (none_first (denial regions seat cmd) (hindrances c cmd) (none_against _ (reply_of regions c seat cmd) reply answer)).1
 
-yes : (b : Bool) → not b ≡ false → b ≡ true
+pub yes : (b : Bool) → not b ≡ false → b ≡ true
 yes true h = refl
 yes false h = cc
 
-neither : (a b : Bool) → (a || b) ≡ false → (a ≡ false) × (b ≡ false)
+pub neither : (a b : Bool) → (a || b) ≡ false → (a ≡ false) × (b ≡ false)
 neither true b h = cc
 neither false b h = (refl, h)
 
-a_chest : (cell : Cell) → is_chest cell ≡ true → cell ≡ Chest
+pub a_chest : (cell : Cell) → is_chest cell ≡ true → cell ≡ Chest
 a_chest cell chest = search rules
 
-a_lever : (cell : Cell) → is_lever cell ≡ true → (facing : Dir) × (on : Bool) × (cell ≡ Lever facing on)
+pub a_lever : (cell : Cell) → is_lever cell ≡ true → (facing : Dir) × (on : Bool) × (cell ≡ Lever facing on)
 a_lever (Lever facing on) lever = (facing, on, refl)
 a_lever cell lever = cc
 
-of_item : (item : ℕ) (slot : Option Stack) → holds_other item slot ≡ false → IsOf item slot
+pub of_item : (item : ℕ) (slot : Option Stack) → holds_other item slot ≡ false → IsOf item slot
 of_item item None other = tt
 of_item item (Some stack) other = eqb-true _ _ (yes _ other)
+
+-- a slot of a chest, and what it holds
+module _ (c : SectorCells) (p : Pos) (slot : ℕ) (whole : IsWhole c) (chest : is_chest (cell_at c p) ≡ true) (near : slot < 27) where
+  within : slot < length (slots_at c p)
+  within = let count : length (slots_at c p) ≡ 27 = rw chest at (is_block_at c p whole).slots in omega (arith, near, count)
+
+  pub was_slot : IsSlot (slot_at c p slot)
+  was_slot = (is_block_at c p whole).each slot None within
 
 -- a slot of the chest at a position has something else
 module _ (c : SectorCells) (p : Pos) (slot : ℕ) (content : Option Stack) (sizes : AreSizes c.bounds) (whole : IsWhole c) (held : holds c p ≡ true) (chest : is_chest (cell_at c p) ≡ true) (near : slot < 27) where
   block_there : block_at (with_slot c p slot content) p ≡ with_content (block_at c p) slot content
   block_there = set_block_is_read c p (with_content (block_at c p) slot content) sizes whole held
 
-  within : slot < length (slots_at c p)
-  within = let count : length (slots_at c p) ≡ 27 = rw chest at (is_block_at c p whole).slots in omega (arith, near, count)
-
   slot_there : slot_at (with_slot c p slot content) p slot ≡ content
-  slot_there = ap (λ b. get_or b.slots slot None) block_there ∙ get_or-set_same (slots_at c p) slot content None within
+  slot_there = ap (λ b. get_or b.slots slot None) block_there ∙ get_or-set_same (slots_at c p) slot content None (within c p slot whole chest near)
 
   others_there : OtherSlotsStay c (with_slot c p slot content) p slot
   others_there = record {
@@ -91,14 +96,11 @@ module _ (c : SectorCells) (p : Pos) (slot : ℕ) (content : Option Stack) (size
     others = λ k other. ap (λ b. get_or b.slots k None) block_there ∙ get_or-set_other (slots_at c p) slot k content None other;
   }
 
-  was_slot : IsSlot (slot_at c p slot)
-  was_slot = (is_block_at c p whole).each slot None within
-
-below_27 : (slot : ℕ) → nat_lt 26 slot ≡ false → slot < 27
+pub below_27 : (slot : ℕ) → nat_lt 26 slot ≡ false → slot < 27
 below_27 slot h = let most = ltb-false 26 slot h in omega (arith, most)
 
 -- what is put into a slot
-more_in : (item count : ℕ) (low : Option Stack) → IsSlot low → IsOf item low → nat_eq count 0 ≡ false → nat_lt most_count (count_in low + count) ≡ false
+pub more_in : (item count : ℕ) (low : Option Stack) → IsSlot low → IsOf item low → nat_eq count 0 ≡ false → nat_lt most_count (count_in low + count) ≡ false
     → HoldsMore item count low (with_more item count low)
 more_in item count low slot only some room =
     let least : count ≢ 0 = eqb-false _ _ some in
@@ -106,7 +108,7 @@ more_in item count low slot only some room =
     record { low_slot = slot; high_slot = (omega (arith, least), most); only = only; more = refl }
 
 -- what is left in a slot
-fewer_in : (count : ℕ) (high : Option Stack) → IsSlot high → nat_eq count 0 ≡ false → nat_lt (count_in high) count ≡ false
+pub fewer_in : (count : ℕ) (high : Option Stack) → IsSlot high → nat_eq count 0 ≡ false → nat_lt (count_in high) count ≡ false
     → (item : ℕ) × HoldsMore item count (with_fewer count high) high
 fewer_in count None slot some room = let least : count ≢ 0 = eqb-false _ _ some in let most = ltb-false 0 count room in absurd (omega (arith, least, most))
 fewer_in count (Some stack) slot some room = (stack.item, by (nat_eq stack.count count) refl)
@@ -137,7 +139,7 @@ putting_adds_so_many regions before seat p slot item count reply asked =
     let near = below_27 slot (not_so _ _ number.0) in
     let low = slot_at before p slot in
     let content = with_more item count low in
-    let held = more_in item count low (was_slot before p slot content asked.sizes asked.whole asked.held there near) (of_item item low (not_so _ _ other.0)) bad.0 bad.1 in (
+    let held = more_in item count low (was_slot before p slot asked.whole there near) (of_item item low (not_so _ _ other.0)) bad.0 bad.1 in (
       subst (HoldsMore item count low) (sym (slot_there before p slot content asked.sizes asked.whole asked.held there near)) held,
       others_there before p slot content asked.sizes asked.whole asked.held there near,
     )
@@ -151,7 +153,7 @@ taking_leaves_so_many_fewer regions before seat p slot count reply asked =
     let near = below_27 slot (not_so _ _ number.0) in
     let high = slot_at before p slot in
     let content = with_fewer count high in
-    let held = fewer_in count high (was_slot before p slot content asked.sizes asked.whole asked.held there near) bad.0 bad.1 in (
+    let held = fewer_in count high (was_slot before p slot asked.whole there near) bad.0 bad.1 in (
       (held.0, subst (λ low. HoldsMore held.0 count low high) (sym (slot_there before p slot content asked.sizes asked.whole asked.held there near)) held.1),
       others_there before p slot content asked.sizes asked.whole asked.held there near,
     )

@@ -2,6 +2,7 @@ use Rattle.std.specs.Prelude.{◌≡◌, ◌≢◌, ◌↔◌, ℕ, Bool, true, 
 use Rattle.vx_geom.specs.declared.dir.Dir.{Dir}
 use Rattle.vx_geom.specs.declared.pos.Pos.{Pos}
 use Rattle.vx_geom.specs.Sizes.{AreSizes}
+use Rattle.vx_block.specs.declared.cell.Cell.{Cell}
 use Rattle.vx_block.specs.declared.cell.Cell.TheVariants.{Chest, Lever}
 use Rattle.vx_cells.specs.declared.stack.Stack.{Stack}
 use Rattle.vx_cells.specs.SectorCells.{SectorCells, IsWhole, holds, block_at, cell_at}
@@ -12,7 +13,7 @@ use Rattle.vx_decide.specs.declared.rule.Rule.{Rule}
 use Rattle.vx_decide.specs.declared.verdict.Verdict.TheVariants.{Permit, Deny}
 use Rattle.vx_sector.specs.SectorData.{SectorData, SeatData}
 use Rattle.vx_sector.specs.Commands.{place_of, action_of}
-use Rattle.vx_sector.specs.Acting.{judged, slots_at, slot_at, rules_answer, cells_by}
+use Rattle.vx_sector.specs.Acting.{judged, is_extended, slots_at, slot_at, rules_answer, cells_by}
 use Rattle.vx_sector.specs.Slots.{HoldsMore}
 use Rattle.vx_sector.specs.Windows.{answer_of, sector_after}
 use Rattle.vx_sector.specs.declared.cmd.Cmd.{Cmd}
@@ -106,3 +107,24 @@ TurningKeepsTheFacing = (regions : Regions) (before : SectorCells) (seat : SeatD
     → let after = cells_by before (Turn p) (Ok reply) in
     (facing : Dir) × (on : Bool)
     × (cell_at before p ≡ Lever facing on) × (cell_at after p ≡ Lever facing (not on))
+
+-- the cells of a sector after a command and the answer that it gets
+abbrev pub cells_left : SectorData → SeatData → Cmd → SectorCells
+cells_left s seat cmd = (sector_after s seat cmd (answer_of s seat cmd)).cells
+
+-- a command leaves a whole sector whole, with the number and of the world that it was
+abbrev pub StaysWhole : Type 0
+StaysWhole = (s : SectorData) (seat : SeatData) (cmd : Cmd)
+    → IsWhole s.cells → let after = cells_left s seat cmd in
+    IsWhole after × (after.bounds ≡ s.cells.bounds) × (after.sector ≡ s.cells.sector)
+
+-- an extended piston or a head stays as it is, and where there was none there is none
+abbrev pub IsLeftExtended : Cell → Cell → Type 0
+IsLeftExtended before after =
+    (is_extended before ≡ true → after ≡ before) × (is_extended after ≡ true → after ≡ before)
+
+-- so a command leaves each position of its sector
+abbrev pub LeavesExtended : Type 0
+LeavesExtended = (s : SectorData) (seat : SeatData) (cmd : Cmd) (q : Pos)
+    → AreSizes s.cells.bounds → IsWhole s.cells → holds s.cells q ≡ true
+    → IsLeftExtended (cell_at s.cells q) (cell_at (cells_left s seat cmd) q)

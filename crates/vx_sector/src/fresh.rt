@@ -42,9 +42,19 @@ impl Fresh {
         ensures { IfOk result (λ fresh.
             fresh ≡ record { cells = cells.now; version = version.now }) }
     {
+        let copy = cells.try_clone()?;
+        Fresh::over(alloc, copy, version)
+    }
+
+    /// A window over these cells, judged by a copy of this version. The cells are taken, and copied
+    /// once, as bytes.
+    pub fn over(alloc: Global, cells: Cells, version: &Version) -> Result<Fresh, AllocError>
+        ensures { IfOk result (λ fresh.
+            fresh ≡ record { cells = cells; version = version.now }) }
+    {
         Ok(Fresh {
             base: cells.try_clone()?,
-            cells: cells.try_clone()?,
+            cells,
             version: version.try_clone()?,
             entries: Vec::new(alloc),
         })

@@ -1,4 +1,4 @@
-ghost use Rattle.vx_sector.specs.Laws.{OnePlaceChanges, RefusalLeavesCells, OutsideIsRefused, DeniedByThePolicy, ShownByLeave, LookingChangesNothing, OpeningChangesNothing, PuttingAddsSoMany, TakingLeavesSoManyFewer, TurningKeepsTheFacing};
+ghost use Rattle.vx_sector.specs.Laws.{OnePlaceChanges, RefusalLeavesCells, OutsideIsRefused, DeniedByThePolicy, ShownByLeave, LookingChangesNothing, OpeningChangesNothing, PuttingAddsSoMany, TakingLeavesSoManyFewer, TurningKeepsTheFacing, StaysWhole, LeavesExtended};
 
 /// A command changes nothing but at the position that it speaks of, neither cells nor slots.
 pub fn one_place_changes()
@@ -47,4 +47,15 @@ pub fn taking_leaves_so_many_fewer()
 /// Turning a lever changes its state alone: it keeps its facing.
 pub fn turning_keeps_the_facing()
     ensures { TurningKeepsTheFacing }
+{}
+
+/// A command leaves a sector whole: it keeps its number and its size, something stands at each of
+/// its places, and each chest has its slots.
+pub fn sectors_stay_whole()
+    ensures { StaysWhole }
+{}
+
+/// A command leaves each extended piston and each head as it is, and puts none where there was none.
+pub fn extended_pistons_stay()
+    ensures { LeavesExtended }
 {}

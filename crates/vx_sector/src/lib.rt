@@ -20,9 +20,9 @@ pub use contents::Contents;
 pub use entry::Entry;
 pub use fresh::Fresh;
 pub use laws::{
-    denied_by_the_policy, one_place_changes, outside_is_refused, putting_adds_so_many,
-    refusal_leaves_cells, seeing_changes_nothing, shown_by_leave, taking_leaves_so_many_fewer,
-    turning_keeps_the_facing,
+    denied_by_the_policy, extended_pistons_stay, one_place_changes, outside_is_refused,
+    putting_adds_so_many, refusal_leaves_cells, sectors_stay_whole, seeing_changes_nothing,
+    shown_by_leave, taking_leaves_so_many_fewer, turning_keeps_the_facing,
 };
 pub use refusal::Refusal;
 pub use reply::Reply;

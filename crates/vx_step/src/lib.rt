@@ -12,4 +12,4 @@ mod stepping;
 pub use ending::fates;
 pub use fate::Fate;
 pub use laws::{heads_stay_with_pistons, parts_become_next, there_is_one_tick, ticks_by_position};
-pub use stepping::step_plain;
+pub use stepping::{step_owned, step_plain};

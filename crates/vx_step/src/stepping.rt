@@ -25,16 +25,28 @@ pub fn step_plain(
     ensures map { IfOk result (λ after. after.0 ≡ stepped version.now.policy map.now) }
     ensures fates { IfOk result (λ after. after.1.items ≡ fates_on version.now.policy map.now) }
 {
+    step_owned(alloc, map.try_clone()?, version)
+}
+
+/// The same of a map that is handed over: it becomes the next one, and no cell is copied.
+pub fn step_owned(
+    alloc: Global,
+    map: Whole,
+    version: &Version,
+) -> Result<(Whole, Vec<(Pos, Fate)>), AllocError>
+    ensures map { IfOk result (λ after. after.0 ≡ stepped version.now.policy map) }
+    ensures fates { IfOk result (λ after. after.1.items ≡ fates_on version.now.policy map) }
+{
     tick(alloc, map, version)
 }
 
 // The map after a tick, and the fates of its moves.
 fn tick(
     alloc: Global,
-    map: &Whole,
+    map: Whole,
     version: &Version,
 ) -> Result<(Whole, Vec<(Pos, Fate)>), AllocError>
-    ensures { IfOk result (λ after. IsTick version.now.policy map.now after.0 after.1.items) }
+    ensures { IfOk result (λ after. IsTick version.now.policy map after.0 after.1.items) }
 {
     let found = Found::on(alloc, &map.frozen())?;
     let fates = fates(
@@ -49,16 +61,16 @@ fn tick(
 // The map after a tick that found this, where the moves have these fates.
 fn stepped(
     alloc: Global,
-    map: &Whole,
+    map: Whole,
     found: &Found,
     fates: &[(Pos, Fate)],
 ) -> Result<Whole, AllocError>
     requires each { length fates.now ≡ length found.now.moves.items }
-    ensures { IfOk result (λ next. let advanced = with_cells_on map.now found.now.changes.items in
+    ensures { IfOk result (λ next. let advanced = with_cells_on map found.now.changes.items in
         next ≡ with_cells_on advanced
         (put_down (cell_on advanced) found.now.moves.items fates.now)) }
 {
-    let mut next = map.try_clone()?;
+    let mut next = map;
     next.set_all(found.changes.as_slice())?;
     let cells = put_down(alloc, &next.frozen(), found.moves.as_slice(), fates)?;
     next.set_all(cells.as_slice())?;

@@ -2,18 +2,18 @@ use Rattle.std.proofs.Common.{◌≡◌}
 use Rattle.std.proofs.lemmas.Result.{IfOk-weaker}
 use Rattle.vx_step.specs.Ticks.{IsTick, stepped, fates_on}
 use Rattle.vx_step.proofs.OneTick.{tick_is_stepped}
-use Rattle.vx_step.proofs.stepping.step_plain.Goals as goal
+use Rattle.vx_step.proofs.stepping.step_owned.Goals as goal
 
 pub returns-clause-map : goal.returns-clause-map
 returns-clause-map c =
     let rs = c.args.version.now.policy in
-    let m = c.args.map.now in
+    let m = c.args.map in
     IfOk-weaker c.tick.result (λ after. IsTick rs m after.0 after.1.items) (λ after. after.0 ≡ stepped rs m)
     (λ after tick. (tick_is_stepped rs m after.0 after.1.items tick).0) c.tick.ensures
 
 pub returns-clause-fates : goal.returns-clause-fates
 returns-clause-fates c =
     let rs = c.args.version.now.policy in
-    let m = c.args.map.now in
+    let m = c.args.map in
     IfOk-weaker c.tick.result (λ after. IsTick rs m after.0 after.1.items) (λ after. after.1.items ≡ fates_on rs m)
     (λ after tick. (tick_is_stepped rs m after.0 after.1.items tick).1) c.tick.ensures

@@ -1,3 +1,4 @@
+pub mod Keeping
 pub mod Playing
 pub mod Renewals
 pub mod Whole

@@ -3,7 +3,7 @@ use Rattle.std.proofs.Common.{◌≡◌, ◌≢◌, ◌↔◌, Err, ℕ, ◌+◌
 use Rattle.std.specs.List.{All}
 use Rattle.std.proofs.lemmas.Bool.{cases_Bool}
 use Rattle.std.proofs.lemmas.List.Elements.{All-map, All-set}
-use Rattle.std.proofs.lemmas.Option.{slice_get_cases, get_or_from_slice_get}
+use Rattle.std.proofs.lemmas.Option.{slice_get_within, get_or_from_slice_get}
 use Rattle.std.proofs.Math.Seq.{map-set_same}
 use Rattle.vx_cells.specs.SectorCells.{SectorCells, holds}
 use Rattle.vx_flag.specs.declared.action.Action.{Action}
@@ -36,15 +36,9 @@ part_stays : {X : Type 0} (f : SectorData → X) → ((s : SectorData) (entry : 
 unfolding sector_after
 part_stays f kept s seat cmd answer = elim (cases_Bool (is_recorded answer)) [ inl traced ↦ rw traced (kept s _) | inr none ↦ rw none refl ]
 
--- what holds of each sector holds of one that is found
-of_found : (P : SectorData → Type 0) (ss : List SectorData) (k : ℕ) (s : SectorData) → All P ss → slice_get ss k ≡ Some s → P s
-of_found P ss k s all found = elim (slice_get_cases ss k).1 [
-  | inl there ↦ subst P (get_or_from_slice_get ss k s s found) (all k s there.1)
-  | inr past ↦ absurd (none (sym past.1 ∙ found))
-]
-  where
-    none : {y : SectorData} → None ≡ Some y → ⊥
-    none e = cc
+-- what holds of each holds of one that is found
+pub of_found : {X : Type 0} (P : X → Type 0) (xs : List X) (k : ℕ) (x : X) → All P xs → slice_get xs k ≡ Some x → P x
+of_found P xs k x all found = subst P (get_or_from_slice_get xs k x x found) (all k x (slice_get_within xs k x found))
 
 -- what a command of a seat keeps in its sector
 module _ (P : SectorData → Type 0) (kept : (s : SectorData) (seat : SeatData) (cmd : Cmd) → P s → P (sector_after s seat cmd (answer_of s seat cmd))) where

@@ -76,7 +76,7 @@ commands_keep_worlds play seat cmd whole = by (sector_asked play cmd)
 
 -- a tick keeps the map, and has a cell of it for each of the world's
 module _ (play : PlayData) (whole : IsWorld play) where
-  next_whole : IsMap (next_map play) × ((next_map play).sizes ≡ play.sizes)
+  pub next_whole : IsMap (next_map play) × ((next_map play).sizes ≡ play.sizes)
   next_whole = steps_keep_maps play.version.policy (map_of play) whole
 
   pub as_many_cells : length play.sectors ≡ length (next_map play).sectors

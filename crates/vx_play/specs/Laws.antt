@@ -13,7 +13,9 @@ use Rattle.vx_sector.specs.Windows.{IsSector}
 use Rattle.vx_sector.specs.declared.cmd.Cmd.{Cmd}
 use Rattle.vx_sector.specs.declared.refusal.Refusal.TheVariants.{OutOfWorld, HistoryFull, Denied}
 use Rattle.vx_cells.specs.Maps.{MapData}
+use Rattle.vx_cells.specs.MapLaws.{IsFilled}
 use Rattle.vx_cells.specs.Wholes.{IsMap}
+use Rattle.vx_step.specs.Pairing.{IsPaired}
 use Rattle.vx_step.specs.Ticks.{IsTick}
 use Rattle.vx_play.specs.Plays.{PlayData, IsWorld, opened, answered, map_of, next_map, next_fates, ticked}
 use Rattle.vx_play.specs.Games.{Step, Tick, game, edits_of, ticks_of, version_after, AreJudgedBy, base_of}
@@ -112,3 +114,16 @@ WindowsBeginWithTheTick = (rs : Regions) (terrain : MapData) (names : List (List
     (before since : List Step) → IsMap terrain → ticks_of since ≡ 0
     → map base_of (game rs terrain names (before ++ Tick ∷ since)).sectors
     ≡ (next_map (game rs terrain names before)).sectors
+
+-- in every game something stands at each place, and each chest has its slots, where that is so of
+-- the terrain
+abbrev pub GamesStayFilled : Type 0
+GamesStayFilled = (rs : Regions) (terrain : MapData) (names : List (List ℕ))
+    (steps : List Step) → IsFilled terrain → IsFilled (map_of (game rs terrain names steps))
+
+-- and each piston that is out has its head before it, and each head its piston behind it, where
+-- that is so of the terrain
+abbrev pub GamesStayPaired : Type 0
+GamesStayPaired = (rs : Regions) (terrain : MapData) (names : List (List ℕ))
+    (steps : List Step) → IsFilled terrain → IsPaired terrain
+    → IsPaired (map_of (game rs terrain names steps))

@@ -1,4 +1,5 @@
-use Rattle.std.specs.Prelude.{ℕ, ◌+◌, ◌^◌, Bool, bytes_eq, if◌then◌else◌, List, [], ◌∷◌, length, map, slice_get, slice_set, Option, Some, None, option_map, is_some, Result, Err}
+use Rattle.std.specs.Prelude.{ℕ, ◌+◌, ◌^◌, Bool, Vec, bytes_eq, if◌then◌else◌, List, [], ◌∷◌, length, map, slice_get, slice_set, Option, Some, None, option_map, is_some, Result, Err}
+use Rattle.std.specs.declared.alloc.Global.{Global}
 use Rattle.std.specs.List.{sum_by}
 use Rattle.vx_geom.specs.declared.pos.Pos.{Pos}
 use Rattle.vx_geom.specs.Sizes.{Sizes, sector_of}
@@ -7,10 +8,11 @@ use Rattle.vx_region.specs.Regions.{Regions}
 use Rattle.vx_policy.specs.Asked.{Asked}
 use Rattle.vx_policy.specs.Edits.{after}
 use Rattle.vx_policy.specs.declared.version.Version.{Version}
-use Rattle.vx_sector.specs.SectorData.{SectorData, SeatData, FreshData}
+use Rattle.vx_sector.specs.SectorData.{SectorData, SeatData, EntryData, FreshData, entry_of}
 use Rattle.vx_sector.specs.Commands.{place_of}
 use Rattle.vx_sector.specs.Windows.{answer_of, sector_after, count_of, first_window, renewed}
 use Rattle.vx_sector.specs.declared.cmd.Cmd.{Cmd}
+use Rattle.vx_sector.specs.declared.entry.Entry.{Entry}
 use Rattle.vx_sector.specs.declared.reply.Reply.{Reply}
 use Rattle.vx_sector.specs.declared.refusal.Refusal.{Refusal}
 use Rattle.vx_sector.specs.declared.refusal.Refusal.TheVariants.{OutOfWorld}
@@ -59,6 +61,11 @@ is_named ns name = is_some (number_from 0 ns name)
 unfoldable pub seat_named : PlayData → List ℕ → Option SeatData
 seat_named play name =
     option_map (λ k. record { number = k; name = name }) (number_from 0 play.names name)
+
+-- the seat of the player of that number, counted from 0
+unfoldable pub seat_at : PlayData → ℕ → Option SeatData
+seat_at play number =
+    option_map (λ name. record { number = number; name = name }) (slice_get play.names number)
 
 -- what a window over these cells begins with, judged by this version
 abbrev pub window_over : Version → SectorCells → FreshData
@@ -143,6 +150,24 @@ all_renewed version (s ∷ sectors) [] =
     renewed_over version s s.cells ∷ all_renewed version sectors []
 all_renewed version (s ∷ sectors) (c ∷ cells) =
     renewed_over version s c ∷ all_renewed version sectors cells
+
+-- the cells with which a window begins
+abbrev pub cells_for : FreshData → SectorCells
+cells_for fresh = fresh.cells
+
+-- the sectors, of which the first begin their next windows so, and the others are as they were
+abbrev pub renewed_each : List SectorData → List FreshData → List SectorData
+renewed_each [] fresh = []
+renewed_each (s ∷ sectors) [] = s ∷ sectors
+renewed_each (s ∷ sectors) (f ∷ fresh) = renewed s f ∷ renewed_each sectors fresh
+
+-- the record of a sector's window
+abbrev pub entries_of : SectorData → List EntryData
+entries_of s = s.entries
+
+-- what the entries of such a record say, as it is handed out
+abbrev pub entries_in : Vec Entry Global → List EntryData
+entries_in window = map entry_of window.items
 
 -- the map after the next tick, which the version judges that judged the window before
 abbrev pub next_map : PlayData → MapData

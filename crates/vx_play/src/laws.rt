@@ -1,4 +1,4 @@
-ghost use Rattle.vx_play.specs.Laws.{WorldsBeginWhole, CommandsKeepWorlds, TicksKeepWorlds, GamesStayWhole, OutOfWorldIsOutside, TicksAreSteps, NoEditCountsBeforeATick, EditsCountFromTheNextTick, StepsAreCounted, DeniedByTheOpening, DeniedByTheLastTick, RecordsAreWindows, FirstWindowsBeginWithTheTerrain, WindowsBeginWithTheTick};
+ghost use Rattle.vx_play.specs.Laws.{WorldsBeginWhole, CommandsKeepWorlds, TicksKeepWorlds, GamesStayWhole, OutOfWorldIsOutside, TicksAreSteps, NoEditCountsBeforeATick, EditsCountFromTheNextTick, StepsAreCounted, DeniedByTheOpening, DeniedByTheLastTick, RecordsAreWindows, FirstWindowsBeginWithTheTerrain, WindowsBeginWithTheTick, GamesStayFilled, GamesStayPaired};
 
 /// A world has each sector in its place: as it is made, after each command and after each tick, and
 /// so in every game.
@@ -46,4 +46,12 @@ pub fn records_are_windows()
     ensures windows { RecordsAreWindows }
     ensures first { FirstWindowsBeginWithTheTerrain }
     ensures next { WindowsBeginWithTheTick }
+{}
+
+/// In every game something stands at each place, and each piston that is out has its head before it
+/// and each head its piston behind it, after commands, edits and ticks, where that is so of the
+/// terrain on which the world opens.
+pub fn heads_stay_with_pistons()
+    ensures filled { GamesStayFilled }
+    ensures paired { GamesStayPaired }
 {}

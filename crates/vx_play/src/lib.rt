@@ -6,7 +6,9 @@ pub mod laws;
 mod names;
 mod play;
 mod tick_error;
+mod ticked;
 
 pub use names::number_of;
 pub use play::{MAX_PLAYERS, Play};
 pub use tick_error::TickError;
+pub use ticked::Ticked;

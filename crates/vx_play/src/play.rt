@@ -1,9 +1,10 @@
-ghost use Rattle.std.specs.Prelude.{◌≡◌, map, vec_len, IfOk, OnOk};
+ghost use Rattle.std.specs.Prelude.{◌≡◌, map, vec_len, IfOk, OnOk, OnErr};
 ghost use Rattle.vx_cells.specs.Maps.{AreSectors};
-ghost use Rattle.vx_play.specs.Plays.{cells_of, window_over, opened_by, all_renewed};
+ghost use Rattle.vx_play.specs.Plays.{cells_of, cells_for, window_over, opened_by, renewed_each, entries_in, entries_of};
 
 use crate::names::number_of;
 use crate::tick_error::TickError;
+use crate::ticked::Ticked;
 use std::alloc::{AllocError, Global};
 use std::marker::Model;
 use vx_board::{DeskError, DeskState, Edited, Naming};
@@ -11,8 +12,8 @@ use vx_cells::{Cells, Whole};
 use vx_geom::{Bounds, Pos};
 use vx_policy::{Edit, Policy, Version};
 use vx_region::Name;
-use vx_sector::{Cmd, Fresh, Refusal, Reply, Seat, Sector};
-use vx_step::{Fate, step_plain};
+use vx_sector::{Cmd, Entry, Fresh, Refusal, Reply, Seat, Sector};
+use vx_step::{Fate, step_owned};
 
 /// How many players a world may have.
 pub const MAX_PLAYERS: usize = 16;
@@ -56,13 +57,14 @@ impl<J: Naming> Model for Play<J> {
 }
 
 impl<J: Naming> Play<J> {
-    ghost use Rattle.std.specs.Prelude.{◌≢◌, ◌⊎◌, ◌<◌, ◌≤◌, ◌+◌, ◌++◌, ◌∷◌, ◌↔◌, [], Err, length, option_map, OnErr};
+    ghost use Rattle.std.specs.Prelude.{◌≢◌, ◌⊎◌, ◌<◌, ◌≤◌, ◌+◌, ◌++◌, ◌∷◌, ◌↔◌, [], Err, length, option_map};
     ghost use Rattle.vx_board.specs.Accepted.{IsAnswer};
     ghost use Rattle.vx_policy.specs.Asked.{asked};
+    ghost use Rattle.vx_geom.specs.Sizes.{sector_of};
     ghost use Rattle.vx_region.specs.Texts.{texts};
     ghost use Rattle.vx_sector.specs.SectorData.{seat_of};
     ghost use Rattle.vx_play.specs.declared.tick_error.TickError.TheVariants.{HistoryFull};
-    ghost use Rattle.vx_play.specs.Plays.{IsWorld, answered, calls, opened, policy_of, seat_named, ticked, next_fates, most_ticks};
+    ghost use Rattle.vx_play.specs.Plays.{IsWorld, answered, calls, opened, policy_of, seat_named, seat_at, next_version, all_renewed, ticked, next_map, next_fates, most_ticks};
 
     /// The world of this terrain under this policy, with nothing done yet.
     pub fn open(
@@ -101,6 +103,15 @@ impl<J: Naming> Play<J> {
         })
     }
 
+    /// The seat of the player of that number, counted from 0.
+    #[tactic(auto, unfolding(crate::specs::Plays::seat_at))]
+    pub fn name(&self, number: u8) -> Option<Seat>
+        ensures { option_map seat_of result ≡ seat_at self.now number }
+    {
+        let name = *self.names.get(usize::from(number))?;
+        Some(Seat { number, name })
+    }
+
     /// Carries out a command in the sector of its position, by the rules of docs/RULES.md; refused
     /// where it is outside the world.
     #[tactic(auto, unfolding(crate::specs::Plays::answered, crate::specs::Plays::sector_asked))]
@@ -132,45 +143,55 @@ impl<J: Naming> Play<J> {
     }
 
     /// Makes a tick, judged by the version that judged the windows so far, and begins the next
-    /// window of each sector, judged by the policy after the edits so far. It answers the fates of
-    /// the moves that pistons asked for, each beside the position of its piston, in the order of
-    /// positions. For want of memory some sectors may be in their next window, and others not.
-    pub fn tick(&mut self, alloc: Global) -> Result<Vec<(Pos, Fate)>, TickError>
+    /// window of each sector, judged by the policy after the edits so far. It hands out the records
+    /// of the windows that it closes, and the fates of the moves that pistons asked for. Where it
+    /// fails, for want of memory too, nothing is changed.
+    pub fn tick(&mut self, alloc: Global) -> Result<Ticked, TickError>
         ensures ok { OnOk result (self.new ≡ ticked self.old) }
-        ensures fates { IfOk result (λ fates. fates.items ≡ next_fates self.old) }
+        ensures err { OnErr result (self.new ≡ self.old) }
+        ensures windows { IfOk result (λ done.
+            map entries_in done.windows.items ≡ map entries_of self.old.sectors) }
+        ensures fates { IfOk result (λ done. done.fates.items ≡ next_fates self.old) }
         ensures full { (result ≡ Err HistoryFull) ↔ (most_ticks ≤ self.old.ticks) }
     {
         if MAX_TICKS <= self.ticks {
             return Err(TickError::HistoryFull);
         }
-        let map = map_of(alloc, self.bounds, &self.sectors)?;
-        let (next, fates) = step_plain(alloc, &map, &self.version)?;
-        let version = self.desk.fix(self.ticks + 2)?;
-        self.renew(alloc, &next, version)?;
-        Ok(fates)
+        let (next, fates) = self.stepped(alloc)?;
+        let windows = self.renew(alloc, next)?;
+        Ok(Ticked { windows, fates })
     }
 
-    // Begins the next window of each sector over its cells of this map, judged by this version.
-    fn renew(&mut self, alloc: Global, next: &Whole, version: Version) -> Result<(), AllocError>
-        requires sizes { next.now.sizes ≡ self.old.sizes }
+    // The map after the next tick, and the fates of its moves.
+    fn stepped(&self, alloc: Global) -> Result<(Whole, Vec<(Pos, Fate)>), AllocError>
+        ensures map { IfOk result (λ after. after.0 ≡ next_map self.now) }
+        ensures fates { IfOk result (λ after. after.1.items ≡ next_fates self.now) }
+    {
+        let map = map_of(alloc, self.bounds, &self.sectors)?;
+        step_owned(alloc, map, &self.version)
+    }
+
+    // Begins the next window of each sector over its cells of this map, judged by the policy after
+    // the edits so far, and hands out the records of the windows that this closes.
+    fn renew(&mut self, alloc: Global, next: Whole) -> Result<Vec<Vec<Entry>>, AllocError>
+        requires sizes { next.sizes ≡ self.old.sizes }
         requires more { self.old.ticks < most_ticks }
-        ensures { OnOk result (self.new ≡ record self.old {
-          sectors = all_renewed version self.old.sectors next.now.sectors;
-          version = version;
+        ensures ok { OnOk result (self.new ≡ record self.old {
+          sectors = all_renewed (next_version self.old) self.old.sectors next.sectors;
+          version = next_version self.old;
           ticks = self.old.ticks + 1;
         }) }
+        ensures err { OnErr result (self.new ≡ self.old) }
+        ensures windows { IfOk result (λ windows.
+            map entries_in windows.items ≡ map entries_of self.old.sectors) }
     {
-        next.frozen().soundness();
-        renew_sectors(
-            alloc,
-            self.bounds,
-            &mut self.sectors,
-            next.sectors(),
-            &version,
-        )?;
+        let version = self.desk.fix(self.ticks + 2)?;
+        let (_, cells) = next.into_parts();
+        let fresh = all_fresh(alloc, cells, &version)?;
+        let windows = renew_sectors(alloc, self.bounds, &mut self.sectors, fresh)?;
         self.version = version;
         self.ticks += 1;
-        Ok(())
+        Ok(windows)
     }
 
     /// What holds of every world at play: it has each sector of its size in its place.
@@ -178,6 +199,41 @@ impl<J: Naming> Play<J> {
         ensures { IsWorld self.now }
     {
         let _ = &self.bounds;
+    }
+
+    /// The number of the sector that holds the position; none outside the world.
+    pub fn place(&self, p: Pos) -> Option<u32>
+        ensures { result ≡ sector_of self.now.sizes p }
+    {
+        self.bounds.sector_of(p)
+    }
+
+    /// The sectors in order of their numbers.
+    pub fn sectors(&self) -> &[Sector]
+        ensures { result.now ≡ self.now.sectors }
+    {
+        &self.sectors
+    }
+
+    /// The sectors in order of their numbers. It takes no memory.
+    pub fn into_sectors(self) -> Vec<Sector>
+        ensures { result.items ≡ self.sectors }
+    {
+        self.sectors
+    }
+
+    /// The version that judges the commands of the windows and the machines of the next tick.
+    pub fn version(&self) -> &Version
+        ensures { result.now ≡ self.now.version }
+    {
+        &self.version
+    }
+
+    /// The edits that were accepted, in their order.
+    pub fn accepted(&self) -> &[Edit]
+        ensures { map asked result.now ≡ self.now.accepted }
+    {
+        self.desk.accepted()
     }
 
     /// How many ticks there were.
@@ -209,7 +265,7 @@ fn open_sectors(
 {
     let mut sectors = Vec::with_capacity(alloc, cells.len())?;
     for cells in cells {
-        sectors.push(Sector::new(fresh(alloc, &cells, version)?))?;
+        sectors.push(Sector::new(Fresh::over(alloc, cells, version)?))?;
     }
     Ok(sectors)
 }
@@ -235,31 +291,37 @@ fn all_cells(alloc: Global, sectors: &[Sector]) -> Result<Vec<Cells>, AllocError
     Ok(cells)
 }
 
-// Begins the next window of each sector of a world of this size over these cells, judged by this
-// version.
+// What windows over these cells begin with, judged by this version.
+fn all_fresh(alloc: Global, cells: Vec<Cells>, version: &Version) -> Result<Vec<Fresh>, AllocError>
+    ensures { IfOk result (λ fresh. fresh.items ≡ map (window_over version.now) cells.items) }
+{
+    let mut fresh = Vec::with_capacity(alloc, cells.len())?;
+    for cells in cells {
+        fresh.push(Fresh::over(alloc, cells, version)?)?;
+    }
+    Ok(fresh)
+}
+
+// Begins the next window of each sector of a world of this size with what was made for it, and
+// hands out the records of the windows that this closes. Memory is wanted only before the first.
 fn renew_sectors(
     alloc: Global,
     bounds: Bounds,
     sectors: &mut [Sector],
-    cells: &[Cells],
-    version: &Version,
-) -> Result<(), AllocError>
+    fresh: Vec<Fresh>,
+) -> Result<Vec<Vec<Entry>>, AllocError>
     requires sectors { AreSectors bounds (map cells_of sectors.old) }
-    requires cells { AreSectors bounds cells.now }
-    ensures renewed { OnOk result
-        (sectors.new ≡ all_renewed version.now sectors.old cells.now) }
+    requires fresh { AreSectors bounds (map cells_for fresh.items) }
+    ensures renewed { OnOk result (sectors.new ≡ renewed_each sectors.old fresh.items) }
+    ensures err { OnErr result (sectors.new ≡ sectors.old) }
+    ensures windows { IfOk result (λ windows.
+        map entries_in windows.items ≡ map entries_of sectors.old) }
     ensures placed { AreSectors bounds (map cells_of sectors.new) }
 {
-    for i in 0..sectors.len() {
-        let fresh = fresh(alloc, &cells[i], version)?;
-        let _closed = sectors[i].renew(fresh);
+    let mut windows = Vec::with_capacity(alloc, sectors.len())?;
+    for fresh in fresh {
+        let closed = sectors[windows.len()].renew(fresh);
+        windows.push_reserved(closed);
     }
-    Ok(())
-}
-
-// What a window over a copy of these cells begins with.
-fn fresh(alloc: Global, cells: &Cells, version: &Version) -> Result<Fresh, AllocError>
-    ensures { IfOk result (λ fresh. fresh ≡ window_over version.now cells.now) }
-{
-    Fresh::new(alloc, cells.bounds(), cells.sector(), cells, version)
+    Ok(windows)
 }

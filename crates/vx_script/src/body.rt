@@ -106,7 +106,7 @@ fn tick<J: Naming, W: Write>(play: &mut Play<J>, alloc: Global, writer: &mut W) 
     ensures fault { IfErr result IsOfReply }
 {
     match play.tick(alloc) {
-        Ok(fates) => tell(play.ticks(), fates.as_slice(), writer),
+        Ok(done) => tell(play.ticks(), done.fates.as_slice(), writer),
         Err(TickError::HistoryFull) => Err(Fault::HistoryFull),
         Err(TickError::NoMemory) => Err(Fault::NoMemory),
     }

@@ -55,7 +55,7 @@ pub fn sectors_stay_whole()
     ensures { StaysWhole }
 {}
 
-/// A command leaves each extended piston and each head as it is, and puts none where there was none.
+/// A command leaves each extended piston and each head as it is, and puts none where none was.
 pub fn extended_pistons_stay()
     ensures { LeavesExtended }
 {}

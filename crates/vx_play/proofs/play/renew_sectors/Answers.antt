@@ -1,62 +1,61 @@
-use Rattle.std.proofs.Common.{◌≡◌, ◌<◌, length, get_or, set, map, sym, ap, ◌∙◌, subst, add-one, arith}
-use Rattle.std.proofs.lemmas.List.{length-map}
+use Rattle.std.proofs.Common.{◌≡◌, ◌<◌, length, map, get_or, set, sym, ap, ◌∙◌, subst, arith, rules}
+use Rattle.std.proofs.lemmas.Iterator.Consumers.{YieldsList-turn, YieldsList-end}
+use Rattle.std.proofs.lemmas.Iterator.Adapters.{YieldsList-from_vec}
+use Rattle.std.proofs.lemmas.List.{length_push, map-id}
 use Rattle.vx_cells.specs.Maps.{AreSectors}
-use Rattle.vx_cells.specs.SectorCells.{SectorCells}
-use Rattle.vx_sector.specs.SectorData.{SectorData}
+use Rattle.vx_sector.specs.SectorData.{SectorData, FreshData}
 use Rattle.vx_sector.specs.Windows.{renewed}
-use Rattle.vx_play.specs.Plays.{cells_of, window_over, renewed_over}
-use Rattle.vx_play.proofs.Renewals.{cells_placed, sector_placed, renewed_up_to, renewed_none, renewed_all, next_as_before, one_more, still_placed}
+use Rattle.vx_play.specs.Plays.{cells_of, renewed_each, entries_of}
+use Rattle.vx_play.proofs.Renewals.{cells_placed, sector_placed, renewed_none, next_as_before, still_before, as_many_fresh, one_more, cells_begun, closed_more}
 use Rattle.vx_play.proofs.play.renew_sectors.Goals as goal
 
-pub loop-i-init : goal.loop-i-init
-loop-i-init c = sym (renewed_none c.args.version.now c.args.sectors.now c.args.cells.now)
-
-pub returns-in_err-fresh-clause-placed : goal.returns-in_err-fresh-clause-placed
-returns-in_err-fresh-clause-placed c =
-    subst (λ ss. AreSectors c.args.bounds (map cells_of ss)) (sym c.loop-i.invariant)
-    (still_placed c.args.version.now c.args.bounds c.loop-i.i c.args.sectors.now c.args.cells.now c.requires.sectors c.requires.cells)
+pub loop-fresh-init : goal.loop-fresh-init
+loop-fresh-init c = (sym (renewed_none c.args.sectors.now), search rules, search rules, search rules)
 
 pub renew-closed-requires : goal.renew-closed-requires
 renew-closed-requires c =
-    let i = c.loop-i.i in
     let ss = c.args.sectors.now in
-    let within : i < length ss = c.loop-i-test.true in
-    let many : length ss ≡ length c.args.cells.now =
-    sym (length-map ss cells_of) ∙ c.requires.sectors.all ∙ sym c.requires.cells.all in
-    let cell = c.index-cells-i.result in
-    let these = cells_placed c.args.bounds 0 i c.args.cells.now cell c.requires.cells.each (omega (arith, within, many)) in
-    let d = c.index-sectors-i.result in
-    let place = sector_placed c.args.bounds 0 i ss d c.requires.sectors.each within in
-    let there = ap (λ (s : SectorData). s.cells) (ap (λ xs. get_or xs i d) c.loop-i.invariant ∙ next_as_before c.args.version.now ss c.args.cells.now i d) in
-    let made : c.in_ok-fresh.fresh.cells ≡ get_or c.args.cells.now i cell =
-    ap (λ f. f.cells) c.in_ok-fresh.ensures ∙ c.index-cells-i.is in (
-      ap (λ (x : SectorCells). x.bounds) made ∙ these.0 ∙ sym place.0 ∙ sym (ap (λ (x : SectorCells). x.bounds) there),
-      ap (λ (x : SectorCells). x.sector) made ∙ these.1 ∙ sym place.1 ∙ sym (ap (λ (x : SectorCells). x.sector) there),
+    let fs = c.args.fresh.items in
+    let ys = c.loop-fresh.yielded in
+    let i = length ys in
+    let f = c.in-Some.fresh in
+    let d = c.index-sectors-len.result in
+    let turn : (i < length fs) × (f ≡ get_or fs i f) = YieldsList-turn (YieldsList-from_vec {s = c.into_iter-fresh-iterator.result} fs (search rules) (search rules)) ys c.loop-fresh.fresh-iterator c.loop-fresh.yielded_by c.next.result c.next.new.self f c.in-Some.is c.next.ensures.steps in
+    let these = cells_placed c.args.bounds 0 i fs f c.requires.fresh.each turn.0 in
+    let place = sector_placed c.args.bounds 0 i ss d c.requires.sectors.each (omega (arith, turn.0, as_many_fresh c.args.bounds ss fs c.requires.sectors c.requires.fresh)) in
+    let before = still_before ss c.loop-fresh.sectors ys c.len.result d (c.len.ensures ∙ c.loop-fresh.invariant.2) c.loop-fresh.invariant.0 in (
+      ap (λ (x : FreshData). x.cells.bounds) turn.1 ∙ these.0 ∙ sym place.0 ∙ sym (ap (λ (s : SectorData). s.cells.bounds) before),
+      ap (λ (x : FreshData). x.cells.sector) turn.1 ∙ these.1 ∙ sym place.1 ∙ sym (ap (λ (s : SectorData). s.cells.sector) before),
     )
 
-pub loop-i-preserved : goal.loop-i-preserved
-loop-i-preserved c =
-    let v = c.args.version.now in
+pub loop-fresh-preserved : goal.loop-fresh-preserved
+loop-fresh-preserved c =
     let ss = c.args.sectors.now in
-    let cs = c.args.cells.now in
-    let i = c.loop-i.i in
-    let d = c.index-sectors-i.result in
-    let e = c.index-cells-i.result in
-    let within : i < length ss = c.loop-i-test.true in
-    let many : length ss ≡ length cs =
-    sym (length-map ss cells_of) ∙ c.requires.sectors.all ∙ sym c.requires.cells.all in
-    ap (λ s. set c.loop-i.sectors i s) (c.renew-closed.ensures.next ∙ ap (renewed _) (c.in_ok-fresh.ensures ∙ ap (window_over v) c.index-cells-i.is))
-    ∙ ap (λ xs. set xs i (renewed_over v (get_or xs i d) (get_or cs i e))) c.loop-i.invariant
-    ∙ ap (λ s. set (renewed_up_to v i ss cs) i (renewed_over v s (get_or cs i e))) (next_as_before v ss cs i d)
-    ∙ one_more v ss cs i d e within (omega (arith, within, many))
-    ∙ ap (λ n. renewed_up_to v n ss cs) (sym (add-one i))
-
-pub returns-clause-renewed : goal.returns-clause-renewed
-returns-clause-renewed c =
-    c.loop-i.invariant
-    ∙ renewed_all c.args.version.now c.args.sectors.now c.args.cells.now c.loop-i.i c.loop-i-test.false
+    let fs = c.args.fresh.items in
+    let ys = c.loop-fresh.yielded in
+    let i = length ys in
+    let f = c.in-Some.fresh in
+    let d = c.index-sectors-len.result in
+    let turn : (i < length fs) × (f ≡ get_or fs i f) = YieldsList-turn (YieldsList-from_vec {s = c.into_iter-fresh-iterator.result} fs (search rules) (search rules)) ys c.loop-fresh.fresh-iterator c.loop-fresh.yielded_by c.next.result c.next.new.self f c.in-Some.is c.next.ensures.steps in
+    let within : i < length ss = omega (arith, turn.0, as_many_fresh c.args.bounds ss fs c.requires.sectors c.requires.fresh) in
+    let number : c.len.result ≡ i = c.len.ensures ∙ c.loop-fresh.invariant.2 in
+    let before = still_before ss c.loop-fresh.sectors ys c.len.result d number c.loop-fresh.invariant.0 in
+    let more = length_push ys f in (
+      ap (λ s. set c.loop-fresh.sectors c.len.result s) c.renew-closed.ensures.next
+          ∙ ap (λ n. set c.loop-fresh.sectors n (renewed (get_or c.loop-fresh.sectors n d) f)) number
+          ∙ ap (λ xs. set xs i (renewed (get_or xs i d) f)) c.loop-fresh.invariant.0
+          ∙ ap (λ s. set (renewed_each ss ys) i (renewed s f)) (next_as_before ss ys d)
+          ∙ one_more ss ys f d,
+      rw (c.push_reserved.ensures.items, more) (closed_more c.loop-fresh.windows.items c.renew-closed.result ss i d within c.loop-fresh.invariant.1 (c.renew-closed.ensures.entries ∙ ap entries_of before)),
+      omega (arith, c.push_reserved.ensures.len, c.loop-fresh.invariant.2, more),
+      search rules,
+    )
 
 pub returns-clause-placed : goal.returns-clause-placed
 returns-clause-placed c =
-    subst (λ ss. AreSectors c.args.bounds (map cells_of ss)) (sym c.loop-i.invariant)
-    (still_placed c.args.version.now c.args.bounds c.loop-i.i c.args.sectors.now c.args.cells.now c.requires.sectors c.requires.cells)
+    let ss = c.args.sectors.now in
+    let fs = c.args.fresh.items in
+    let ended = YieldsList-end (YieldsList-from_vec {s = c.into_iter-fresh-iterator.result} fs (search rules) (search rules)) c.loop-fresh.yielded c.loop-fresh.fresh-iterator c.loop-fresh.yielded_by c.next.result c.next.new.self c.in-None.is c.next.ensures.steps in
+    let all : c.loop-fresh.yielded ≡ fs = sym (map-id c.loop-fresh.yielded) ∙ ended.0 in
+    let begun = ap (map cells_of) (c.loop-fresh.invariant.0 ∙ ap (renewed_each ss) all) ∙ cells_begun ss fs (as_many_fresh c.args.bounds ss fs c.requires.sectors c.requires.fresh) in
+    subst (AreSectors c.args.bounds) (sym begun) c.requires.fresh

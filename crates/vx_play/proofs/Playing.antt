@@ -40,38 +40,40 @@ part_stays f kept s seat cmd answer = elim (cases_Bool (is_recorded answer)) [ i
 pub of_found : {X : Type 0} (P : X → Type 0) (xs : List X) (k : ℕ) (x : X) → All P xs → slice_get xs k ≡ Some x → P x
 of_found P xs k x all found = subst P (get_or_from_slice_get xs k x x found) (all k x (slice_get_within xs k x found))
 
--- what a command of a seat keeps in its sector
-module _ (P : SectorData → Type 0) (kept : (s : SectorData) (seat : SeatData) (cmd : Cmd) → P s → P (sector_after s seat cmd (answer_of s seat cmd))) where
-  command_keeps_all : (play : PlayData) (seat : SeatData) (cmd : Cmd) → All P play.sectors → All P (answered play seat cmd).1
+-- what a command of a seat keeps in its sector, it keeps in all
+module _ (P : SectorData → Type 0) (seat : SeatData) (cmd : Cmd) (kept : (s : SectorData) → P s → P (sector_after s seat cmd (answer_of s seat cmd))) where
+  pub command_keeps_all : (play : PlayData) → All P play.sectors → All P (answered play seat cmd).1
   unfolding answered
-  command_keeps_all play seat cmd all = by (sector_asked play cmd)
+  command_keeps_all play all = by (sector_asked play cmd)
     where
       there : (k : ℕ) (s : Option SectorData) → slice_get play.sectors k ≡ s → All P (left_in play.sectors k seat cmd s)
       there k None found = all
-      there k (Some s) found = All-set P play.sectors k _ (kept s seat cmd (of_found P play.sectors k s all found)) all
+      there k (Some s) found = All-set P play.sectors k _ (kept s (of_found P play.sectors k s all found)) all
 
       by : (k : Option ℕ) → All P (answered_at play.sectors seat cmd k).1
       by None = all
       by (Some k) = there k (slice_get play.sectors k) refl
 
+-- what each command keeps
+module _ (P : SectorData → Type 0) (kept : (s : SectorData) (seat : SeatData) (cmd : Cmd) → P s → P (sector_after s seat cmd (answer_of s seat cmd))) where
   -- it holds until the next tick
   until_the_next_tick : (play : PlayData) (steps : List Step) → ticks_of steps ≡ 0 → All P play.sectors → All P (played play steps).sectors
   until_the_next_tick play [] none all = all
-  until_the_next_tick play (Command seat cmd ∷ steps) none all = until_the_next_tick (after_step play (Command seat cmd)) steps none (command_keeps_all play seat cmd all)
+  until_the_next_tick play (Command seat cmd ∷ steps) none all = until_the_next_tick (after_step play (Command seat cmd)) steps none (command_keeps_all P seat cmd (λ s. kept s seat cmd) play all)
   until_the_next_tick play (Accepted edit ∷ steps) none all = until_the_next_tick (after_step play (Accepted edit)) steps none all
   until_the_next_tick play (Tick ∷ steps) none all = cc
 
   -- and for ever, where ticks keep it too
   for_ever : ((version : Version) (s : SectorData) (cells : SectorCells) → P s → P (renewed_over version s cells)) → (play : PlayData) (steps : List Step) → All P play.sectors → All P (played play steps).sectors
   for_ever by_ticks play [] all = all
-  for_ever by_ticks play (Command seat cmd ∷ steps) all = for_ever by_ticks (after_step play (Command seat cmd)) steps (command_keeps_all play seat cmd all)
+  for_ever by_ticks play (Command seat cmd ∷ steps) all = for_ever by_ticks (after_step play (Command seat cmd)) steps (command_keeps_all P seat cmd (λ s. kept s seat cmd) play all)
   for_ever by_ticks play (Accepted edit ∷ steps) all = for_ever by_ticks (after_step play (Accepted edit)) steps all
   for_ever by_ticks play (Tick ∷ steps) all =
       for_ever by_ticks (after_step play Tick) steps (all_bring (next_version play) P P (by_ticks (next_version play)) play.sectors (next_map play).sectors all)
 
 -- a part of each sector that no entry changes is as it was until the next tick
 module _ {X : Type 0} (f : SectorData → X) (kept : (s : SectorData) (entry : EntryData) → f (recorded s entry) ≡ f s) where
-  command_leaves : (play : PlayData) (seat : SeatData) (cmd : Cmd) → map f (answered play seat cmd).1 ≡ map f play.sectors
+  pub command_leaves : (play : PlayData) (seat : SeatData) (cmd : Cmd) → map f (answered play seat cmd).1 ≡ map f play.sectors
   unfolding answered
   command_leaves play seat cmd = by (sector_asked play cmd)
     where
@@ -136,10 +138,10 @@ fixed_by_the_tick rs terrain names before =
     λ i. record { tick = tick i; edits = length (counted.1 i); policy = after (first_kept play before i) (counted.1 i) }
 
 -- a command keeps the version of its sector
-judged_as_before : (version : Version) (s : SectorData) (seat : SeatData) (cmd : Cmd) → s.version ≡ version → (sector_after s seat cmd (answer_of s seat cmd)).version ≡ version
+pub judged_as_before : (version : Version) (s : SectorData) (seat : SeatData) (cmd : Cmd) → s.version ≡ version → (sector_after s seat cmd (answer_of s seat cmd)).version ≡ version
 judged_as_before version s seat cmd is = part_stays (λ (r : SectorData). r.version) (λ s entry. refl) s seat cmd _ ∙ is
 
-renewed_version : (version : Version) (s : SectorData) (cells : SectorCells) → (renewed_over version s cells).version ≡ version
+pub renewed_version : (version : Version) (s : SectorData) (cells : SectorCells) → (renewed_over version s cells).version ≡ version
 unfolding renewed
 renewed_version version s cells = refl
 
@@ -182,10 +184,10 @@ edits_count_from_the_next_tick rs terrain names before since none =
     (judged_on next (ticked play) since none
     (subst (λ version. AreJudgedBy version (ticked play)) (fixed_by_the_tick rs terrain names before) (judged_after_the_tick play)))
 
-first_is_sector : (rs : Regions) (cells : SectorCells) → IsSector (opened_with rs cells)
+pub first_is_sector : (rs : Regions) (cells : SectorCells) → IsSector (opened_with rs cells)
 first_is_sector rs cells = record { window = tt; cells = refl; most = lit≤ tt }
 
-renewed_is_sector : (version : Version) (s : SectorData) (cells : SectorCells) → IsSector s
+pub renewed_is_sector : (version : Version) (s : SectorData) (cells : SectorCells) → IsSector s
     → IsSector (renewed_over version s cells)
 unfolding renewed
 renewed_is_sector version s cells sector = record { window = tt; cells = refl; most = omega (arith, sector.most) }
@@ -195,7 +197,7 @@ records_are_windows rs terrain names steps =
     for_ever IsSector command_keeps_sector renewed_is_sector (opened rs terrain names) steps
     (All-map IsSector (opened_with rs) terrain.sectors (λ k d within. first_is_sector rs _))
 
-bases_opened : (rs : Regions) (cs : List SectorCells) → map base_of (map (opened_with rs) cs) ≡ cs
+pub bases_opened : (rs : Regions) (cs : List SectorCells) → map base_of (map (opened_with rs) cs) ≡ cs
 bases_opened rs [] = refl
 bases_opened rs (c ∷ cs) = ap (λ ds. c ∷ ds) (bases_opened rs cs)
 

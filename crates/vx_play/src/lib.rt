@@ -9,6 +9,6 @@ mod tick_error;
 mod ticked;
 
 pub use names::number_of;
-pub use play::{MAX_PLAYERS, Play};
+pub use play::{MAX_PLAYERS, MAX_TICKS, Play};
 pub use tick_error::TickError;
 pub use ticked::Ticked;

@@ -19,7 +19,7 @@ use vx_step::{Fate, step_owned};
 pub const MAX_PLAYERS: usize = 16;
 
 /// How many ticks a world may have.
-const MAX_TICKS: u64 = 1_099_511_627_776;
+pub const MAX_TICKS: u64 = 1_099_511_627_776;
 
 /// A world at play: its sectors in their places, its players in order of their seats, and the desk
 /// where its policy is edited.

@@ -1,0 +1,3 @@
+pub mod Growing
+pub mod Recording
+pub mod Soundness

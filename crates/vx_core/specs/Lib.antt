@@ -1,0 +1,7 @@
+pub mod Chronicles
+pub mod Events
+pub mod Laws
+pub mod Machines
+pub mod Openings
+pub mod Owners
+pub mod Records

@@ -1,0 +1,109 @@
+-- What may change a world, in the words of those who own plots in it.
+use Rattle.std.specs.Prelude.{◌≡◌, ◌⊎◌, ◌↔◌, ℕ, true, false, List, ◌∷◌, ◌++◌, Some, Ok, Err}
+use Rattle.vx_geom.specs.declared.pos.Pos.{Pos}
+use Rattle.vx_block.specs.declared.cell.Cell.{Cell}
+use Rattle.vx_block.specs.declared.cell.Cell.TheVariants.{Dust, Torch, Lever, Repeater, Lamp}
+use Rattle.vx_block.specs.declared.lamp.Lamp.TheVariants as lamp
+use Rattle.vx_cells.specs.MapLaws.{block_on, IsFilled}
+use Rattle.vx_cells.specs.Maps.{MapData, cell_on}
+use Rattle.vx_cells.specs.SectorCells.{Block}
+use Rattle.vx_flag.specs.declared.action.Action.{Action}
+use Rattle.vx_decide.specs.declared.rule.Rule.{Rule}
+use Rattle.vx_decide.specs.declared.verdict.Verdict.TheVariants.{Permit, Deny}
+use Rattle.vx_power.specs.Laws.{dust_level}
+use Rattle.vx_power.specs.Walks.{IsAmong}
+use Rattle.vx_piston.specs.Moves.{Moving, candidate}
+use Rattle.vx_cause.specs.Judging.{pushing_verdict}
+use Rattle.vx_cause.specs.Laws.{IsPermit, IsFirstDenied}
+use Rattle.vx_sector.specs.Acting.{judged}
+use Rattle.vx_sector.specs.Commands.{place_of, action_of}
+use Rattle.vx_sector.specs.SectorData.{EntryData}
+use Rattle.vx_sector.specs.declared.refusal.Refusal.TheVariants as refusal
+use Rattle.vx_sector.specs.declared.reply.Reply.TheVariants.{Done}
+use Rattle.vx_step.specs.declared.fate.Fate.TheVariants.{Moved, Denied}
+use Rattle.vx_core.specs.Chronicles.{TickData, ChronicleData, IsSeatOf, IsRun, map_acted, map_ticked, map_after}
+
+-- a cell as it was built, whatever signals it gets
+abbrev pub built : Cell → Cell
+built (Dust level) = Dust 0
+built (Torch facing lit) = Torch facing true
+built (Lever facing on) = Lever facing false
+built (Repeater r) = Repeater (record r { on = false; wait = 0 })
+built (Lamp state) = Lamp lamp.Off
+built other = other
+
+-- what stands at a position, whatever signals it gets, and the slots of a chest
+abbrev pub standing : MapData → Pos → Block
+standing m p = record (block_on m p) { cell = built (block_on m p).cell }
+
+-- a tick of a run, and those before it
+pub record IsTickOf (c : ChronicleData) (before : List TickData) (tick : TickData) : Type 0 where
+  pub later : List TickData
+  pub all : c.ticks ≡ before ++ tick ∷ later
+  pub run : IsRun c
+  pub filled : IsFilled c.opening.terrain
+
+-- the map on which a tick's windows begin
+abbrev pub map_before : ChronicleData → List TickData → MapData
+map_before c before = map_after c.opening.terrain before
+
+-- the entry is on record in a window of the tick
+pub record IsRecorded (tick : TickData) (entry : EntryData) : Type 0 where
+  pub window : List EntryData
+  pub there : IsAmong tick.windows window
+  pub among : IsAmong window entry
+
+-- a player did something at p that is on record: the policy of the tick permits the player the
+-- action at that place, by the rule that was told
+pub record IsByCommand (names : List (List ℕ)) (tick : TickData) (p : Pos) : Type 0 where
+  pub entry : EntryData
+  pub recorded : IsRecorded tick entry
+  pub seat : IsSeatOf names entry.seat
+  pub place : place_of entry.cmd ≡ p
+  pub rule : Rule
+  pub told : entry.answer ≡ Ok (Done rule)
+  pub action : Action
+  pub asked : action_of entry.cmd ≡ Some action
+  pub permitted : judged tick.version.policy entry.seat action p ≡ Permit rule
+
+-- the move that a piston asks for as the machines begin
+abbrev pub IsAskedOn : MapData → Moving → Type 0
+IsAskedOn m move = candidate m (dust_level (cell_on m)) move.at ≡ Some move
+
+-- a machine's move that was made took the cell at p: the policy of the tick permits the machine
+-- each of its cells
+pub record IsByMove (m : MapData) (tick : TickData) (p : Pos) : Type 0 where
+  pub move : Moving
+  pub asked : IsAskedOn (map_acted m tick) move
+  pub told : IsAmong tick.fates (move.at, Moved)
+  pub taken : IsAmong move.cells p
+  pub permitted : (q : Pos) → IsAmong move.cells q
+      → IsPermit (pushing_verdict tick.version.policy move.at q)
+
+-- what stands at a place, and what a chest there holds, changes in a tick only by a player's
+-- command that the policy of the tick permits to that player there, or by a machine's move all of
+-- whose cells it permits to that machine
+abbrev pub ChangesHaveLeave : Type 0
+ChangesHaveLeave = (c : ChronicleData) (before : List TickData) (tick : TickData) (p : Pos)
+    → IsTickOf c before tick → let m = map_before c before in
+    (standing (map_ticked m tick) p ≡ standing m p)
+    ⊎ (IsByCommand c.opening.names tick p ⊎ IsByMove m tick p)
+
+-- a command on record is denied by a rule exactly where the policy of the tick denies its player
+-- the action at that place, by that rule
+abbrev pub CommandsDeniedByThePolicy : Type 0
+CommandsDeniedByThePolicy = (c : ChronicleData) (before : List TickData) (tick : TickData)
+    (entry : EntryData) (rule : Rule) → IsTickOf c before tick → IsRecorded tick entry
+    → (entry.answer ≡ Err (refusal.Denied rule))
+    ↔ ((action : Action) × (action_of entry.cmd ≡ Some action)
+    × (judged tick.version.policy entry.seat action (place_of entry.cmd) ≡ Deny rule))
+
+-- a piston's move is told as denied at a cell by a rule exactly where it asks for the move as the
+-- machines begin, and that is the first of its cells that the policy of the tick denies to it, by
+-- that rule
+abbrev pub MovesDeniedByThePolicy : Type 0
+MovesDeniedByThePolicy = (c : ChronicleData) (before : List TickData) (tick : TickData)
+    (q p : Pos) (rule : Rule) → IsTickOf c before tick
+    → IsAmong tick.fates (q, Denied p rule)
+    ↔ ((move : Moving) × (move.at ≡ q) × IsAskedOn (map_acted (map_before c before) tick) move
+    × IsFirstDenied tick.version.policy q move.cells p rule)

@@ -1,0 +1,50 @@
+ghost use Rattle.std.specs.Prelude.{◌≡◌, map, IfOk};
+ghost use Rattle.vx_policy.specs.Asked.{asked};
+ghost use Rattle.vx_core.specs.Events.{happening};
+ghost use Rattle.vx_core.specs.Machines.{run, chronicle_of};
+ghost use Rattle.vx_core.specs.Records.{chronicle_in};
+
+use crate::core_state::Core;
+use crate::event::Event;
+use crate::machine::Machine;
+use crate::opening::Opening;
+use std::alloc::{AllocError, Global};
+use std::marker::Brand;
+use vx_board::Naming;
+
+/// What stands after these events, one after another, in the world of this opening. An event that
+/// may not happen as things are then changes nothing.
+pub fn run_core(alloc: Global, opening: &Opening, events: &[Event]) -> Result<Core, AllocError>
+    ensures chronicle { IfOk result (λ core.
+        chronicle_in core.chronicle ≡ chronicle_of opening.now (map happening events.now)) }
+    ensures edits { IfOk result (λ core.
+        map asked core.edits.items ≡ (run opening.now (map happening events.now)).play.accepted) }
+    ensures sectors { IfOk result (λ core.
+        core.sectors.items ≡ (run opening.now (map happening events.now)).play.sectors) }
+    ensures stages { IfOk result (λ core.
+        core.stages.items ≡ (run opening.now (map happening events.now)).stages) }
+{
+    run_named::<Brand>(alloc, opening, events)
+}
+
+fn run_named<J: Naming>(
+    alloc: Global,
+    opening: &Opening,
+    events: &[Event],
+) -> Result<Core, AllocError>
+    requires named { opening.now.policy ≡ J.first }
+    ensures chronicle { IfOk result (λ core.
+        chronicle_in core.chronicle ≡ chronicle_of opening.now (map happening events.now)) }
+    ensures edits { IfOk result (λ core.
+        map asked core.edits.items ≡ (run opening.now (map happening events.now)).play.accepted) }
+    ensures sectors { IfOk result (λ core.
+        core.sectors.items ≡ (run opening.now (map happening events.now)).play.sectors) }
+    ensures stages { IfOk result (λ core.
+        core.stages.items ≡ (run opening.now (map happening events.now)).stages) }
+{
+    let mut machine = Machine::<J>::open(alloc, opening)?;
+    for event in events {
+        machine.take(alloc, event)?;
+    }
+    machine.into_core(alloc, opening)
+}

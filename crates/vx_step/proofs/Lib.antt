@@ -1,6 +1,9 @@
 pub mod Advancing
 pub mod Asking
+pub mod Dividing
+pub mod Gathering
 pub mod InOrder
+pub mod Joining
 pub mod Making
 pub mod Movers
 pub mod OneTick
@@ -8,4 +11,5 @@ pub mod Pairs
 pub mod PutDown
 pub mod Permitting
 pub mod Puts
+pub mod Sharing
 pub mod Told

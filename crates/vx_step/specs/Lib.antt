@@ -1,4 +1,5 @@
 pub mod Fates
 pub mod Laws
 pub mod Pairing
+pub mod Pieces
 pub mod Ticks

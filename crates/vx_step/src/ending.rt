@@ -23,13 +23,26 @@ pub fn fates<D: Decide>(
     ensures { IfOk result (λ fates. AreFates (D.policy policy.now) moves.now moves.now fates.items) }
 {
     let denials = denials(alloc, policy, moves)?;
-    let mut claims = Claims::new(alloc);
-    add_permitted(&mut claims, moves, denials.as_slice())?;
-    ended(alloc, &claims, moves, denials.as_slice())
+    fates_by(alloc, moves, denials.as_slice())
 }
 
-// What denies each of the moves, if anything does.
-fn denials<D: Decide>(
+/// The same by what denies each of the moves.
+pub fn fates_by(
+    alloc: Global,
+    moves: &[Move],
+    denials: &[Option<(Pos, Rule)>],
+) -> Result<Vec<(Pos, Fate)>, AllocError>
+    requires each { length denials.now ≡ length moves.now }
+    ensures { IfOk result (λ fates. (rs : Regions) → denials.now ≡ map (denial rs) moves.now
+        → AreFates rs moves.now moves.now fates.items) }
+{
+    let mut claims = Claims::new(alloc);
+    add_permitted(&mut claims, moves, denials)?;
+    ended(alloc, &claims, moves, denials)
+}
+
+/// What denies each of the moves, if anything does.
+pub fn denials<D: Decide>(
     alloc: Global,
     policy: &D,
     moves: &[Move],

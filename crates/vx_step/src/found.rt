@@ -1,11 +1,10 @@
-ghost use Rattle.std.specs.Prelude.{◌≡◌, ◌<◌, ◌++◌, IfOk, OnOk};
-ghost use Rattle.vx_cells.specs.Maps.{cell_on};
+ghost use Rattle.std.specs.Prelude.{◌≡◌, ◌<◌, IfOk};
+ghost use Rattle.vx_cells.specs.Maps.{MapData};
 ghost use Rattle.vx_geom.specs.Places.{positions};
 ghost use Rattle.vx_geom.specs.Sizes.{sector_count};
-ghost use Rattle.vx_part.specs.Changes.{changes};
-ghost use Rattle.vx_power.specs.Laws.{dust_level};
 ghost use Rattle.vx_power.specs.Levels.{level_in, AreAllLevels};
-ghost use Rattle.vx_step.specs.Ticks.{asked, changed_up_to, AreMoves};
+ghost use Rattle.vx_step.specs.Pieces.{asked_in, changed_in};
+ghost use Rattle.vx_step.specs.Ticks.{asked, asked_up_to, changed_up_to, AreMoves};
 
 use std::alloc::{AllocError, Global};
 use vx_block::Cell;
@@ -15,57 +14,61 @@ use vx_part::next_parts;
 use vx_piston::{Move, candidate};
 use vx_power::{Levels, all_levels};
 
-/// What a tick finds on a map as it begins.
+/// What a tick finds on a map as it begins, or in a part of it.
 #[derive(Drop)]
 pub struct Found {
     /// The cells that are others when each component has become its next part.
     pub changes: Vec<(Pos, Cell)>,
-    /// The moves that pistons ask for, in the order of the pistons' positions.
+    /// The moves that pistons ask for.
     pub moves: Vec<Move>,
 }
 
 impl Found {
-    /// What a tick finds on a map. It costs what the components of the map are, and the dust
-    /// that has power.
+    /// What a tick finds on a map, with the moves in the order of the pistons' positions. It costs
+    /// what the components of the map are, and the dust that has power.
     pub fn on(alloc: Global, map: &Frozen<'_>) -> Result<Found, AllocError>
         ensures changes { IfOk result (λ found.
             found.changes.items ≡ changed_up_to map.now (sector_count map.now.sizes)) }
         ensures moves { IfOk result (λ found. AreMoves map.now found.moves.items) }
     {
         let levels = all_levels(alloc, map)?;
-        let mut found = Found {
-            changes: Vec::new(alloc),
-            moves: Vec::new(alloc),
-        };
+        let mut changes = Vec::new(alloc);
+        let mut moves = Vec::new(alloc);
         for sector in 0..map.bounds().sectors() {
-            found.add(alloc, map, &levels, sector)?;
+            let mut found = Found::in_sector(alloc, map, &levels, sector)?;
+            changes.append(&mut found.changes)?;
+            moves.append(&mut found.moves)?;
         }
-        found.moves.sort_unstable_by_key(|m| m.at);
-        Ok(found)
+        sort(&mut moves);
+        Ok(Found { changes, moves })
     }
 
-    // Adds what the tick finds in a sector.
-    fn add(
-        &mut self,
+    /// What a tick finds in a sector, with the moves in the order of its positions, by the levels
+    /// of all dust of the map.
+    pub fn in_sector(
         alloc: Global,
         map: &Frozen<'_>,
         levels: &Levels,
         sector: u32,
-    ) -> Result<(), AllocError>
+    ) -> Result<Found, AllocError>
         requires there { sector < sector_count map.now.sizes }
         requires levels { AreAllLevels map.now (level_in levels.now) }
-        ensures changes { OnOk result (self.new.changes.items ≡ self.old.changes.items
-            ++ changes (cell_on map.now) (dust_level (cell_on map.now))
-            (positions map.now.sizes sector)) }
-        ensures moves { OnOk result (self.new.moves.items ≡ self.old.moves.items
-            ++ asked map.now (dust_level (cell_on map.now)) (positions map.now.sizes sector)) }
+        ensures changes { IfOk result (λ found.
+            found.changes.items ≡ changed_in map.now sector) }
+        ensures moves { IfOk result (λ found. found.moves.items ≡ asked_in map.now sector) }
     {
-        let mut changes = next_parts(alloc, map, levels, sector)?;
-        let mut moves = moves_in(alloc, map, levels, sector)?;
-        self.changes.append(&mut changes)?;
-        self.moves.append(&mut moves)?;
-        Ok(())
+        let changes = next_parts(alloc, map, levels, sector)?;
+        let moves = moves_in(alloc, map, levels, sector)?;
+        Ok(Found { changes, moves })
     }
+}
+
+/// Brings moves into the order of their pistons' positions.
+pub fn sort(moves: &mut Vec<Move>)
+    ensures { (map : MapData) → moves.old.items ≡ asked_up_to map (sector_count map.sizes)
+        → AreMoves map moves.new.items }
+{
+    moves.sort_unstable_by_key(|m| m.at);
 }
 
 // The moves that pistons of a sector ask for, in order.

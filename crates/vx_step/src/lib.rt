@@ -2,14 +2,29 @@
 //! no other piston has the cells.
 #![tactic(auto)]
 
+mod cells_work;
 mod effects;
 mod ending;
 mod fate;
+mod fates_work;
 mod found;
+mod gate;
 mod laws;
+mod no_gate;
+mod parts;
+mod parts_work;
+mod phase;
+mod point;
+mod shares;
 mod stepping;
+mod work;
 
 pub use ending::fates;
 pub use fate::Fate;
+pub use gate::Gate;
 pub use laws::{heads_stay_with_pistons, parts_become_next, there_is_one_tick, ticks_by_position};
+pub use no_gate::NoGate;
+pub use parts::step_parts;
+pub use phase::Phase;
+pub use point::Point;
 pub use stepping::{step_owned, step_plain};

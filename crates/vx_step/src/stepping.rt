@@ -12,6 +12,7 @@ use std::alloc::{AllocError, Global};
 use vx_cells::Whole;
 use vx_decide::Plain;
 use vx_geom::Pos;
+use vx_piston::Move;
 use vx_policy::Version;
 
 /// The map after a tick that this version of the policy judges, and what became of the moves that
@@ -72,7 +73,23 @@ fn stepped(
 {
     let mut next = map;
     next.set_all(found.changes.as_slice())?;
-    let cells = put_down(alloc, &next.frozen(), found.moves.as_slice(), fates)?;
-    next.set_all(cells.as_slice())?;
-    Ok(next)
+    moved(alloc, next, found.moves.as_slice(), fates)
+}
+
+/// A map on which each component has become its next part, after the moves with these fates: what
+/// they put down is told by the map before any of it is put down.
+pub fn moved(
+    alloc: Global,
+    map: Whole,
+    moves: &[Move],
+    fates: &[(Pos, Fate)],
+) -> Result<Whole, AllocError>
+    requires each { length fates.now ≡ length moves.now }
+    ensures { IfOk result (λ after.
+        after ≡ with_cells_on map (put_down (cell_on map) moves.now fates.now)) }
+{
+    let cells = put_down(alloc, &map.frozen(), moves, fates)?;
+    let mut after = map;
+    after.set_all(cells.as_slice())?;
+    Ok(after)
 }

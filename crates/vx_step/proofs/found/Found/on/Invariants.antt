@@ -5,6 +5,6 @@ use Rattle.vx_step.proofs.found.Found.on.Given as goal
 -- what was found in the sectors so far
 abbrev pub invariant-loop-sector : goal.invariant-loop-sector
 invariant-loop-sector l = record {
-  changes : l.found.changes.items ≡ changed_up_to l.map l.sector;
-  moves : l.found.moves.items ≡ asked_up_to l.map l.sector;
+  changes : l.changes.items ≡ changed_up_to l.map l.sector;
+  moves : l.moves.items ≡ asked_up_to l.map l.sector;
 }

@@ -1,0 +1,97 @@
+//! Work shared among threads.
+ghost use Rattle.std.specs.Prelude.{◌≡◌, ◌<◌, ◌≤◌, ◌+◌, ℕ, length, slice_index_or, IfOk};
+ghost use Rattle.std.specs.List.{between};
+ghost use Rattle.vx_step.specs.Pieces.{first_of, AreFromTo, IsShare};
+
+use crate::gate::Gate;
+use crate::point::Point;
+use crate::work::Work;
+use std::alloc::{AllocError, Global};
+use std::thread;
+use std::thread::Threads;
+
+/// The pieces of all sectors.
+pub fn in_parts<R: Threads + Sync, W: Work + Sync, G: Gate + Sync>(
+    rt: &R,
+    alloc: Global,
+    work: &W,
+    workers: usize,
+    gate: &G,
+) -> Result<Vec<W::Out>, AllocError>
+where
+    W::Out: Send + Drop,
+    requires workers { (0 < workers) × (workers ≤ 8) }
+    ensures { IfOk result (λ outs.
+        AreFromTo (W.gives work.now) 0 (W.count work.now) outs.items) }
+{
+    let shares = shares(rt, alloc, work, workers, gate)?;
+    let mut all = Vec::new(alloc);
+    for share in shares {
+        all.append(&mut share?)?;
+    }
+    Ok(all)
+}
+
+// What each worker gives.
+fn shares<R: Threads + Sync, W: Work + Sync, G: Gate + Sync>(
+    rt: &R,
+    alloc: Global,
+    work: &W,
+    workers: usize,
+    gate: &G,
+) -> Result<Vec<Result<Vec<W::Out>, AllocError>>, AllocError>
+where
+    W::Out: Send + Drop,
+    requires workers { (0 < workers) × (workers ≤ 8) }
+    ensures all { IfOk result (λ shares. length shares.items ≡ workers) }
+    ensures each { IfOk result (λ shares. (i : ℕ) (d : _) → i < workers
+        → IfOk (slice_index_or shares.items i d) (λ outs.
+        IsShare (W.gives work.now) (W.count work.now) workers i outs.items)) }
+{
+    thread::map_indices(
+        rt,
+        alloc,
+        workers,
+        &|worker| share(alloc, work, workers, worker, gate),
+    )
+}
+
+// What one worker gives.
+fn share<W: Work, G: Gate>(
+    alloc: Global,
+    work: &W,
+    workers: usize,
+    worker: usize,
+    gate: &G,
+) -> Result<Vec<W::Out>, AllocError>
+where
+    W::Out: Drop,
+    requires workers { (worker < workers) × (workers ≤ 8) }
+    ensures { IfOk result (λ outs.
+        IsShare (W.gives work.now) (W.count work.now) workers worker outs.items) }
+{
+    let count = work.sectors() as usize;
+    let mut outs = Vec::new(alloc);
+    for sector in first_of(count, workers, worker)..first_of(count, workers, worker + 1) {
+        gate.at(sector as u32, Point::Working(work.phase()));
+        outs.push(work.piece(alloc, sector as u32)?)?;
+    }
+    Ok(outs)
+}
+
+/// The part of that number of so many even parts of some items.
+pub fn part_of<T>(items: &[T], parts: usize, part: usize) -> &[T]
+    requires { part < parts }
+    ensures { result.now ≡ between (first_of (length items.now) parts part)
+        (first_of (length items.now) parts (part + 1)) items.now }
+{
+    &items[first_of(items.len(), parts, part)..first_of(items.len(), parts, part + 1)]
+}
+
+// Where a part begins, where so many are divided among so many parts.
+fn first_of(count: usize, parts: usize, part: usize) -> usize
+    requires { (0 < parts) × (part ≤ parts) }
+    ensures { result ≡ first_of count parts part }
+{
+    (part as u128 * count as u128 / parts as u128) as usize
+}

@@ -1,12 +1,12 @@
 -- What stands in the cells of the moves of a tick, and in all others.
-use Rattle.std.proofs.Common.{◌≡◌, ℕ, zero, suc, ◌<◌, false, inl, inr, List, [], ◌∷◌, ◌++◌, length, get_or, slice_get, zip, Option, Some, None, refl, sym, ap, ◌∙◌, subst, arith}
+use Rattle.std.proofs.Common.{◌≡◌, ℕ, zero, suc, ◌<◌, false, inl, inr, List, [], ◌∷◌, ◌++◌, true, length, get_or, slice_get, zip, Option, Some, None, refl, sym, ap, ◌∙◌, subst, arith}
 use Rattle.std.specs.List.{All}
-use Rattle.std.proofs.lemmas.Bool.{both_ways, false≢true}
+use Rattle.std.proofs.lemmas.Bool.{both_ways, cases_eq, false≢true}
 use Rattle.std.proofs.lemmas.List.Elements.{All-head, All-tail}
-use Rattle.std.proofs.lemmas.List.Sorted.{All-permutation}
+use Rattle.std.proofs.lemmas.List.Sorted.{All-permutation, IsPermutation-sym}
 use Rattle.vx_geom.specs.declared.pos.Pos.{Pos}
 use Rattle.vx_geom.specs.Places.{positions}
-use Rattle.vx_geom.specs.Sizes.{is_inside, sector_count}
+use Rattle.vx_geom.specs.Sizes.{is_inside, sector_number, sector_count}
 use Rattle.vx_block.specs.declared.cell.Cell.{Cell}
 use Rattle.vx_cells.specs.MapLaws.{block_on, IsFilled}
 use Rattle.vx_cells.specs.Maps.{MapData, cell_on}
@@ -14,6 +14,8 @@ use Rattle.vx_cells.specs.SectorCells.{placed}
 use Rattle.vx_power.specs.Laws.{dust_level}
 use Rattle.vx_power.specs.Levels.{has}
 use Rattle.vx_power.specs.Walks.{IsAmong}
+use Rattle.vx_cells.proofs.Indices.{numbered, number_below}
+use Rattle.vx_power.proofs.Feeding.{is_listed}
 use Rattle.vx_power.proofs.Having.{has_from}
 use Rattle.vx_power.proofs.Linking.{among_either, among_left, among_right}
 use Rattle.vx_piston.specs.Claims.{IsBeatenBy}
@@ -26,7 +28,7 @@ use Rattle.vx_cause.proofs.Made.{moved_are_apart}
 use Rattle.vx_step.specs.declared.fate.Fate.{Fate}
 use Rattle.vx_step.specs.declared.fate.Fate.TheVariants.{Moved, Denied, Beaten}
 use Rattle.vx_step.specs.Fates.{IsFate, AreFates}
-use Rattle.vx_step.specs.Laws.{OfTicks, StaysFilled, MovesAreAsked, OthersStay, MadeArePut}
+use Rattle.vx_step.specs.Laws.{OfTicks, StaysFilled, MovesAreAsked, AskedAreMoves, OthersStay, MadeArePut}
 use Rattle.vx_step.specs.Ticks.{asked_before, asked, asked_up_to, changed_up_to, advanced, moved_cells, effects, effects_by, put_down, IsTick}
 use Rattle.vx_step.proofs.Puts.{cases_place, puts_filled, none_put, all_put}
 
@@ -103,6 +105,47 @@ moves_are_asked rs m next fates tick filled move among =
     of_each P tick.moves move
     (All-permutation P (asked_up_to m (sector_count m.sizes)) tick.moves tick.asked.all
     (λ i d low. asks_up_to m (sector_count m.sizes) _ (element _ i d low))) among
+
+-- what a piston asks for is among what all ask for
+module _ (m : MapData) (filled : IsFilled m) (move : Moving)
+    (is : candidate m (dust_level (cell_on m)) move.at ≡ Some move) where
+  still_among : (o : Option Moving) (moves : List Moving) → IsAmong moves move → IsAmong (asked_before o moves) move
+  still_among None moves among = among
+  still_among (Some other) moves among = inr among
+
+  asked_here : (ps : List Pos) → IsAmong ps move.at → IsAmong (asked m (dust_level (cell_on m)) ps) move
+  asked_here [] among = absurd among
+  asked_here (p ∷ ps) (inl same) =
+      subst (λ o. IsAmong (asked_before o (asked m (dust_level (cell_on m)) ps)) move)
+      (sym (ap (candidate m (dust_level (cell_on m))) same ∙ is)) (inl refl)
+  asked_here (p ∷ ps) (inr further) =
+      still_among (candidate m (dust_level (cell_on m)) p) (asked m (dust_level (cell_on m)) ps) (asked_here ps further)
+
+  asked_up_to_there : (n k : ℕ) → k < n → IsAmong (positions m.sizes k) move.at → IsAmong (asked_up_to m n) move
+  asked_up_to_there zero k low among = absurd (omega arith)
+  asked_up_to_there (suc n) k low among = elim (cases_eq k n) [
+    | inl same ↦
+        among_right (asked_up_to m n) _ move
+        (asked_here (positions m.sizes n) (subst (λ j. IsAmong (positions m.sizes j) move.at) same among))
+    | inr other ↦ among_left (asked_up_to m n) _ move (asked_up_to_there n k (omega (arith, low)) among)
+  ]
+
+  asked_of_all : IsAmong (asked_up_to m (sector_count m.sizes)) move
+  asked_of_all =
+      let own = begins m (dust_level (cell_on m)) move.at move is in
+      let there : is_inside m.sizes move.at ≡ true =
+      inside m (dust_level (cell_on m)) move.at move is move.at (subst (λ ps. IsAmong ps move.at) (sym own.2) (inl refl)) in
+      let low = number_below m.sizes move.at filled.map.valid there in
+      asked_up_to_there (sector_count m.sizes) (sector_number m.sizes move.at) low
+      (is_listed m.sizes move.at (sector_number m.sizes move.at) filled.map.valid there (numbered m.sizes move.at there) low)
+
+pub asked_are_moves : OfTicks AskedAreMoves
+asked_are_moves rs m next fates tick filled move is =
+    let P = λ (other : Moving). IsAmong tick.moves other in
+    let all = asked_up_to m (sector_count m.sizes) in
+    of_each P all move
+    (All-permutation P tick.moves all (IsPermutation-sym all tick.moves tick.asked.all)
+    (λ i d low. element tick.moves i _ low)) (asked_of_all m filled move is)
 
 -- a move that is permitted and not beaten has no other fate than to be made
 module _ (rs : Regions) (all : List Moving) where

@@ -45,6 +45,12 @@ abbrev pub MovesAreAsked : (rs : Regions) (m next : MapData) (fates : List (Pos 
 MovesAreAsked rs m next fates tick = (move : Moving) → IsAmong tick.moves move
     → candidate m (dust_level (cell_on m)) move.at ≡ Some move
 
+-- and each that a piston asks for is one of its moves
+abbrev pub AskedAreMoves : (rs : Regions) (m next : MapData) (fates : List (Pos × Fate))
+    → IsTick rs m next fates → Type 0
+AskedAreMoves rs m next fates tick = (move : Moving)
+    → candidate m (dust_level (cell_on m)) move.at ≡ Some move → IsAmong tick.moves move
+
 -- where no move that is made takes a cell, there stands what the parts have become
 abbrev pub OthersStay : (rs : Regions) (m next : MapData) (fates : List (Pos × Fate))
     → IsTick rs m next fates → Type 0

@@ -1,4 +1,4 @@
-ghost use Rattle.vx_step.specs.Laws.{PartsBecomeNext, UnchangedStay, OfTicks, StaysFilled, MovesAreAsked, OthersStay, MadeArePut, TickIsStepped, SteppedIsTick, StepsKeepMaps};
+ghost use Rattle.vx_step.specs.Laws.{PartsBecomeNext, UnchangedStay, OfTicks, StaysFilled, MovesAreAsked, AskedAreMoves, OthersStay, MadeArePut, TickIsStepped, SteppedIsTick, StepsKeepMaps};
 ghost use Rattle.vx_step.specs.Pairing.{StaysPaired};
 
 /// Before any move is made, each component of a map has become its next part, by the cells and
@@ -8,12 +8,13 @@ pub fn parts_become_next()
     ensures others { UnchangedStay }
 {}
 
-/// A tick, position by position: each move is what the piston there asks for; in the cells of those
+/// A tick, position by position: its moves are those that pistons ask for; in the cells of those
 /// that are made stands what they put there, and in all others what the parts have become. The
 /// world stays as large.
 pub fn ticks_by_position()
     ensures filled { OfTicks StaysFilled }
     ensures asked { OfTicks MovesAreAsked }
+    ensures all { OfTicks AskedAreMoves }
     ensures others { OfTicks OthersStay }
     ensures made { OfTicks MadeArePut }
 {}

@@ -1,11 +1,10 @@
 -- Ticks one more, and edits one more.
-use Rattle.std.proofs.Common.{◌≡◌, ℕ, zero, suc, ◌+◌, ◌≤◌, List, [], ◌∷◌, ◌++◌, length, take, refl, sym, ap, ◌∙◌, subst, arith}
+use Rattle.std.proofs.Common.{◌≡◌, ℕ, ◌+◌, ◌≤◌, List, [], ◌∷◌, ◌++◌, length, refl, sym, ap, ◌∙◌, subst, arith}
 use Rattle.std.proofs.lemmas.List.{take-append-le}
 use Rattle.vx_cells.specs.Maps.{MapData}
 use Rattle.vx_region.specs.Regions.{Regions}
 use Rattle.vx_policy.specs.Asked.{Asked}
 use Rattle.vx_policy.specs.Edits.{after}
-use Rattle.vx_policy.specs.declared.version.Version.{Version}
 use Rattle.vx_core.specs.Chronicles.{TickData, map_ticked, map_after, IsTickOn, AreTicks, AreGrown, version_by}
 
 pub map_after_one_more : (m : MapData) (ticks : List TickData) (tick : TickData)

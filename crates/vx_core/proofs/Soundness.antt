@@ -1,5 +1,5 @@
 -- What holds of the machine after every event.
-use Rattle.std.proofs.Common.{◌≡◌, ℕ, ◌+◌, ◌≤◌, ◌<◌, Bool, true, false, List, [], ◌∷◌, ◌++◌, length, map, take, slice_get, Option, Some, None, option_map, refl, sym, ap, ◌∙◌, subst, inl, inr, arith}
+use Rattle.std.proofs.Common.{◌≡◌, ℕ, ◌+◌, ◌≤◌, true, List, [], ◌∷◌, ◌++◌, length, map, take, slice_get, Option, Some, None, option_map, refl, sym, ap, ◌∙◌, subst, inl, inr, arith}
 use Rattle.std.specs.List.{All}
 use Rattle.std.proofs.lemmas.Bool.{cases_Bool, and_parts}
 use Rattle.std.proofs.lemmas.List.Elements.{All-nil, All-push, All-map}
@@ -9,7 +9,6 @@ use Rattle.std.proofs.Math.Seq.{take-length}
 use Rattle.vx_cells.specs.Maps.{MapData}
 use Rattle.vx_cells.specs.SectorCells.{SectorCells}
 use Rattle.vx_cells.specs.Wholes.{IsMap}
-use Rattle.vx_region.specs.Regions.{Regions}
 use Rattle.vx_policy.specs.Asked.{Asked}
 use Rattle.vx_policy.specs.Edits.{after, AreAccepted}
 use Rattle.vx_policy.specs.Refusals.{refusal}
@@ -22,15 +21,15 @@ use Rattle.vx_sector.specs.declared.cmd.Cmd.{Cmd}
 use Rattle.vx_sector.proofs.WindowLemmas.{command_keeps_sector}
 use Rattle.vx_step.specs.Ticks.{fates_on, stepped}
 use Rattle.vx_step.proofs.OneTick.{steps_keep_maps}
-use Rattle.vx_play.specs.Games.{Command, Accepted, Tick, after_step, base_of}
+use Rattle.vx_play.specs.Games.{Command, Accepted, after_step, base_of}
 use Rattle.vx_play.specs.Plays.{PlayData, IsWorld, map_of, next_map, next_version, ticked, opened_with, renewed_over, policy_of, seat_at, entries_of}
 use Rattle.vx_play.proofs.Playing.{command_keeps_all, command_leaves, judged_as_before, renewed_version, renewed_is_sector, first_is_sector, bases_opened}
 use Rattle.vx_play.proofs.Renewals.{all_bring, bases_renewed}
 use Rattle.vx_play.proofs.Whole.{as_many_cells, worlds_begin_whole, commands_keep_worlds, ticks_keep_worlds}
-use Rattle.vx_core.specs.Chronicles.{TickData, IsSeatOf, AreSeated, map_acted, map_ticked, map_after, all_after, IsTickOn, AreWindows, AreTicks, AreGrown, version_by}
+use Rattle.vx_core.specs.Chronicles.{TickData, IsSeatOf, AreSeated, map_acted, map_after, all_after, IsTickOn, AreWindows, AreTicks, AreGrown, version_by}
 use Rattle.vx_core.specs.Events.{Happening, Acts, Edits, Takes, Works, Fixes, Puts}
-use Rattle.vx_core.specs.Laws.{ChangesNothing, IsAlwaysARun, AreVersionsGrown, VersionsGrow, AreOpen, WindowsAreOpen}
-use Rattle.vx_core.specs.Machines.{MachineData, is_accepted, is_enabled, with_step, acted, next_tick, fixed, done, after_event, after_events, begun, run}
+use Rattle.vx_core.specs.Laws.{ChangesNothing, IsAlwaysARun, VersionsGrow, WindowsAreOpen}
+use Rattle.vx_core.specs.Machines.{MachineData, is_accepted, is_enabled, acted, next_tick, done, after_event, after_events, begun, run}
 use Rattle.vx_core.specs.Openings.{OpeningData}
 use Rattle.vx_core.proofs.Growing.{map_after_one_more, ticks_one_more, edits_one_more, same_version, grown_one_more}
 use Rattle.vx_core.proofs.Recording.{cells_by_entries, windows_on_record}
@@ -186,27 +185,27 @@ module _ (o : OpeningData) (play : PlayData) (ticks : List TickData) (h : Holds 
       let number : play.ticks + 1 ≡ length ticks + 1 = omega (arith, h.counted) in
       let sizes = sym (steps_keep_maps play.version.policy (map_of play) h.world).1 in
       record {
-    world = ticks_keep_worlds play h.world;
-    first = h.first;
-    names = h.names;
-    base =
-        (λ i. record { sizes = sizes i; sectors = bases_renewed v play.sectors next (as_many_cells play h.world) i })
-        ∙ ap (stepped play.version.policy) (sym acted_map)
-        ∙ sym (map_after_one_more o.terrain ticks (next_tick play));
-    sectors = all_bring v IsSector IsSector (renewed_is_sector v) play.sectors next h.sectors;
-    seated =
-        all_bring v IsSector (λ s. AreSeated o.names s.entries) (λ s cells is. none_seated o.names v s cells) play.sectors next
-        h.sectors;
-    judged = all_bring v IsSector (λ s. s.version ≡ v) (λ s cells is. renewed_version v s cells) play.sectors next h.sectors;
-    counted = omega (arith, h.counted, many);
-    version = as_fixed ∙ ap (version_by o.policy play.accepted (length play.accepted)) (omega (arith, many));
-    within = omega arith;
-    accepted = h.accepted;
-    grown =
-        grown_one_more o.policy play.accepted 0 ticks (next_tick play) (length play.accepted) h.grown
-        (h.version ∙ ap (version_by o.policy play.accepted play.version.edits) (sym number)) h.within;
-    run = ticks_one_more o.names o.terrain 1 ticks (next_tick play) h.run on_record;
-  }
+        world = ticks_keep_worlds play h.world;
+        first = h.first;
+        names = h.names;
+        base =
+            (λ i. record { sizes = sizes i; sectors = bases_renewed v play.sectors next (as_many_cells play h.world) i })
+            ∙ ap (stepped play.version.policy) (sym acted_map)
+            ∙ sym (map_after_one_more o.terrain ticks (next_tick play));
+        sectors = all_bring v IsSector IsSector (renewed_is_sector v) play.sectors next h.sectors;
+        seated =
+            all_bring v IsSector (λ s. AreSeated o.names s.entries) (λ s cells is. none_seated o.names v s cells) play.sectors next
+            h.sectors;
+        judged = all_bring v IsSector (λ s. s.version ≡ v) (λ s cells is. renewed_version v s cells) play.sectors next h.sectors;
+        counted = omega (arith, h.counted, many);
+        version = as_fixed ∙ ap (version_by o.policy play.accepted (length play.accepted)) (omega (arith, many));
+        within = omega arith;
+        accepted = h.accepted;
+        grown =
+            grown_one_more o.policy play.accepted 0 ticks (next_tick play) (length play.accepted) h.grown
+            (h.version ∙ ap (version_by o.policy play.accepted play.version.edits) (sym number)) h.within;
+        run = ticks_one_more o.names o.terrain 1 ticks (next_tick play) h.run on_record;
+      }
 
 -- an event keeps it
 still_holds : (o : OpeningData) (m : MachineData) (event : Happening) → Holds o m.play m.ticks

@@ -7,8 +7,8 @@ use Rattle.vx_policy.specs.Refusals.{refusal}
 use Rattle.vx_policy.specs.Asked.{Asked}
 use Rattle.vx_sector.specs.SectorData.{SeatData}
 use Rattle.vx_sector.specs.declared.cmd.Cmd.{Cmd}
-use Rattle.vx_core.specs.declared.phase.Phase.{Phase}
-use Rattle.vx_core.specs.declared.phase.Phase.TheVariants.{Parts, Fates, Cells}
+use Rattle.vx_step.specs.declared.phase.Phase.{Phase}
+use Rattle.vx_step.specs.declared.phase.Phase.TheVariants.{Parts, Fates, Cells}
 use Rattle.vx_play.specs.Games.{Step, Command, Accepted, Tick, after_step}
 use Rattle.vx_play.specs.Plays.{PlayData, opened, sector_asked, policy_of, next_fates, seat_at, entries_of, most_ticks}
 use Rattle.vx_core.specs.Chronicles.{TickData, ChronicleData}

@@ -1,5 +1,5 @@
 -- What the structs of the record say.
-use Rattle.std.specs.Prelude.{List, map}
+use Rattle.std.specs.Prelude.{map}
 use Rattle.vx_play.specs.Plays.{entries_in}
 use Rattle.vx_core.specs.Chronicles.{TickData, ChronicleData}
 use Rattle.vx_core.specs.declared.chronicle.Chronicle.{Chronicle}

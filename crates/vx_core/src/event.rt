@@ -1,6 +1,6 @@
 use vx_policy::Edit;
 use vx_sector::Cmd;
-use crate::phase::Phase;
+use vx_step::Phase;
 
 /// What happens in the core. Each is one atomic step of some thread; one that may not happen yet
 /// changes nothing.

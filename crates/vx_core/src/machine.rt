@@ -15,7 +15,7 @@ use vx_board::{DeskError, Naming};
 use vx_play::{MAX_TICKS, Play, Ticked};
 use vx_policy::Edit;
 use vx_sector::{Cmd, Refusal};
-use crate::phase::Phase;
+use vx_step::Phase;
 
 /// The core machine: the world at play, the stage of each of its sectors, whether the tick that they
 /// are away for is fixed, and the ticks so far.
@@ -211,7 +211,9 @@ impl<J: Naming> Machine<J> {
     fn is_unworked(&self) -> bool
         ensures { result ≡ is_unworked self.now.stages }
     {
-        self.stages.iter().all(|s| !s.has_reached(Stage::Worked(Phase::Parts)))
+        self.stages
+            .iter()
+            .all(|s| !s.has_reached(Stage::Worked(Phase::Parts)))
     }
 
     // Whether all sectors have reached this stage.

@@ -1,0 +1,127 @@
+-- What the windows of a tick leave on its map.
+use Rattle.std.proofs.Common.{◌≡◌, ◌⊎◌, ℕ, zero, suc, List, [], ◌∷◌, length, slice_get, Option, Some, None, refl, sym, ap, ◌∙◌, subst, inl, inr}
+use Rattle.std.specs.List.{All}
+use Rattle.std.proofs.lemmas.List.Elements.{All-nil, All-cons, All-head, All-tail}
+use Rattle.vx_geom.specs.declared.pos.Pos.{Pos}
+use Rattle.vx_geom.specs.Sizes.{Sizes, AreSizes, sector_of}
+use Rattle.vx_cells.specs.MapLaws.{block_in, block_on, IsFilled}
+use Rattle.vx_cells.specs.Maps.{MapData, AreFrom, sector_at}
+use Rattle.vx_cells.specs.SectorCells.{SectorCells, IsWhole}
+use Rattle.vx_cells.proofs.MapLemmas.{placed_at, is_held}
+use Rattle.vx_region.specs.Regions.{Regions}
+use Rattle.vx_power.specs.Walks.{IsAmong}
+use Rattle.vx_sector.specs.SectorData.{EntryData}
+use Rattle.vx_sector.specs.Windows.{IsWindow, cells_after}
+use Rattle.vx_core.specs.Chronicles.{TickData, AreSeated, all_after, map_acted, AreWindows}
+use Rattle.vx_play.proofs.Playing.{of_found}
+use Rattle.vx_core.proofs.Commanded.{IsByEntry, window_keeps, window_leaves}
+
+module _ (names : List (List ℕ)) (policy : Regions) where
+  -- the window of the sector of a number
+  pub record HasWindow (cs : List SectorCells) (windows : List (List EntryData)) (k : ℕ) (c : SectorCells) : Type 0 where
+    pub window : List EntryData
+    pub among : IsAmong windows window
+    pub after : slice_get (all_after cs windows) k ≡ Some (cells_after c window)
+    pub is : IsWindow policy c window
+    pub seated : AreSeated names window
+
+  further : (d c : SectorCells) (cs : List SectorCells) (w : List EntryData) (windows : List (List EntryData)) (k : ℕ)
+      → HasWindow cs windows k c → HasWindow (d ∷ cs) (w ∷ windows) (suc k) c
+  further d c cs w windows k has =
+      record { window = has.window; among = inr has.among; after = has.after; is = has.is; seated = has.seated }
+
+  pub window_at : (cs : List SectorCells) (windows : List (List EntryData)) (k : ℕ) (c : SectorCells)
+      → AreWindows names policy cs windows → slice_get cs k ≡ Some c → HasWindow cs windows k c
+  window_at [] windows k c are found = cc
+  window_at (d ∷ cs) [] k c are found = absurd are
+  window_at (d ∷ cs) (w ∷ windows) zero c are found =
+      let same : d ≡ c = cc in
+      record {
+        window = w;
+        among = inl refl;
+        after = ap (λ e. Some (cells_after e w)) same;
+        is = subst (λ e. IsWindow policy e w) same are.0;
+        seated = are.1;
+      }
+  window_at (d ∷ cs) (w ∷ windows) (suc k) c are found =
+      further d c cs w windows k (window_at cs windows k c are.2 found)
+
+  pub none_at : (cs : List SectorCells) (windows : List (List EntryData)) (k : ℕ)
+      → AreWindows names policy cs windows → slice_get cs k ≡ None → slice_get (all_after cs windows) k ≡ None
+  none_at [] windows k are none = none
+  none_at (d ∷ cs) [] k are none = absurd are
+  none_at (d ∷ cs) (w ∷ windows) zero are none = cc
+  none_at (d ∷ cs) (w ∷ windows) (suc k) are none = none_at cs windows k are.2 none
+
+  as_many : (cs : List SectorCells) (windows : List (List EntryData)) → AreWindows names policy cs windows
+      → length (all_after cs windows) ≡ length cs
+  as_many [] windows are = refl
+  as_many (c ∷ cs) [] are = absurd are
+  as_many (c ∷ cs) (w ∷ windows) are = ap suc (as_many cs windows are.2)
+
+  all_whole : (cs : List SectorCells) (windows : List (List EntryData)) → AreWindows names policy cs windows
+      → All IsWhole cs → All IsWhole (all_after cs windows)
+  all_whole [] windows are whole = All-nil IsWhole
+  all_whole (c ∷ cs) [] are whole = absurd are
+  all_whole (c ∷ cs) (w ∷ windows) are whole =
+      All-cons IsWhole (cells_after c w) (all_after cs windows)
+      (window_keeps names policy c w (All-head IsWhole c cs whole) are.0).0
+      (all_whole cs windows are.2 (All-tail IsWhole c cs whole))
+
+  all_placed : (sizes : Sizes) (k : ℕ) (cs : List SectorCells) (windows : List (List EntryData))
+      → AreWindows names policy cs windows → All IsWhole cs → AreFrom sizes k cs → AreFrom sizes k (all_after cs windows)
+  all_placed sizes k [] windows are whole each = tt
+  all_placed sizes k (c ∷ cs) [] are whole each = absurd are
+  all_placed sizes k (c ∷ cs) (w ∷ windows) are whole each =
+      let kept = window_keeps names policy c w (All-head IsWhole c cs whole) are.0 in (
+        kept.1 ∙ each.0,
+        kept.2 ∙ each.1,
+        all_placed sizes (suc k) cs windows are.2 (All-tail IsWhole c cs whole) each.2,
+      )
+
+  module _ (m : MapData) (tick : TickData) (filled : IsFilled m) (are : AreWindows names policy m.sectors tick.windows) where
+    -- each sector stays in its place, with something at each place of it
+    pub acted_filled : IsFilled (map_acted m tick)
+    acted_filled = record {
+      map = record {
+        valid = filled.map.valid;
+        all = as_many m.sectors tick.windows are ∙ filled.map.all;
+        each = all_placed m.sizes 0 m.sectors tick.windows are filled.each filled.map.each;
+      };
+      each = all_whole m.sectors tick.windows are filled.each;
+    }
+
+    -- what stands at a position stays, or an entry of a window changed it by leave
+    pub record IsByWindow (p : Pos) : Type 0 where
+      pub window : List EntryData
+      pub there : IsAmong tick.windows window
+      pub by : IsByEntry names policy window p
+
+    pub acted_leaves : (p : Pos) → (block_on (map_acted m tick) p ≡ block_on m p) ⊎ IsByWindow p
+    unfolding block_on
+    acted_leaves p = by (sector_of m.sizes p) refl
+      where
+        Stays : Option ℕ → Type 0
+        Stays k =
+            (block_in (sector_at (all_after m.sectors tick.windows) k) p ≡ block_in (sector_at m.sectors k) p) ⊎ IsByWindow p
+
+        found : (k : ℕ) (c : SectorCells) → sector_of m.sizes p ≡ Some k → slice_get m.sectors k ≡ Some c → Stays (Some k)
+        found k c number there =
+            let has = window_at m.sectors tick.windows k c are there in
+            let placed = placed_at m.sizes 0 k m.sectors c filled.map.each there in
+            let whole = of_found IsWhole m.sectors k c filled.each there in
+            elim (window_leaves names policy c has.window p (subst AreSizes (sym placed.0) filled.map.valid) whole
+            (is_held m p k number c filled.map there) has.is has.seated) [
+              | inl same ↦
+                  inl (ap (λ o. block_in o p) has.after ∙ same ∙ sym (ap (λ o. block_in o p) there))
+              | inr entry ↦ inr (record { window = has.window; there = has.among; by = entry })
+            ]
+
+        there_or_not : (k : ℕ) (o : Option SectorCells) → sector_of m.sizes p ≡ Some k → slice_get m.sectors k ≡ o → Stays (Some k)
+        there_or_not k None number none =
+            inl (ap (λ o. block_in o p) (none_at m.sectors tick.windows k are none) ∙ sym (ap (λ o. block_in o p) none))
+        there_or_not k (Some c) number there = found k c number there
+
+        by : (k : Option ℕ) → sector_of m.sizes p ≡ k → Stays k
+        by None number = inl refl
+        by (Some k) number = there_or_not k (slice_get m.sectors k) number refl

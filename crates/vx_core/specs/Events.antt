@@ -6,8 +6,8 @@ use Rattle.vx_step.specs.declared.phase.Phase.{Phase}
 use Rattle.vx_core.specs.declared.event.Event.{Event}
 use Rattle.vx_core.specs.declared.event.Event.TheVariants as event
 
--- a command of a seat; an edit; a sector taken for a tick; the work of a phase done on a sector; the
--- tick fixed; a sector put back
+-- a command of a seat; an edit; a sector taken for a tick; the work of a phase done on a sector;
+-- the tick fixed; a sector put back
 pub data Happening : Type 0 where
   Acts : ℕ → Cmd → Happening
   Edits : Asked → Happening

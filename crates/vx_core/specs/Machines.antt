@@ -69,7 +69,8 @@ is_any_away stages = list_any (has_reached Taken) stages
 
 -- nothing stands against an edit
 abbrev pub is_accepted : PlayData → Asked → Bool
-is_accepted play e = is_none (refusal (policy_of play) e) && nat_lt (length play.accepted) most_edits
+is_accepted play e =
+    is_none (refusal (policy_of play) e) && nat_lt (length play.accepted) most_edits
 
 -- an event may happen: a command, from a seat that is there, in a sector that is at home; an edit
 -- that nothing stands against; taking a sector that is at home, while no work of this tick is done

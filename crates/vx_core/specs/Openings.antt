@@ -24,7 +24,8 @@ bare_opening sizes names policy =
 -- with a part at a position of its terrain, in place of what was there; none outside the world
 abbrev pub with_part : OpeningData → Pos → Part → Option OpeningData
 with_part o p part =
-    option_map (λ (m : MapData). record o { terrain = m }) (with_cell_on o.terrain p (part_cell part))
+    option_map (λ (m : MapData). record o { terrain = m })
+    (with_cell_on o.terrain p (part_cell part))
 
 -- why a part was not put there: outside the world, or for want of memory
 abbrev pub IsUnset : OpeningData → Pos → Part → Refusal → Type 0

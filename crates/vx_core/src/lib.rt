@@ -16,6 +16,7 @@ mod tick;
 pub use chronicle::Chronicle;
 pub use core_state::Core;
 pub use event::Event;
+pub use laws::{changes_have_leave, every_order_is_a_run};
 pub use opening::Opening;
 pub use opening_error::OpeningError;
 pub use running::run_core;

@@ -17,8 +17,8 @@ use vx_policy::Edit;
 use vx_sector::{Cmd, Refusal};
 use vx_step::Phase;
 
-/// The core machine: the world at play, the stage of each of its sectors, whether the tick that they
-/// are away for is fixed, and the ticks so far.
+/// The core machine: the world at play, the stage of each of its sectors, whether the tick that
+/// they are away for is fixed, and the ticks so far.
 #[derive(Drop)]
 pub struct Machine<J: Naming> {
     play: Play<J>,

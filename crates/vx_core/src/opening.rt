@@ -36,6 +36,7 @@ impl Model for Opening {
 
 impl Opening {
     ghost use Rattle.std.specs.Prelude.{◌<◌, ◌≤◌, ◌↔◌, Some, Err, OnOk, OnErr, IfErr};
+    ghost use Rattle.vx_cells.specs.MapLaws.{IsFilled};
     ghost use Rattle.vx_core.specs.Openings.{bare_opening, with_part, IsUnset};
     ghost use Rattle.vx_core.specs.declared.opening_error.OpeningError.TheVariants.{TooManyPlayers};
     ghost use Rattle.vx_play.specs.declared.play.TheConstants.{MAX_PLAYERS};
@@ -95,6 +96,14 @@ impl Opening {
         ensures few { vec_len result.1 ≤ MAX_PLAYERS }
     {
         (self.terrain, self.names, self.policy)
+    }
+
+    /// What holds of every opening: each sector of its terrain stands in its place, with something
+    /// at each place of it.
+    pub fn soundness(&self)
+        ensures { IsFilled self.now.terrain }
+    {
+        self.terrain.soundness();
     }
 
     /// The terrain.

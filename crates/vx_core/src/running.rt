@@ -1,5 +1,6 @@
 ghost use Rattle.std.specs.Prelude.{◌≡◌, map, IfOk};
 ghost use Rattle.vx_policy.specs.Asked.{asked};
+ghost use Rattle.vx_core.specs.Chronicles.{IsRun};
 ghost use Rattle.vx_core.specs.Events.{happening};
 ghost use Rattle.vx_core.specs.Machines.{run, chronicle_of};
 ghost use Rattle.vx_core.specs.Records.{chronicle_in};
@@ -13,7 +14,8 @@ use std::marker::Brand;
 use vx_board::Naming;
 
 /// What stands after these events, one after another, in the world of this opening. An event that
-/// may not happen as things are then changes nothing.
+/// may not happen as things are then changes nothing. The chronicle is a run: each of its ticks is
+/// what the one-threaded rules give from the commands before it.
 pub fn run_core(alloc: Global, opening: &Opening, events: &[Event]) -> Result<Core, AllocError>
     ensures chronicle { IfOk result (λ core.
         chronicle_in core.chronicle ≡ chronicle_of opening.now (map happening events.now)) }
@@ -23,7 +25,9 @@ pub fn run_core(alloc: Global, opening: &Opening, events: &[Event]) -> Result<Co
         core.sectors.items ≡ (run opening.now (map happening events.now)).play.sectors) }
     ensures stages { IfOk result (λ core.
         core.stages.items ≡ (run opening.now (map happening events.now)).stages) }
+    ensures run { IfOk result (λ core. IsRun (chronicle_in core.chronicle)) }
 {
+    opening.soundness();
     run_named::<Brand>(alloc, opening, events)
 }
 

@@ -3,10 +3,108 @@ use std::alloc::{AllocError, Global};
 use std::process::Abort;
 use std::test::Fail;
 use vx_block::{Cell, Part};
-use vx_core::{Core, Event, Opening, OpeningError, Stage, run_core};
+use vx_core::{Core, Event, Opening, OpeningError, Stage, Tick, run_core};
 use vx_decide::Rule;
 use vx_geom::{Bounds, Pos, ShapeSpec};
 use vx_policy::{Edit, Policy};
 use vx_region::{Name, RegionNo};
 use vx_sector::{Cmd, Entry, Refusal, Reply, Seat};
 use vx_step::Phase;
+
+const DENIED: Result<Reply, Refusal> = Err(Refusal::Denied(Rule::Member { at: RegionNo(1) }));
+
+// An edit counts from the next tick on, and in a sector that is away nobody acts.
+#[test]
+fn a_tick_between_two_windows_goes_on_record(rt: HostRuntime) -> Result<(), Fail> {
+    let opening = opening(rt.alloc(), 1)?;
+    let events = [
+        Event::Edit(plot(rt.alloc())?),
+        place(5, 1),
+        Event::Take(0),
+        place(6, 1),
+        Event::Take(1),
+        Event::Work(Phase::Parts, 0),
+        Event::Work(Phase::Fates, 0),
+        Event::Work(Phase::Parts, 1),
+        Event::Work(Phase::Fates, 0),
+        Event::Work(Phase::Fates, 1),
+        Event::Fix,
+        Event::Work(Phase::Cells, 0),
+        Event::Work(Phase::Cells, 1),
+        Event::Fix,
+        Event::Fix,
+        Event::Put(0),
+        place(5, 2),
+        Event::Take(0),
+        Event::Put(1),
+    ];
+    let core = run_core(rt.alloc(), &opening, &events)?;
+    told(&rt, &core)
+}
+
+fn told(rt: &impl Abort, core: &Core) -> Result<(), Fail> {
+    assert_eq!(rt; core.stages.as_slice(), &[Stage::Home, Stage::Home]);
+    assert_eq!(rt; (core.edits.len(), core.chronicle.ticks.len()), (1, 1));
+    first_tick(rt, &core.chronicle.ticks[0])?;
+    let denied = [entry(2, DENIED)?];
+    assert_eq!(rt; core.sectors[0].entries(), &denied);
+    Ok(())
+}
+
+fn first_tick(rt: &impl Abort, tick: &Tick) -> Result<(), Fail> {
+    assert_eq!(rt; (tick.number, tick.version.tick, tick.version.edits), (1, 1, 0));
+    assert_eq!(rt; (tick.windows.len(), tick.fates.len()), (2, 0));
+    let done = [entry(1, Ok(Reply::Done(Rule::Default)))?];
+    assert_eq!(rt; tick.windows[0].as_slice(), &done);
+    assert!(rt; tick.windows[1].is_empty());
+    Ok(())
+}
+
+// Parts are set inside the world, for 16 players at most.
+#[test]
+fn an_opening_has_its_parts_and_players(rt: HostRuntime) -> Result<(), Fail> {
+    let mut opening = opening(rt.alloc(), 16)?;
+    let inside = Pos::new(31, 63, 15);
+    assert_eq!(rt; opening.set(inside, Part::Stone), Ok(()));
+    assert_eq!(rt; opening.set(Pos::new(32, 1, 5), Part::Stone), Err(Refusal::OutOfWorld));
+    assert_eq!(rt; opening.terrain().frozen().cell(inside), Cell::Stone);
+    assert_eq!(rt; opening.names().len(), 16);
+    let many = new(rt.alloc(), 17)?;
+    assert!(rt; matches!(many, Err(OpeningError::TooManyPlayers)));
+    Ok(())
+}
+
+// Two sectors of air, for so many players who are all called bob.
+fn opening(alloc: Global, players: usize) -> Result<Opening, Fail> {
+    Ok(new(alloc, players)?.map_err(|_| "no opening")?)
+}
+
+fn new(alloc: Global, players: usize) -> Result<Result<Opening, OpeningError>, Fail> {
+    let bounds = Bounds::new(2, 1, 1).ok_or("no bounds")?;
+    let mut names = Vec::new(alloc);
+    names.resize(players, Name::read("bob")?)?;
+    Ok(Opening::new(alloc, bounds, names, Policy::new(alloc)?))
+}
+
+// The definition of a plot of one column, of which bob is no member.
+fn plot(alloc: Global) -> Result<Edit, AllocError> {
+    let column = ShapeSpec::Cuboid(Pos::new(5, 0, 5), Pos::new(5, 63, 5));
+    Ok(Edit::Define(String::from_str(alloc, "plot")?, column))
+}
+
+fn stone(x: i32, y: i32) -> Cmd {
+    Cmd::Place(Pos::new(x, y, 5), Part::Stone)
+}
+
+fn place(x: i32, y: i32) -> Event {
+    Event::Act(0, stone(x, y))
+}
+
+fn entry(y: i32, answer: Result<Reply, Refusal>) -> Result<Entry, Fail> {
+    let seat = Seat {
+        number: 0,
+        name: Name::read("bob")?,
+    };
+    let cmd = stone(5, y);
+    Ok(Entry { seat, cmd, answer })
+}

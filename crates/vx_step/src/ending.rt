@@ -20,7 +20,8 @@ pub fn fates<D: Decide>(
     policy: &D,
     moves: &[Move],
 ) -> Result<Vec<(Pos, Fate)>, AllocError>
-    ensures { IfOk result (λ fates. AreFates (D.policy policy.now) moves.now moves.now fates.items) }
+    ensures { IfOk result (λ fates.
+        AreFates (D.policy policy.now) moves.now moves.now fates.items) }
 {
     let denials = denials(alloc, policy, moves)?;
     fates_by(alloc, moves, denials.as_slice())

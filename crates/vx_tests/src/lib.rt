@@ -15,4 +15,6 @@ mod sectors;
 #[cfg(test)]
 mod shapes;
 #[cfg(test)]
+mod ticks;
+#[cfg(test)]
 mod words;

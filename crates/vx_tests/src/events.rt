@@ -43,11 +43,12 @@ fn a_tick_between_two_windows_goes_on_record(rt: HostRuntime) -> Result<(), Fail
 }
 
 fn told(rt: &impl Abort, core: &Core) -> Result<(), Fail> {
-    assert_eq!(rt; core.stages.as_slice(), &[Stage::Home, Stage::Home]);
+    assert_eq!(rt; core.stages.as_slice(), [Stage::Home, Stage::Home].as_slice());
     assert_eq!(rt; (core.edits.len(), core.chronicle.ticks.len()), (1, 1));
     first_tick(rt, &core.chronicle.ticks[0])?;
+    assert_eq!(rt; core.sectors.len(), 2);
     let denied = [entry(2, DENIED)?];
-    assert_eq!(rt; core.sectors[0].entries(), &denied);
+    assert_eq!(rt; core.sectors[0].entries(), denied.as_slice());
     Ok(())
 }
 
@@ -55,7 +56,7 @@ fn first_tick(rt: &impl Abort, tick: &Tick) -> Result<(), Fail> {
     assert_eq!(rt; (tick.number, tick.version.tick, tick.version.edits), (1, 1, 0));
     assert_eq!(rt; (tick.windows.len(), tick.fates.len()), (2, 0));
     let done = [entry(1, Ok(Reply::Done(Rule::Default)))?];
-    assert_eq!(rt; tick.windows[0].as_slice(), &done);
+    assert_eq!(rt; tick.windows[0].as_slice(), done.as_slice());
     assert!(rt; tick.windows[1].is_empty());
     Ok(())
 }

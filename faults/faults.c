@@ -1,6 +1,6 @@
 // Preloaded into the built program, refuses some of its calls. FAULT has the kind of call, FAULT_TURN which of them, counted from 1 (0: each of
-// them), FAULT_FIRST how many of the first ones (neither: no one), and FAULT_COUNT a file that gets how many there were. With FAULT_SHORT
-// each read gives one byte.
+// them), FAULT_FIRST how many of the first ones (neither: no one), FAULT_COUNT a file that gets how many there were, and FAULT_MARK one that
+// is made as soon as a call is refused. With FAULT_SHORT each read gives one byte.
 //
 //   memory            malloc, calloc, realloc and their like answer that there is no memory
 //   read, write       standard input can't be read, standard output can't be written
@@ -18,7 +18,7 @@ extern void *__libc_malloc(size), *__libc_calloc(size, size), *__libc_realloc(vo
 
 enum { READ = 0, WRITE = 1, OPEN = 2, CLOSE = 3, INTERRUPTED = 4, INPUT_OUTPUT = 5, NO_MEMORY = 12, INVALID = 22 };
 
-static const char *kind = "";
+static const char *kind = "", *mark = 0;
 static long turn = -1, first = 0, count = 0;
 static int is_short = 0;
 
@@ -27,6 +27,7 @@ __attribute__((constructor)) static void begin(void) {
   if (getenv("FAULT_TURN")) turn = strtol(getenv("FAULT_TURN"), 0, 10);
   if (getenv("FAULT_FIRST")) first = strtol(getenv("FAULT_FIRST"), 0, 10);
   is_short = getenv("FAULT_SHORT") != 0;
+  mark = getenv("FAULT_MARK");
 }
 
 __attribute__((destructor)) static void end(void) {
@@ -43,7 +44,9 @@ __attribute__((destructor)) static void end(void) {
 static int chosen(const char *call) {
   if (strcmp(kind, call)) return 0;
   count++;
-  return turn == 0 || turn == count || count <= first;
+  int is = turn == 0 || turn == count || count <= first;
+  if (is && mark) syscall(CLOSE, syscall(OPEN, mark, 0101, 0600));
+  return is;
 }
 
 static long refused(int cause) { *__errno_location() = cause; return -1; }

@@ -43,7 +43,10 @@ fn a_tick_between_two_windows_goes_on_record(rt: HostRuntime) -> Result<(), Fail
 }
 
 fn told(rt: &impl Abort, core: &Core) -> Result<(), Fail> {
-    assert_eq!(rt; core.stages.as_slice(), [Stage::Home, Stage::Home].as_slice());
+    assert_eq!(rt;
+        core.stages.as_slice(),
+        [Stage::Home, Stage::Home].as_slice()
+    );
     assert_eq!(rt; (core.edits.len(), core.chronicle.ticks.len()), (1, 1));
     first_tick(rt, &core.chronicle.ticks[0])?;
     assert_eq!(rt; core.sectors.len(), 2);
@@ -53,7 +56,10 @@ fn told(rt: &impl Abort, core: &Core) -> Result<(), Fail> {
 }
 
 fn first_tick(rt: &impl Abort, tick: &Tick) -> Result<(), Fail> {
-    assert_eq!(rt; (tick.number, tick.version.tick, tick.version.edits), (1, 1, 0));
+    assert_eq!(rt;
+        (tick.number, tick.version.tick, tick.version.edits),
+        (1, 1, 0)
+    );
     assert_eq!(rt; (tick.windows.len(), tick.fates.len()), (2, 0));
     let done = [entry(1, Ok(Reply::Done(Rule::Default)))?];
     assert_eq!(rt; tick.windows[0].as_slice(), done.as_slice());
@@ -67,7 +73,10 @@ fn an_opening_has_its_parts_and_players(rt: HostRuntime) -> Result<(), Fail> {
     let mut opening = opening(rt.alloc(), 16)?;
     let inside = Pos::new(31, 63, 15);
     assert_eq!(rt; opening.set(inside, Part::Stone), Ok(()));
-    assert_eq!(rt; opening.set(Pos::new(32, 1, 5), Part::Stone), Err(Refusal::OutOfWorld));
+    assert_eq!(rt;
+        opening.set(Pos::new(32, 1, 5), Part::Stone),
+        Err(Refusal::OutOfWorld)
+    );
     assert_eq!(rt; opening.terrain().frozen().cell(inside), Cell::Stone);
     assert_eq!(rt; opening.names().len(), 16);
     let many = new(rt.alloc(), 17)?;
@@ -77,7 +86,11 @@ fn an_opening_has_its_parts_and_players(rt: HostRuntime) -> Result<(), Fail> {
 
 // Two sectors of air, for so many players who are all called bob.
 fn opening(alloc: Global, players: usize) -> Result<Opening, Fail> {
-    Ok(new(alloc, players)?.map_err(|_| "no opening")?)
+    match new(alloc, players)? {
+        Ok(opening) => Ok(opening),
+        Err(OpeningError::NoMemory) => Err(AllocError)?,
+        Err(OpeningError::TooManyPlayers) => Err("too many players")?,
+    }
 }
 
 fn new(alloc: Global, players: usize) -> Result<Result<Opening, OpeningError>, Fail> {

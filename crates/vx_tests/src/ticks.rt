@@ -90,7 +90,7 @@ fn work<R: Threads + Abort + Sync>(
     due: &[(Pos, Fate)],
 ) -> Result<(), AllocError> {
     let (next, _) = step_plain(alloc, map, version)?;
-    for workers in [1, 2, 8] {
+    for workers in [1, 2, 4, 8] {
         let (parted, fates) = parted(rt, alloc, map, version, workers, &NoGate)?;
         assert!(rt; parted.sectors() == next.sectors());
         assert_eq!(rt; fates.as_slice(), due);

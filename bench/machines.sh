@@ -2,7 +2,7 @@
 # What machines cost: bench/machines.sh signals | pistons | ticks.
 #   signals  the next parts over all 64 sectors of a world: lines of dust of which every tenth toggles, and stones alone
 #   pistons  candidates, claims and fates of pistons that each push twelve cells, without regions and with 4,000
-#   ticks    whole ticks on one thread: an idle world of 200,000 blocks, lines of dust that toggle, pistons that push and draw
+#   ticks    whole ticks, copied, handed over, and on 1 and 4 threads: an idle world of 200,000 blocks, lines of dust that toggle, pistons that push and draw
 # The program stands beside this file (NAME.rt.in, map.rt.in); it is proved and built in a copy of the repository.
 set -eu
 root=$(cd "$(dirname "$0")/.." && pwd)

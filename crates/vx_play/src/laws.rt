@@ -15,8 +15,8 @@ pub fn out_of_world_is_outside()
 {}
 
 /// A tick makes of the world what the rules of ticks make of its map: each component becomes its
-/// next part, and the pistons' moves have the fates that are told, by the version of the policy that
-/// judged the commands of the window before.
+/// next part, and the pistons' moves have the fates that are told, by the version of the policy
+/// that judged the commands of the window before.
 pub fn ticks_are_steps()
     ensures { TicksAreSteps }
 {}

@@ -92,7 +92,7 @@ impl<J: Naming> Machine<J> {
     fn act(&mut self, number: u8, cmd: Cmd) -> Result<(), AllocError>
         ensures { OnOk result (self.new ≡ after_event self.old (Acts number cmd)) }
     {
-        let Some(seat) = self.play.name(number) else {
+        let Some(seat) = self.play.seat_at(number) else {
             return Ok(());
         };
         if !self.is_home(&cmd) {
@@ -161,6 +161,7 @@ impl<J: Naming> Machine<J> {
     {
         let number = self.play.ticks() + 1;
         let version = self.play.version().try_clone()?;
+        // There may be one tick more, so only memory can be wanting.
         let Ok(Ticked { windows, fates }) = self.play.tick(alloc) else {
             return Err(AllocError);
         };
@@ -201,7 +202,7 @@ impl<J: Naming> Machine<J> {
     fn is_home(&self, cmd: &Cmd) -> bool
         ensures { result ≡ is_home self.now cmd.now }
     {
-        match self.play.place(cmd.place()) {
+        match self.play.sector_of(cmd.place()) {
             Some(sector) => self.is_at(sector, Stage::Home),
             None => false,
         }

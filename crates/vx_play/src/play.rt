@@ -105,7 +105,7 @@ impl<J: Naming> Play<J> {
 
     /// The seat of the player of that number, counted from 0.
     #[tactic(auto, unfolding(crate::specs::Plays::seat_at))]
-    pub fn name(&self, number: u8) -> Option<Seat>
+    pub fn seat_at(&self, number: u8) -> Option<Seat>
         ensures { option_map seat_of result ≡ seat_at self.now number }
     {
         let name = *self.names.get(usize::from(number))?;
@@ -202,7 +202,7 @@ impl<J: Naming> Play<J> {
     }
 
     /// The number of the sector that holds the position; none outside the world.
-    pub fn place(&self, p: Pos) -> Option<u32>
+    pub fn sector_of(&self, p: Pos) -> Option<u32>
         ensures { result ≡ sector_of self.now.sizes p }
     {
         self.bounds.sector_of(p)

@@ -1,10 +1,11 @@
-ghost use Rattle.std.specs.Prelude.{◌≡◌, ◌<◌, nat_lt, length, true, None, IfOk, SomeIff};
+ghost use Rattle.std.specs.Prelude.{◌≡◌, ◌<◌, ◌≤◌, nat_lt, length, map, slice_get, true, None, Some, IfOk, IfSome, SomeIff};
 ghost use Rattle.vx_block.specs.declared.cell.Cell.TheVariants.{Air};
 ghost use Rattle.vx_geom.specs.Neighbor.{neighbor};
 ghost use Rattle.vx_geom.specs.Sizes.{is_below, is_inside, sector_count};
 ghost use Rattle.vx_geom.specs.declared.dir.Dir.TheVariants.{Up, Down};
 ghost use Rattle.vx_geom.specs.declared.pos.Pos.{Pos};
 ghost use Rattle.vx_cells.specs.Listed.{components_on, devices_on};
+ghost use Rattle.vx_cells.specs.MapLaws.{IsFilled};
 ghost use Rattle.vx_cells.specs.Maps.{far, is_near};
 
 use crate::cells::Cells;
@@ -18,20 +19,28 @@ const FAR: i64 = 512;
 
 /// The map as a tick begins: what stands at each position of the world, and air outside. The
 /// sectors are lent to it, and nothing is copied.
+// The first sectors stand in one block of memory, and those after them each in a place of its own;
+// one of the two has none.
 #[derive(Drop)]
 pub struct Frozen<'a> {
     bounds: Bounds,
     sectors: &'a [Cells],
+    apart: &'a [&'a Cells],
 }
 
 impl<'a> Model for Frozen<'a> {
+    ghost use Rattle.std.specs.Prelude.{◌++◌, map};
     ghost use Rattle.vx_cells.specs.Maps.{MapData, AreSectors};
 
     ghost Value = { MapData };
 
-    ghost view = { λ a. record { sizes = a.bounds; sectors = a.sectors.now } };
+    ghost view = { λ a. record {
+      sizes = a.bounds;
+      sectors = a.sectors.now ++ map (λ c. c.now) a.apart.now;
+    } };
 
-    ghost invariant = { λ a. AreSectors a.bounds a.sectors.now };
+    ghost invariant = { λ a. AreSectors a.bounds
+        (a.sectors.now ++ map (λ c. c.now) a.apart.now) };
 }
 
 impl<'a> Frozen<'a> {
@@ -42,7 +51,23 @@ impl<'a> Frozen<'a> {
         requires { AreSectors bounds sectors.now }
         ensures { result ≡ record { sizes = bounds; sectors = sectors.now } }
     {
-        Frozen { bounds, sectors }
+        Frozen {
+            bounds,
+            sectors,
+            apart: &[],
+        }
+    }
+
+    /// The same of sectors that stand each in a place of its own.
+    pub fn apart(bounds: Bounds, sectors: &'a [&'a Cells]) -> Frozen<'a>
+        requires { AreSectors bounds (map (λ c. c.now) sectors.now) }
+        ensures { result ≡ record { sizes = bounds; sectors = map (λ c. c.now) sectors.now } }
+    {
+        Frozen {
+            bounds,
+            sectors: &[],
+            apart: sectors,
+        }
     }
 
     /// What holds of every map: it has all sectors of its world, each in its place.
@@ -64,10 +89,11 @@ impl<'a> Frozen<'a> {
     pub fn cell(&self, p: Pos) -> Cell
         ensures { result ≡ cell_on self.now p }
     {
-        let Some(number) = self.bounds.sector_of(p) else {
+        self.soundness();
+        let Some(number) = self.bounds().sector_of(p) else {
             return Cell::Air;
         };
-        match self.sectors.get(number as usize) {
+        match self.sector(number) {
             Some(cells) => cells.get(p),
             None => Cell::Air,
         }
@@ -145,7 +171,8 @@ impl<'a> Frozen<'a> {
         requires { sector < sector_count self.now.sizes }
         ensures { IfOk result (λ found. found.items ≡ components_on self.now sector) }
     {
-        self.sectors[sector as usize].components(alloc)
+        self.soundness();
+        self.sector_at(sector).components(alloc)
     }
 
     /// The positions of a sector where a device stands, in order. It costs what stands there.
@@ -153,7 +180,8 @@ impl<'a> Frozen<'a> {
         requires { sector < sector_count self.now.sizes }
         ensures { IfOk result (λ found. found.items ≡ devices_on self.now sector) }
     {
-        self.sectors[sector as usize].devices(alloc)
+        self.soundness();
+        self.sector_at(sector).devices(alloc)
     }
 
     /// Whether a device stands in a sector. Where none was ever placed it costs a look.
@@ -161,7 +189,42 @@ impl<'a> Frozen<'a> {
         requires { sector < sector_count self.now.sizes }
         ensures { result ≡ nat_lt 0 (length (devices_on self.now sector)) }
     {
-        self.sectors[sector as usize].has_devices()
+        self.soundness();
+        self.sector_at(sector).has_devices()
+    }
+
+    /// What holds of every map besides: something stands at each place of it.
+    pub fn filling(&self)
+        ensures { IsFilled self.now }
+    {
+        self.soundness();
+        for sector in 0..self.bounds().sectors() {
+            self.sector_at(sector).soundness();
+        }
+    }
+
+    // The sector of a number.
+    fn sector_at(&self, number: u32) -> &Cells
+        requires { number < sector_count self.now.sizes }
+        ensures { slice_get self.now.sectors number ≡ Some result.now }
+    {
+        self.soundness();
+        self.sector(number).unwrap()
+    }
+
+    // The sector of a number, where there is one.
+    fn sector(&self, number: u32) -> Option<&Cells>
+        ensures found { IfSome result (λ c. slice_get self.now.sectors number ≡ Some c.now) }
+        ensures none { result ≡ None → length self.now.sectors ≤ number }
+    {
+        let number = number as usize;
+        if number < self.sectors.len() {
+            return Some(&self.sectors[number]);
+        }
+        match self.apart.get(number - self.sectors.len()) {
+            Some(cells) => Some(*cells),
+            None => None,
+        }
     }
 
     // The position with these coordinates, where the world has one.

@@ -63,7 +63,7 @@ module _ (w : Pos → Cell) (level : Pos → ℕ) where
       by true is none = (cell_decided (next_part w level p) (w p)).0 is
       by false is none = cc
 
-  a_change : (p : Pos) (cell : Cell) → change_at w level p ≡ Some cell
+  pub a_change : (p : Pos) (cell : Cell) → change_at w level p ≡ Some cell
       → (cell ≡ next_part w level p) × (next_part w level p ≢ w p)
   unfolding change_at
   a_change p cell some = by (same_cell (next_part w level p) (w p)) refl some
@@ -81,7 +81,7 @@ module _ (w : Pos → Cell) (level : Pos → ℕ) where
   air_stays p air = ap (next_of w level p) air ∙ sym air
 
 module _ (m : MapData) (filled : IsFilled m) where
-  is_one : (n : ℕ) (p : Pos) (cell : Cell) → IsAmong (changed_up_to m n) (p, cell)
+  pub is_one : (n : ℕ) (p : Pos) (cell : Cell) → IsAmong (changed_up_to m n) (p, cell)
       → change_at (cell_on m) (dust_level (cell_on m)) p ≡ Some cell
   is_one zero p cell among = absurd among
   is_one (suc n) p cell among =

@@ -21,7 +21,7 @@ use Rattle.vx_step.specs.Ticks.{changed_up_to, advanced}
 use Rattle.vx_step.proofs.Puts.{puts_whole}
 
 -- cells one after another
-cells_joined : (m : MapData) (xs ys : List (Pos × Cell))
+pub cells_joined : (m : MapData) (xs ys : List (Pos × Cell))
     → with_cells_on m (xs ++ ys) ≡ with_cells_on (with_cells_on m xs) ys
 cells_joined m [] ys = refl
 cells_joined m (x ∷ xs) ys = cells_joined (unwrap_or (with_cell_on m x.0 x.1) m) xs ys

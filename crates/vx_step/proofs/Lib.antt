@@ -6,8 +6,10 @@ pub mod InOrder
 pub mod Joining
 pub mod Making
 pub mod Movers
+pub mod NoChests
 pub mod OneTick
 pub mod Pairs
+pub mod Plans
 pub mod PutDown
 pub mod Permitting
 pub mod Puts

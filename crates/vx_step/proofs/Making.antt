@@ -33,7 +33,8 @@ use Rattle.vx_step.specs.Ticks.{asked_before, asked, asked_up_to, changed_up_to,
 use Rattle.vx_step.proofs.Puts.{cases_place, puts_filled, none_put, all_put}
 
 module _ {X : Type 0} where
-  element : (xs : List X) (i : ℕ) (d : X) → i < length xs → IsAmong xs (get_or xs i d)
+  -- what stands at an index is among them
+  pub element : (xs : List X) (i : ℕ) (d : X) → i < length xs → IsAmong xs (get_or xs i d)
   element [] i d low = absurd (omega arith)
   element (x ∷ xs) zero d low = inl refl
   element (x ∷ xs) (suc i) d low = inr (element xs i d (omega arith))

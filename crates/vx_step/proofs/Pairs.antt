@@ -142,7 +142,7 @@ module _ (m : MapData) (filled : IsFilled m) where
 
   -- what a push and a drawing back put down
   module _ (move : Moving) where
-    push_puts : (by : Pusher m move.at move) (push : IsPush m move.at move)
+    pub push_puts : (by : Pusher m move.at move) (push : IsPush m move.at move)
         → moved_cells v move
         ≡ cell.Piston move.facing by.sticky true ∷ (cell.Head move.facing by.sticky ∷ map v (push.pushed ++ push.last ∷ []))
     push_puts by push =
@@ -179,7 +179,7 @@ module _ (m : MapData) (filled : IsFilled m) where
     unfolding drawing
     draw_cells by = (ap (λ x. x.cells) by.is, ap (λ x. x.push) by.is)
 
-    draw_puts : (by : Drawer m move.at move) → moved_cells v move
+    pub draw_puts : (by : Drawer m move.at move) → moved_cells v move
         ≡ cell.Piston move.facing by.sticky false ∷ (map v (drop 2 move.cells) ++ cell.Air ∷ [])
     draw_puts by =
         ap (λ b. if b then pushed v move.at move.cells else drawn v move.at move.cells) (draw_cells by).1
@@ -217,11 +217,15 @@ module _ (m : MapData) (filled : IsFilled m) where
     drop_some false h [] r among = absurd among
     drop_some false h (p ∷ ps) r among = inr among
 
-    pulls : (by : Drawer m move.at move) (r : Pos) → IsAmong (drop 2 move.cells) r → is_tied (v r) ≡ false
-    pulls by r among =
-        moves_free r (pulled_moves m move.facing by.sticky _ r
+    pub pulls_move : (by : Drawer m move.at move) (r : Pos) → IsAmong (drop 2 move.cells) r
+        → mobility_of (cell_on m r) ≡ Moves
+    pulls_move by r among =
+        pulled_moves m move.facing by.sticky _ r
         (drop_some (is_inside m.sizes (neighbor move.at move.facing)) (neighbor move.at move.facing) _ r
-        (subst (λ ps. IsAmong (drop 2 ps) r) (draw_cells by).0 among)))
+        (subst (λ ps. IsAmong (drop 2 ps) r) (draw_cells by).0 among))
+
+    pulls : (by : Drawer m move.at move) (r : Pos) → IsAmong (drop 2 move.cells) r → is_tied (v r) ≡ false
+    pulls by r among = moves_free r (pulls_move by r among)
 
     draw_frees : (by : Drawer m move.at move) (n : ℕ) (c : Cell)
         → slice_get (moved_cells v move) n ≡ Some c → is_tied c ≡ false

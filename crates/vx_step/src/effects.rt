@@ -1,26 +1,25 @@
 //! What the moves that are made put down.
 ghost use Rattle.std.specs.Prelude.{◌≡◌, ◌<◌, ◌++◌, Some, length, slice_get, IfOk, OnOk};
-ghost use Rattle.vx_cells.specs.Maps.{cell_on};
 ghost use Rattle.vx_step.specs.Ticks.{piston_as, head_of, pushed, drawn, moved_cells, effects, effects_by, put_down};
 
 use crate::fate::Fate;
+use crate::standing::Standing;
 use std::alloc::{AllocError, Global};
 use vx_block::Cell;
-use vx_cells::Frozen;
 use vx_geom::Pos;
 use vx_piston::Move;
 
-/// The cells that moves with these fates put down, on the map on which each component has become
+/// The cells that moves with these fates put down, where this stands when each component has become
 /// its next part.
-pub fn put_down(
+pub fn put_down<S: Standing>(
     alloc: Global,
-    map: &Frozen<'_>,
+    map: &S,
     moves: &[Move],
     fates: &[(Pos, Fate)],
 ) -> Result<Vec<(Pos, Cell)>, AllocError>
     requires each { length fates.now ≡ length moves.now }
     ensures { IfOk result (λ cells.
-        cells.items ≡ put_down (cell_on map.now) moves.now fates.now) }
+        cells.items ≡ put_down (S.stands map.now) moves.now fates.now) }
 {
     let mut cells = Vec::new(alloc);
     for i in 0..moves.len() {
@@ -30,14 +29,14 @@ pub fn put_down(
 }
 
 // Adds what a move with this fate puts down.
-fn add_by(
-    map: &Frozen<'_>,
+fn add_by<S: Standing>(
+    map: &S,
     m: &Move,
     fate: Fate,
     cells: &mut Vec<(Pos, Cell)>,
 ) -> Result<(), AllocError>
     ensures { OnOk result (cells.new.items
-        ≡ cells.old.items ++ effects_by (cell_on map.now) m.now fate) }
+        ≡ cells.old.items ++ effects_by (S.stands map.now) m.now fate) }
 {
     match fate {
         Fate::Moved => add(map, m, cells),
@@ -46,8 +45,8 @@ fn add_by(
 }
 
 // Adds what a move puts down.
-fn add(map: &Frozen<'_>, m: &Move, cells: &mut Vec<(Pos, Cell)>) -> Result<(), AllocError>
-    ensures { OnOk result (cells.new.items ≡ cells.old.items ++ effects (cell_on map.now) m.now) }
+fn add<S: Standing>(map: &S, m: &Move, cells: &mut Vec<(Pos, Cell)>) -> Result<(), AllocError>
+    ensures { OnOk result (cells.new.items ≡ cells.old.items ++ effects (S.stands map.now) m.now) }
 {
     let places = m.cells.as_slice();
     for i in 0..places.len() {
@@ -57,9 +56,9 @@ fn add(map: &Frozen<'_>, m: &Move, cells: &mut Vec<(Pos, Cell)>) -> Result<(), A
 }
 
 // What stands in a cell of a move once it is made, by the cell's number in it.
-fn moved_cell(map: &Frozen<'_>, m: &Move, i: usize) -> Cell
+fn moved_cell<S: Standing>(map: &S, m: &Move, i: usize) -> Cell
     requires { i < length m.now.cells }
-    ensures { slice_get (moved_cells (cell_on map.now) m.now) i ≡ Some result }
+    ensures { slice_get (moved_cells (S.stands map.now) m.now) i ≡ Some result }
 {
     if m.push {
         pushed_cell(map, m.at, m.cells.as_slice(), i)
@@ -68,26 +67,26 @@ fn moved_cell(map: &Frozen<'_>, m: &Move, i: usize) -> Cell
     }
 }
 
-fn pushed_cell(map: &Frozen<'_>, at: Pos, places: &[Pos], i: usize) -> Cell
+fn pushed_cell<S: Standing>(map: &S, at: Pos, places: &[Pos], i: usize) -> Cell
     requires { i < length places.now }
-    ensures { slice_get (pushed (cell_on map.now) at places.now) i ≡ Some result }
+    ensures { slice_get (pushed (S.stands map.now) at places.now) i ≡ Some result }
 {
     match i {
-        0 => piston_as(map.cell(at), true),
-        1 => head_of(map.cell(at)),
-        _ => map.cell(places[i - 1]),
+        0 => piston_as(map.at(at), true),
+        1 => head_of(map.at(at)),
+        _ => map.at(places[i - 1]),
     }
 }
 
-fn drawn_cell(map: &Frozen<'_>, at: Pos, places: &[Pos], i: usize) -> Cell
+fn drawn_cell<S: Standing>(map: &S, at: Pos, places: &[Pos], i: usize) -> Cell
     requires { i < length places.now }
-    ensures { slice_get (drawn (cell_on map.now) at places.now) i ≡ Some result }
+    ensures { slice_get (drawn (S.stands map.now) at places.now) i ≡ Some result }
 {
     if i == 0 {
-        return piston_as(map.cell(at), false);
+        return piston_as(map.at(at), false);
     }
     match places.get(i + 1) {
-        Some(pulled) => map.cell(*pulled),
+        Some(pulled) => map.at(*pulled),
         None => Cell::Air,
     }
 }

@@ -12,7 +12,7 @@ use vx_cells::Frozen;
 use vx_geom::Pos;
 use vx_part::next_parts;
 use vx_piston::{Move, candidate};
-use vx_power::{Levels, all_levels};
+use vx_power::Levels;
 
 /// What a tick finds on a map as it begins, or in a part of it.
 #[derive(Drop)]
@@ -24,18 +24,18 @@ pub struct Found {
 }
 
 impl Found {
-    /// What a tick finds on a map, with the moves in the order of the pistons' positions. It costs
-    /// what the components of the map are, and the dust that has power.
-    pub fn on(alloc: Global, map: &Frozen<'_>) -> Result<Found, AllocError>
+    /// What a tick finds on a map, with the moves in the order of the pistons' positions, by the
+    /// levels of all its dust. It costs what the components of the map are.
+    pub fn on(alloc: Global, map: &Frozen<'_>, levels: &Levels) -> Result<Found, AllocError>
+        requires { AreAllLevels map.now (level_in levels.now) }
         ensures changes { IfOk result (λ found.
             found.changes.items ≡ changed_up_to map.now (sector_count map.now.sizes)) }
         ensures moves { IfOk result (λ found. AreMoves map.now found.moves.items) }
     {
-        let levels = all_levels(alloc, map)?;
         let mut changes = Vec::new(alloc);
         let mut moves = Vec::new(alloc);
         for sector in 0..map.bounds().sectors() {
-            let mut found = Found::in_sector(alloc, map, &levels, sector)?;
+            let mut found = Found::in_sector(alloc, map, levels, sector)?;
             changes.append(&mut found.changes)?;
             moves.append(&mut found.moves)?;
         }

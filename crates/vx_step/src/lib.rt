@@ -10,12 +10,16 @@ mod fates_work;
 mod found;
 mod gate;
 mod laws;
+mod next_parts;
 mod no_gate;
 mod parts;
 mod parts_work;
 mod phase;
+mod planned;
+mod planning;
 mod point;
 mod shares;
+mod standing;
 mod stepping;
 mod work;
 
@@ -26,5 +30,7 @@ pub use laws::{heads_stay_with_pistons, parts_become_next, there_is_one_tick, ti
 pub use no_gate::NoGate;
 pub use parts::step_parts;
 pub use phase::Phase;
+pub use planned::Plan;
+pub use planning::plan;
 pub use point::Point;
 pub use stepping::{step_owned, step_plain};

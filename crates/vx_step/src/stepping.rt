@@ -2,15 +2,13 @@
 ghost use Rattle.std.specs.Prelude.{◌≡◌, length, IfOk};
 ghost use Rattle.vx_cells.specs.Maps.{cell_on};
 ghost use Rattle.vx_cells.specs.Wholes.{with_cells_on};
-ghost use Rattle.vx_step.specs.Ticks.{put_down, fates_on, stepped, IsTick};
+ghost use Rattle.vx_step.specs.Ticks.{put_down, fates_on, stepped};
 
 use crate::effects::put_down;
-use crate::ending::fates;
 use crate::fate::Fate;
-use crate::found::Found;
+use crate::planning::plan;
 use std::alloc::{AllocError, Global};
 use vx_cells::Whole;
-use vx_decide::Plain;
 use vx_geom::Pos;
 use vx_piston::Move;
 use vx_policy::Version;
@@ -38,42 +36,10 @@ pub fn step_owned(
     ensures map { IfOk result (λ after. after.0 ≡ stepped version.now.policy map) }
     ensures fates { IfOk result (λ after. after.1.items ≡ fates_on version.now.policy map) }
 {
-    tick(alloc, map, version)
-}
-
-// The map after a tick, and the fates of its moves.
-fn tick(
-    alloc: Global,
-    map: Whole,
-    version: &Version,
-) -> Result<(Whole, Vec<(Pos, Fate)>), AllocError>
-    ensures { IfOk result (λ after. IsTick version.now.policy map after.0 after.1.items) }
-{
-    let found = Found::on(alloc, &map.frozen())?;
-    let fates = fates(
-        alloc,
-        &Plain::new(version.policy.regions()),
-        found.moves.as_slice(),
-    )?;
-    let next = stepped(alloc, map, &found, fates.as_slice())?;
-    Ok((next, fates))
-}
-
-// The map after a tick that found this, where the moves have these fates.
-fn stepped(
-    alloc: Global,
-    map: Whole,
-    found: &Found,
-    fates: &[(Pos, Fate)],
-) -> Result<Whole, AllocError>
-    requires each { length fates.now ≡ length found.now.moves.items }
-    ensures { IfOk result (λ next. let advanced = with_cells_on map found.now.changes.items in
-        next ≡ with_cells_on advanced
-        (put_down (cell_on advanced) found.now.moves.items fates.now)) }
-{
+    let told = plan(alloc, &map.frozen(), version)?;
     let mut next = map;
-    next.set_all(found.changes.as_slice())?;
-    moved(alloc, next, found.moves.as_slice(), fates)
+    next.set_all(told.puts.as_slice())?;
+    Ok((next, told.fates))
 }
 
 /// A map on which each component has become its next part, after the moves with these fates: what

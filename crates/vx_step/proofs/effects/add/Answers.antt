@@ -1,14 +1,13 @@
 use Rattle.std.proofs.Common.{◌≡◌, ◌+◌, suc, ◌≤◌, ◌∷◌, [], ◌++◌, length, take, get_or, slice_get, Some, sym, ap, ◌∙◌, subst, arith}
 use Rattle.std.proofs.lemmas.List.{append_assoc}
 use Rattle.std.proofs.lemmas.Option.{slice_get-get_or}
-use Rattle.vx_cells.specs.Maps.{cell_on}
 use Rattle.vx_step.specs.Ticks.{effects, moved_cells}
 use Rattle.vx_step.proofs.PutDown.{zip_more, zip_whole}
 use Rattle.vx_step.proofs.effects.add.Goals as goal
 
 pub loop-i-preserved : goal.loop-i-preserved
-loop-i-preserved c =
-    let w = cell_on c.args.map.now in
+loop-i-preserved g c =
+    let w = g.S.Standing.stands c.args.map.now in
     let m = c.args.m.now in
     let i = c.loop-i.i in
     let old = c.args.cells.now.items in
@@ -24,8 +23,8 @@ loop-i-preserved c =
     ∙ ap (λ n. old ++ take n (effects w m)) next
 
 pub returns : goal.returns
-returns c =
-    let w = cell_on c.args.map.now in
+returns g c =
+    let w = g.S.Standing.stands c.args.map.now in
     let m = c.args.m.now in
     let i = c.loop-i.i in
     let cells : c.as_slice-places.result.now ≡ m.cells = c.as_slice-places.ensures.value ∙ ap (λ x. x.cells) c.m.view_is in

@@ -2,14 +2,13 @@ use Rattle.std.proofs.Common.{◌≡◌, suc, ◌+◌, ◌-◌, ◌≤◌, lengt
 use Rattle.std.proofs.lemmas.Bool.{ltb-true}
 use Rattle.std.proofs.lemmas.Option.{slice_get_read}
 use Rattle.vx_block.specs.declared.cell.Cell.TheVariants.{Air}
-use Rattle.vx_cells.specs.Maps.{cell_on}
 use Rattle.vx_step.specs.Ticks.{drawn}
 use Rattle.vx_step.proofs.PutDown.{drawn_on, drawn_end}
 use Rattle.vx_step.proofs.effects.drawn_cell.Goals as goal
 
 pub returns-in-Some : goal.returns-in-Some
-returns-in-Some c =
-    let w = cell_on c.args.map.now in
+returns-in-Some g c =
+    let w = g.S.Standing.stands c.args.map.now in
     let i = c.args.i in
     let ps = c.args.places.now in
     let p = c.in-Some.pulled.now in
@@ -18,13 +17,13 @@ returns-in-Some c =
     let lookup = c.in-Some.ensures.lookup in
     let there : slice_get ps (i + 1) ≡ Some p =
     slice_get_read ps (length ps) (i + 1) p refl (ltb-true (i + 1) (length ps) (sym lookup.0)) lookup.1 in
-    subst (λ k. slice_get (drawn w c.args.at ps) k ≡ Some c.cell-in-Some.result) (sym next)
+    subst (λ k. slice_get (drawn w c.args.at ps) k ≡ Some c.at-in-Some.result) (sym next)
     (drawn_on w c.args.at ps (i - 1) p (subst (λ k. slice_get ps k ≡ Some p) further there)
-    ∙ ap Some (sym c.cell-in-Some.ensures))
+    ∙ ap Some (sym c.at-in-Some.ensures))
 
 pub returns-in-None : goal.returns-in-None
-returns-in-None c =
-    let w = cell_on c.args.map.now in
+returns-in-None g c =
+    let w = g.S.Standing.stands c.args.map.now in
     let i = c.args.i in
     let ps = c.args.places.now in
     let next : i ≡ suc (i - 1) = omega (arith, c.if-i-eq0.false) in

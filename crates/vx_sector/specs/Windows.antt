@@ -1,9 +1,12 @@
-use Rattle.std.specs.Prelude.{◌≡◌, ℕ, ◌+◌, ◌≤◌, ◌^◌, Bool, true, false, not, nat_le, if◌then◌else◌, List, [], ◌∷◌, ◌++◌, length, Result, Ok, Err}
-use Rattle.vx_cells.specs.SectorCells.{SectorCells, holds}
+use Rattle.std.specs.Prelude.{◌≡◌, ℕ, ◌+◌, ◌≤◌, ◌^◌, Bool, true, false, not, nat_le, if◌then◌else◌, List, [], ◌∷◌, ◌++◌, length, Option, Some, None, Result, Ok, Err}
+use Rattle.vx_block.specs.declared.cell.Cell.{Cell}
+use Rattle.vx_cells.specs.SectorCells.{SectorCells, holds, with_cell}
+use Rattle.vx_geom.specs.declared.pos.Pos.{Pos}
+use Rattle.vx_policy.specs.declared.version.Version.{Version}
 use Rattle.vx_region.specs.Regions.{Regions}
 use Rattle.vx_sector.specs.Acting.{rules_answer, cells_by}
 use Rattle.vx_sector.specs.Commands.{place_of}
-use Rattle.vx_sector.specs.SectorData.{SectorData, SeatData, EntryData, FreshData}
+use Rattle.vx_sector.specs.SectorData.{SectorData, SeatData, EntryData, FreshData, NextData}
 use Rattle.vx_sector.specs.declared.cmd.Cmd.{Cmd}
 use Rattle.vx_sector.specs.declared.reply.Reply.{Reply}
 use Rattle.vx_sector.specs.declared.refusal.Refusal.{Refusal}
@@ -89,3 +92,21 @@ first_window fresh = record {
 -- the sector as its next window begins
 unfoldable pub renewed : SectorData → FreshData → SectorData
 renewed s fresh = record (first_window fresh) { closed = count_of s }
+
+-- a base that was made suits a sector: a copy of its cells, and none only where nothing is recorded
+abbrev pub IsNextBase : Option SectorCells → SectorData → Type 0
+IsNextBase None s = s.entries ≡ []
+IsNextBase (Some base) s = base ≡ s.cells
+
+-- what is made for the next window suits a sector as it is: with nothing recorded its cells are its
+-- base, and else a copy of the cells takes the base's place
+abbrev pub IsNextOf : NextData → SectorData → Type 0
+IsNextOf next s = IsNextBase next.base s
+
+-- the sector as it goes on over its cells as they are, judged by the version that was made for it
+abbrev pub gone_on : SectorData → Version → SectorData
+gone_on s version = renewed s (record { cells = s.cells; version = version })
+
+-- the sector with a cell put down as its window begins, by a machine
+abbrev pub put_in : SectorData → Pos → Cell → SectorData
+put_in s p cell = record s { base = with_cell s.cells p cell; cells = with_cell s.cells p cell }

@@ -9,6 +9,7 @@ mod effect;
 mod entry;
 mod fresh;
 mod laws;
+mod next;
 mod outcome;
 mod refusal;
 mod reply;
@@ -24,6 +25,7 @@ pub use laws::{
     putting_adds_so_many, refusal_leaves_cells, sectors_stay_whole, seeing_changes_nothing,
     shown_by_leave, taking_leaves_so_many_fewer, turning_keeps_the_facing,
 };
+pub use next::Next;
 pub use refusal::Refusal;
 pub use reply::Reply;
 pub use seat::Seat;

@@ -1,18 +1,20 @@
-ghost use Rattle.std.specs.Prelude.{◌≡◌, ◌≤◌, ◌<◌, ◌⊎◌, ◌↔◌, true, false, Err, IfOk, IfErr, OnOk, OnErr};
-ghost use Rattle.vx_cells.specs.SectorCells.{holds, with_cell};
+ghost use Rattle.std.specs.Prelude.{◌≡◌, ◌≤◌, ◌<◌, ◌⊎◌, ◌↔◌, true, false, [], Err, IfOk, IfErr, OnOk, OnErr};
+ghost use Rattle.vx_cells.specs.SectorCells.{holds, is_chest, with_cell};
 ghost use Rattle.vx_sector.specs.Acting.{rules_answer, effect_by, Fits};
 ghost use Rattle.vx_sector.specs.Commands.{place_of};
-ghost use Rattle.vx_sector.specs.Windows.{IsWindow, cells_after, most_entries, count_of, is_recorded, is_full};
+ghost use Rattle.vx_sector.specs.Windows.{IsWindow, cells_after, most_entries, count_of, is_recorded, is_full, IsNextOf, gone_on, put_in};
 
 use crate::acting::outcome_of;
 use crate::cmd::Cmd;
 use crate::effect::Effect;
 use crate::entry::Entry;
 use crate::fresh::Fresh;
+use crate::next::Next;
 use crate::outcome::Outcome;
 use crate::refusal::Refusal;
 use crate::reply::Reply;
 use crate::seat::Seat;
+use std::alloc::AllocError;
 use std::marker::Model;
 use std::mem;
 use vx_block::Cell;
@@ -90,6 +92,57 @@ impl Sector {
         self.cells = cells;
         self.version = version;
         mem::replace(&mut self.entries, entries)
+    }
+
+    /// What the next window takes, judged by a copy of this version. The cells are copied, as
+    /// bytes, only where something was recorded.
+    pub fn next(&self, version: &Version) -> Result<Next, AllocError>
+        ensures suits { IfOk result (λ next. IsNextOf next self.now) }
+        ensures version { IfOk result (λ next. next.version ≡ version.now) }
+    {
+        let base = if self.entries.is_empty() {
+            None
+        } else {
+            Some(self.cells.try_clone()?)
+        };
+        Ok(Next {
+            base,
+            version: version.try_clone()?,
+            entries: Vec::new(*self.entries.allocator()),
+        })
+    }
+
+    /// Goes on with the next window over the cells as they are, and hands out the record of the
+    /// window that it closes. It takes no memory.
+    #[tactic(auto, unfolding(crate::specs::Windows::renewed))]
+    pub fn go_on(&mut self, next: Next) -> Vec<Entry>
+        requires { IsNextOf next self.old }
+        ensures entries { map entry_of result.items ≡ self.old.entries }
+        ensures next { self.new ≡ gone_on self.old next.version }
+    {
+        let Next {
+            base,
+            version: judging,
+            entries: empty,
+        } = next;
+        if let Some(copy) = base {
+            self.base = copy;
+        }
+        self.version = judging;
+        let recorded = mem::replace(&mut self.entries, empty);
+        self.closed += recorded.len() as u64;
+        recorded
+    }
+
+    /// Puts a cell down as a window begins, as a machine does. It takes no memory.
+    pub fn put(&mut self, p: Pos, cell: Cell)
+        requires nothing { self.old.entries ≡ [] }
+        requires held { holds self.old.cells p ≡ true }
+        requires chest { is_chest cell ≡ false }
+        ensures { self.new ≡ put_in self.old p cell }
+    {
+        put_down_always(&mut self.base, p, &cell);
+        put_down_always(&mut self.cells, p, &cell);
     }
 
     /// The cells as the window began.
@@ -230,4 +283,14 @@ fn put_down(cells: &mut Cells, p: Pos, cell: Cell) -> Result<(), Refusal>
     ensures memory { IfErr result (λ refusal. refusal ≡ Refusal.NoMemory) }
 {
     cells.set(p, cell).map_err(|_| Refusal::NoMemory)
+}
+
+// Puts a cell other than a chest down at a position of the sector. It takes no memory, so it is
+// always done.
+fn put_down_always(cells: &mut Cells, p: Pos, cell: &Cell)
+    requires held { holds cells.old p ≡ true }
+    requires chest { is_chest cell.now ≡ false }
+    ensures { cells.new ≡ with_cell cells.old p cell.now }
+{
+    let _ = cells.set(p, *cell);
 }

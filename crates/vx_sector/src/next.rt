@@ -1,0 +1,24 @@
+use crate::entry::Entry;
+use std::marker::Model;
+use vx_cells::Cells;
+use vx_policy::Version;
+
+/// All that the next window of a sector takes beside its cells. It is made before the window
+/// begins, since making it takes memory and beginning does not.
+#[derive(Drop)]
+pub struct Next {
+    pub(crate) base: Option<Cells>,
+    pub(crate) version: Version,
+    pub(crate) entries: Vec<Entry>,
+}
+
+impl Model for Next {
+    ghost use Rattle.std.specs.Prelude.{◌≡◌, []};
+    ghost use Rattle.vx_sector.specs.SectorData.{NextData};
+
+    ghost Value = { NextData };
+
+    ghost view = { λ a. record { base = a.base; version = a.version } };
+
+    ghost invariant = { λ a. a.entries.items ≡ [] };
+}

@@ -1,5 +1,6 @@
 pub mod CellLaws
 pub mod CodeLemmas
+pub mod Copying
 pub mod Indices
 pub mod Listing
 pub mod MapLemmas

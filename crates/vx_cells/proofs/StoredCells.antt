@@ -11,7 +11,7 @@ use Rattle.vx_cells.specs.Chests.{refilled, Slots, ChestData, slots_of_chest, no
 use Rattle.vx_cells.specs.CellsLaws.{sizes_decided}
 use Rattle.vx_cells.specs.Codes.{code_count, cell_of}
 use Rattle.vx_cells.specs.SameCells.{same_sizes}
-use Rattle.vx_cells.specs.SectorCells.{IsSlot, is_chest, placed, block_at, cell_at, chest_at, with_block, with_cell, with_content, with_slot}
+use Rattle.vx_cells.specs.SectorCells.{IsSlot, IsBlock, is_chest, placed, block_at, cell_at, chest_at, with_block, with_cell, with_content, with_slot}
 use Rattle.vx_cells.specs.Stored.{block_of, blocks_from, stored, IsBeside, IsStored}
 use Rattle.vx_cells.proofs.StoredBlocks.{block-at, blocks-changed, stored-set, same-slots, same-blocks}
 
@@ -93,6 +93,24 @@ module _ (bounds : Sizes) (sector : ℕ) (codes : List ℕ) (chests : ChestData)
         ≡ with_content (block_at (stored bounds sector codes chests) p) slot content
         = (λ i. record { cell = cell_of (get_or codes index 0); slots = slots i }) ∙ ap (λ b. with_content b slot content) block-stored in
         let blocks = ap (λ cs. blocks_from 0 cs new) (sym kept) ∙ blocks-changed codes chests new index (get_or codes index 0) _ near change ∙ (λ i. set (blocks_from 0 codes chests) (at i) (block i)) in
+        λ i. record { bounds = bounds; sector = sector; blocks = blocks i }
+
+  -- other things are in all slots of the chest there
+  module _ (new : ChestData) (slots : Slots) (chest : is_chest (cell_at (stored bounds sector codes chests) p) ≡ true) (change : Changes chests new index (Some slots)) where
+    same_codes : set codes index (get_or codes index 0) ≡ codes
+    same_codes = set-get_or codes index 0
+
+    pub filled-held : IsBlock (record { cell = cell_at (stored bounds sector codes chests) p; slots = slots }) → IsStored bounds codes new
+    filled-held block =
+        let there : is_chest (cell_of (get_or codes index 0)) ≡ true = ap is_chest cell-stored ∙ chest in
+        let long : length slots ≡ 27 = block.slots ∙ ap (λ (b : Bool). if b then 27 else 0) chest in
+        rw (← same_codes) (stored-set bounds codes chests new index (get_or codes index 0) (Some slots) held near (held.codes index 0 near) change (there, long, block.each))
+
+    pub filled-stored : stored bounds sector codes new ≡ with_block (stored bounds sector codes chests) p (record { cell = cell_at (stored bounds sector codes chests) p; slots = slots })
+    unfolding with_block
+    filled-stored =
+        let blocks = ap (λ cs. blocks_from 0 cs new) (sym same_codes) ∙ blocks-changed codes chests new index (get_or codes index 0) (Some slots) near change
+        ∙ (λ i. set (blocks_from 0 codes chests) (at i) (record { cell = cell-stored i; slots = slots })) in
         λ i. record { bounds = bounds; sector = sector; blocks = blocks i }
 
 -- two sectors of one size and number with the same bytes are the same where their slots are

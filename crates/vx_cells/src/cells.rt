@@ -38,7 +38,7 @@ impl Model for Cells {
 }
 
 impl Cells {
-    ghost use Rattle.vx_cells.specs.SectorCells.{holds, only_air, cell_at, chest_at, is_chest, with_cell, with_slot, IsWhole, IsSlot};
+    ghost use Rattle.vx_cells.specs.SectorCells.{holds, only_air, cell_at, chest_at, is_chest, block_at, with_block, with_cell, with_slot, IsWhole, IsBlock, IsSlot};
 
     /// The sector of that number, with nothing but air. It takes 16,384 or 65,536 bytes, and
     /// about a quarter of that for marks.
@@ -138,6 +138,37 @@ impl Cells {
     {
         let index = self.bounds.index_in_sector(p);
         self.chests.set(index, slot, content);
+    }
+
+    /// Puts down what stands at a position of another copy of this sector: its cell, with all that
+    /// a chest holds. A chest goes only where one stands, so that it takes no memory.
+    pub fn copy_at(&mut self, p: Pos, other: &Cells)
+        requires held { holds self.old p ≡ true }
+        requires bounds { other.now.bounds ≡ self.old.bounds }
+        requires sector { other.now.sector ≡ self.old.sector }
+        requires chest { is_chest (cell_at other.now p) ≡ true
+            → is_chest (cell_at self.old p) ≡ true }
+        ensures { self.new ≡ with_block self.old p (block_at other.now p) }
+    {
+        other.soundness();
+        match other.chest(p) {
+            Some(slots) => self.fill(p, slots),
+            None => {
+                let _ = self.set(p, other.get(p));
+            }
+        }
+    }
+
+    // Puts other things into all slots of the chest at a position of this sector.
+    fn fill(&mut self, p: Pos, slots: [Slot; SLOTS])
+        requires held { holds self.old p ≡ true }
+        requires chest { is_chest (cell_at self.old p) ≡ true }
+        requires block { IsBlock (record { cell = cell_at self.old p; slots = slots }) }
+        ensures { self.new
+            ≡ with_block self.old p (record { cell = cell_at self.old p; slots = slots }) }
+    {
+        let index = self.bounds.index_in_sector(p);
+        self.chests.fill(index, slots);
     }
 
     /// A copy of the sector.

@@ -88,6 +88,14 @@ impl Chests {
         slots[slot as usize] = content;
     }
 
+    /// Puts other things into all slots of the chest at that index.
+    pub fn fill(&mut self, index: u32, slots: [Slot; SLOTS])
+        requires { IsSome (slots_of_chest self.old index) }
+        ensures { Changes self.old self.new index (Some slots) }
+    {
+        *self.slots.get_mut(&index).unwrap() = slots;
+    }
+
     /// A copy of all chests.
     pub fn try_clone(&self) -> Result<Chests, AllocError>
         ensures { IfOk result (λ copy. copy ≡ self.now) }

@@ -116,7 +116,7 @@ sectors_stay_whole s seat cmd whole =
     after_command (IsLeftWhole s.cells) s seat cmd (whole, refl, refl) (λ held none. whole_done s.cells cmd whole none)
 
 -- two positions are one, or two
-cases_place : (p q : Pos) → (p ≡ q) ⊎ (p ≢ q)
+pub cases_place : (p q : Pos) → (p ≡ q) ⊎ (p ≢ q)
 cases_place p q = by (int_eq p.y q.y && int_eq p.z q.z && int_eq p.x q.x) refl
   where
     decided : Decides (int_eq p.y q.y && int_eq p.z q.z && int_eq p.x q.x) (p ≡ q)

@@ -1,4 +1,5 @@
 pub mod ActingLemmas
+pub mod Catching
 pub mod ChestLemmas
 pub mod ContentsLemmas
 pub mod Keeping

@@ -1,6 +1,6 @@
 use Rattle.std.specs.Prelude.{◌≡◌, ℕ, ◌+◌, ◌≤◌, ◌^◌, Bool, true, false, not, nat_le, if◌then◌else◌, List, [], ◌∷◌, ◌++◌, length, Option, Some, None, Result, Ok, Err}
 use Rattle.vx_block.specs.declared.cell.Cell.{Cell}
-use Rattle.vx_cells.specs.SectorCells.{SectorCells, holds, with_cell}
+use Rattle.vx_cells.specs.SectorCells.{SectorCells, is_chest, cell_at, holds, with_cell}
 use Rattle.vx_geom.specs.declared.pos.Pos.{Pos}
 use Rattle.vx_policy.specs.declared.version.Version.{Version}
 use Rattle.vx_region.specs.Regions.{Regions}
@@ -25,6 +25,11 @@ IsWindow regions c (entry ∷ entries) =
     (holds c (place_of entry.cmd) ≡ true)
     × (entry.answer ≡ rules_answer regions c entry.seat entry.cmd)
     × IsWindow regions (cells_by c entry.cmd entry.answer) entries
+
+-- the cells hold the place of each entry
+abbrev pub HoldsPlaces : SectorCells → List EntryData → Type 0
+HoldsPlaces c [] = Unit {0}
+HoldsPlaces c (entry ∷ entries) = (holds c (place_of entry.cmd) ≡ true) × HoldsPlaces c entries
 
 -- how many entries a sector records
 abbrev pub most_entries : ℕ
@@ -93,13 +98,22 @@ first_window fresh = record {
 unfoldable pub renewed : SectorData → FreshData → SectorData
 renewed s fresh = record (first_window fresh) { closed = count_of s }
 
--- a base that was made suits a sector: a copy of its cells, and none only where nothing is recorded
+-- where the cells have a chest at the place of an entry, the base has one too
+abbrev pub IsCovered : SectorCells → SectorCells → List EntryData → Type 0
+IsCovered base cells [] = Unit {0}
+IsCovered base cells (entry ∷ entries) =
+    (is_chest (cell_at cells (place_of entry.cmd)) ≡ true
+    → is_chest (cell_at base (place_of entry.cmd)) ≡ true)
+    × IsCovered base cells entries
+
+-- the base that was made suits a sector: a copy of its cells, or none where each chest that a
+-- command left stands over one of the base
 abbrev pub IsNextBase : Option SectorCells → SectorData → Type 0
-IsNextBase None s = s.entries ≡ []
+IsNextBase None s = IsCovered s.base s.cells s.entries
 IsNextBase (Some base) s = base ≡ s.cells
 
--- what is made for the next window suits a sector as it is: with nothing recorded its cells are its
--- base, and else a copy of the cells takes the base's place
+-- what is made for the next window suits a sector as it is: a copy of the cells takes the base's
+-- place, or the base is brought up to the cells where it takes no memory
 abbrev pub IsNextOf : NextData → SectorData → Type 0
 IsNextOf next s = IsNextBase next.base s
 

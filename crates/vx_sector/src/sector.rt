@@ -1,8 +1,9 @@
-ghost use Rattle.std.specs.Prelude.{◌≡◌, ◌≤◌, ◌<◌, ◌⊎◌, ◌↔◌, true, false, [], Err, IfOk, IfErr, OnOk, OnErr};
+ghost use Rattle.std.specs.Prelude.{◌≡◌, ◌≤◌, ◌<◌, ◌⊎◌, ◌↔◌, true, false, [], map, Err, IfOk, IfErr, OnOk, OnErr};
 ghost use Rattle.vx_cells.specs.SectorCells.{holds, is_chest, with_cell};
 ghost use Rattle.vx_sector.specs.Acting.{rules_answer, effect_by, Fits};
 ghost use Rattle.vx_sector.specs.Commands.{place_of};
-ghost use Rattle.vx_sector.specs.Windows.{IsWindow, cells_after, most_entries, count_of, is_recorded, is_full, IsNextOf, gone_on, put_in};
+ghost use Rattle.vx_sector.specs.SectorData.{seat_of, entry_of};
+ghost use Rattle.vx_sector.specs.Windows.{IsWindow, cells_after, most_entries, count_of, is_recorded, is_full, HoldsPlaces, IsCovered, IsNextOf, gone_on, put_in};
 
 use crate::acting::outcome_of;
 use crate::cmd::Cmd;
@@ -49,8 +50,6 @@ impl Model for Sector {
 }
 
 impl Sector {
-    ghost use Rattle.std.specs.Prelude.{map};
-    ghost use Rattle.vx_sector.specs.SectorData.{seat_of, entry_of};
     ghost use Rattle.vx_sector.specs.Windows.{answer_of, recorded, first_window, renewed, sector_after};
 
     /// A sector in its first window. It takes no memory.
@@ -95,12 +94,12 @@ impl Sector {
     }
 
     /// What the next window takes, judged by a copy of this version. The cells are copied, as
-    /// bytes, only where something was recorded.
+    /// bytes, only where a chest was left at a place that had none.
     pub fn next(&self, version: &Version) -> Result<Next, AllocError>
         ensures suits { IfOk result (λ next. IsNextOf next self.now) }
         ensures version { IfOk result (λ next. next.version ≡ version.now) }
     {
-        let base = if self.entries.is_empty() {
+        let base = if self.is_covered() {
             None
         } else {
             Some(self.cells.try_clone()?)
@@ -113,7 +112,8 @@ impl Sector {
     }
 
     /// Goes on with the next window over the cells as they are, and hands out the record of the
-    /// window that it closes. It takes no memory.
+    /// window that it closes. It takes no memory, and copies at most what stands at the places of
+    /// the record.
     #[tactic(auto, unfolding(crate::specs::Windows::renewed))]
     pub fn go_on(&mut self, next: Next) -> Vec<Entry>
         requires { IsNextOf next self.old }
@@ -125,8 +125,9 @@ impl Sector {
             version: judging,
             entries: empty,
         } = next;
-        if let Some(copy) = base {
-            self.base = copy;
+        match base {
+            Some(copy) => self.base = copy,
+            None => bring_up(&mut self.base, &self.entries, &self.cells),
         }
         self.version = judging;
         let recorded = mem::replace(&mut self.entries, empty);
@@ -252,6 +253,13 @@ impl Sector {
         Ok(())
     }
 
+    // Whether the base has a chest wherever the commands of the window left one.
+    fn is_covered(&self) -> bool
+        ensures { result ≡ true → IsCovered self.now.base self.now.cells self.now.entries }
+    {
+        are_covered(&self.base, &self.cells, &self.entries)
+    }
+
     // Whether as many commands were recorded as may be.
     #[tactic(auto, unfolding(crate::specs::Windows::is_full))]
     fn is_full(&self) -> bool
@@ -293,4 +301,33 @@ fn put_down_always(cells: &mut Cells, p: Pos, cell: &Cell)
     ensures { cells.new ≡ with_cell cells.old p cell.now }
 {
     let _ = cells.set(p, *cell);
+}
+
+// Whether the base has a chest at each place of the entries where the cells have one.
+fn are_covered(base: &Cells, cells: &Cells, entries: &[Entry]) -> bool
+    requires base { HoldsPlaces base.now (map entry_of entries.now) }
+    requires cells { HoldsPlaces cells.now (map entry_of entries.now) }
+    ensures { result ≡ true → IsCovered base.now cells.now (map entry_of entries.now) }
+{
+    for entry in entries {
+        let p = entry.cmd.place();
+        if cells.get(p) == Cell::Chest && base.get(p) != Cell::Chest {
+            return false;
+        }
+    }
+    true
+}
+
+// Brings cells up to those that the entries leave, place by place. It takes no memory.
+fn bring_up(base: &mut Cells, entries: &[Entry], cells: &Cells)
+    requires after { cells.now ≡ cells_after base.old (map entry_of entries.now) }
+    requires held { HoldsPlaces base.old (map entry_of entries.now) }
+    requires covered { IsCovered base.old cells.now (map entry_of entries.now) }
+    ensures { base.new ≡ cells.now }
+{
+    cells.bounds().soundness();
+    for entry in entries {
+        base.soundness();
+        base.copy_at(entry.cmd.place(), cells);
+    }
 }

@@ -14,7 +14,7 @@ bench=$work/crates/bench_$name
 mkdir -p "$bench/src" "$bench/proofs"
 cp "$root/bench/$name.rt.in" "$bench/src/main.rt"
 cp "$root/bench/map.rt.in" "$bench/src/map.rt"
-echo "bench_$name: $(sed -n 's/^vx_tests: //p' "$root/crates.txt") anyhow" >>"$work/crates.txt"
+echo "bench_$name: $(sed -n 's/^vx_core_tests: //p' "$root/crates.txt") anyhow" >>"$work/crates.txt"
 cd "$bench"
 rt run </dev/null >"$work/first" 2>"$work/log" || { cat "$work/log" >&2; exit 1; }
 "./out/bench_$name" | column -t

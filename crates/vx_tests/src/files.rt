@@ -94,6 +94,10 @@ fn is_mill(rt: &impl Abort, regions: &RegionSet, ann: &Subject, bob: &Subject) {
     assert_eq!(rt; regions.association(bob, RegionNo(1)), Association::Member);
     // Ann is named in the parent.
     assert_eq!(rt; regions.association(ann, RegionNo(1)), Association::Owner);
+    has_flags(rt, mill);
+}
+
+fn has_flags(rt: &impl Abort, mill: &Region) {
     assert_eq!(rt;
         mill.setting(Flag::Build),
         setting(State::Allow, Group::Owners)

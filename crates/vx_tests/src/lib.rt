@@ -7,8 +7,6 @@ mod cells;
 #[cfg(test)]
 mod desk;
 #[cfg(test)]
-mod events;
-#[cfg(test)]
 mod files;
 #[cfg(test)]
 mod policies;
@@ -16,7 +14,5 @@ mod policies;
 mod sectors;
 #[cfg(test)]
 mod shapes;
-#[cfg(test)]
-mod ticks;
 #[cfg(test)]
 mod words;

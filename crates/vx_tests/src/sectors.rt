@@ -22,26 +22,49 @@ const DENIED: Answer = Err(Refusal::Denied(Rule::Member { at: RegionNo(1) }));
 
 const PLACE: Pos = Pos { x: 6, y: 1, z: 5 };
 
+const HOME: &[u8] = b"version = 1\n[[region]]\nid = 'home'\ncuboid = [6, 0, 5, 6, 63, 5]\n";
+
 // Bob is a stranger where the first version judges, and nobody is where the second does.
 #[test]
 fn a_window_is_judged_by_its_version(rt: HostRuntime) -> Result<(), Fail> {
-    let file = b"version = 1\n[[region]]\nid = 'home'\ncuboid = [6, 0, 5, 6, 63, 5]\n";
-    let policy = read_policy(rt.alloc(), file)?;
+    let policy = read_policy(rt.alloc(), HOME)?;
     let mut sector = opened(&rt, rt.alloc(), Cell::Stone, policy)?;
     let bob = bob()?;
-    let refused = [
-        entry(&bob, Cmd::Break(PLACE), DENIED),
-        entry(&bob, Cmd::Look(PLACE), Ok(Reply::Seen(Cell::Stone))),
-    ];
-    play(&rt, &mut sector, &refused);
-    let next = next_of(rt.alloc(), sector.cells())?;
-    let closed = sector.renew(next);
-    assert_eq!(rt; closed.as_slice(), refused.as_slice());
-    let done = [entry(&bob, Cmd::Break(PLACE), DONE)];
-    judged_anew(&rt, &mut sector, &done);
+    two_windows(&rt, rt.alloc(), &mut sector, &bob)?;
     let left = sector.into_entries();
-    assert_eq!(rt; left.as_slice(), done.as_slice());
+    assert_eq!(&rt; left.as_slice(), [done(&bob)].as_slice());
     Ok(())
+}
+
+fn two_windows(
+    rt: &impl Abort,
+    alloc: Global,
+    sector: &mut Sector,
+    bob: &Seat,
+) -> Result<(), Fail> {
+    play(rt, sector, &refused(bob));
+    let next = next_of(alloc, sector.cells())?;
+    second_window(rt, sector, next, bob);
+    Ok(())
+}
+
+fn second_window(rt: &impl Abort, sector: &mut Sector, next: Fresh, bob: &Seat)
+    requires { next.cells ≡ sector.old.cells }
+{
+    let closed = sector.renew(next);
+    assert_eq!(rt; closed.as_slice(), refused(bob).as_slice());
+    judged_anew(rt, sector, &[done(bob)]);
+}
+
+fn refused(bob: &Seat) -> [Entry; 2] {
+    [
+        entry(bob, Cmd::Break(PLACE), DENIED),
+        entry(bob, Cmd::Look(PLACE), Ok(Reply::Seen(Cell::Stone))),
+    ]
+}
+
+fn done(bob: &Seat) -> Entry {
+    entry(bob, Cmd::Break(PLACE), DONE)
 }
 
 fn judged_anew(rt: &impl Abort, sector: &mut Sector, calls: &[Entry]) {

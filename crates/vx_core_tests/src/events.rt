@@ -17,8 +17,15 @@ const DENIED: Result<Reply, Refusal> = Err(Refusal::Denied(Rule::Member { at: Re
 #[test]
 fn a_tick_between_two_windows_goes_on_record(rt: HostRuntime) -> Result<(), Fail> {
     let opening = opening(rt.alloc(), 1)?;
+    let plot = plot(rt.alloc())?;
+    let core = worked(rt.alloc(), &opening, plot)?;
+    told(&rt, &core)
+}
+
+// What is left of two windows and the tick between them, with this edit in the first.
+fn worked(alloc: Global, opening: &Opening, edit: Edit) -> Result<Core, AllocError> {
     let events = [
-        Event::Edit(plot(rt.alloc())?),
+        Event::Edit(edit),
         place(5, 1),
         Event::Take(0),
         place(6, 1),
@@ -38,8 +45,7 @@ fn a_tick_between_two_windows_goes_on_record(rt: HostRuntime) -> Result<(), Fail
         Event::Take(0),
         Event::Put(1),
     ];
-    let core = run_core(rt.alloc(), &opening, &events)?;
-    told(&rt, &core)
+    run_core(alloc, opening, &events)
 }
 
 fn told(rt: &impl Abort, core: &Core) -> Result<(), Fail> {

@@ -1,0 +1,8 @@
+//! Tests of what only a call can show, of ticks on several threads and of the core machine. They
+//! stand apart from those of `vx_tests`, which are proved while the crates of machines are.
+#![tactic(auto)]
+
+#[cfg(test)]
+mod events;
+#[cfg(test)]
+mod ticks;

@@ -21,7 +21,7 @@ use Rattle.vx_piston.specs.Moves.{Moving}
 use Rattle.vx_cause.specs.Judging.{denial, pushing_verdict}
 use Rattle.vx_cause.specs.Laws.{permitted, IsPermit}
 use Rattle.vx_cause.proofs.Plots.{cell_by_cell}
-use Rattle.vx_sector.proofs.ChestLemmas.{is_block_at}
+use Rattle.vx_cells.proofs.Copying.{is_block_at}
 use Rattle.vx_step.specs.declared.fate.Fate.{Fate}
 use Rattle.vx_step.specs.declared.fate.Fate.TheVariants.{Moved, Denied, Beaten}
 use Rattle.vx_step.specs.Fates.{IsFate, AreFates}

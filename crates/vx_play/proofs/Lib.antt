@@ -1,3 +1,4 @@
+pub mod Going
 pub mod Keeping
 pub mod Playing
 pub mod Renewals

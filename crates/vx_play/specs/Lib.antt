@@ -1,3 +1,4 @@
 pub mod Games
 pub mod Laws
+pub mod Nexts
 pub mod Plays

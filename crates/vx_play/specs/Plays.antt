@@ -151,16 +151,6 @@ all_renewed version (s ∷ sectors) [] =
 all_renewed version (s ∷ sectors) (c ∷ cells) =
     renewed_over version s c ∷ all_renewed version sectors cells
 
--- the cells with which a window begins
-abbrev pub cells_for : FreshData → SectorCells
-cells_for fresh = fresh.cells
-
--- the sectors, of which the first begin their next windows so, and the others are as they were
-abbrev pub renewed_each : List SectorData → List FreshData → List SectorData
-renewed_each [] fresh = []
-renewed_each (s ∷ sectors) [] = s ∷ sectors
-renewed_each (s ∷ sectors) (f ∷ fresh) = renewed s f ∷ renewed_each sectors fresh
-
 -- the record of a sector's window
 abbrev pub entries_of : SectorData → List EntryData
 entries_of s = s.entries

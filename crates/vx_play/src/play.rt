@@ -1,19 +1,24 @@
-ghost use Rattle.std.specs.Prelude.{◌≡◌, map, vec_len, IfOk, OnOk, OnErr};
+ghost use Rattle.std.specs.List.{All};
+ghost use Rattle.std.specs.Prelude.{◌≡◌, false, [], map, vec_len, IfOk, OnOk, OnErr};
 ghost use Rattle.vx_cells.specs.Maps.{AreSectors};
-ghost use Rattle.vx_play.specs.Plays.{cells_of, cells_for, window_over, opened_by, renewed_each, entries_in, entries_of};
+ghost use Rattle.vx_cells.specs.SectorCells.{is_chest};
+ghost use Rattle.vx_cells.specs.Wholes.{with_cells_on};
+ghost use Rattle.vx_play.specs.Nexts.{AreNextOf, put_at, put_all};
+ghost use Rattle.vx_play.specs.Plays.{cells_of, opened_by, all_renewed, entries_in, entries_of};
 
 use crate::names::number_of;
 use crate::tick_error::TickError;
 use crate::ticked::Ticked;
 use std::alloc::{AllocError, Global};
 use std::marker::Model;
+use vx_block::Cell;
 use vx_board::{DeskError, DeskState, Edited, Naming};
-use vx_cells::{Cells, Whole};
+use vx_cells::{Cells, Frozen, Whole};
 use vx_geom::{Bounds, Pos};
 use vx_policy::{Edit, Policy, Version};
 use vx_region::Name;
-use vx_sector::{Cmd, Entry, Fresh, Refusal, Reply, Seat, Sector};
-use vx_step::{Fate, step_owned};
+use vx_sector::{Cmd, Entry, Fresh, Next, Refusal, Reply, Seat, Sector};
+use vx_step::{Plan, plan};
 
 /// How many players a world may have.
 pub const MAX_PLAYERS: usize = 16;
@@ -64,7 +69,7 @@ impl<J: Naming> Play<J> {
     ghost use Rattle.vx_region.specs.Texts.{texts};
     ghost use Rattle.vx_sector.specs.SectorData.{seat_of};
     ghost use Rattle.vx_play.specs.declared.tick_error.TickError.TheVariants.{HistoryFull};
-    ghost use Rattle.vx_play.specs.Plays.{IsWorld, answered, calls, opened, policy_of, seat_named, seat_at, next_version, all_renewed, ticked, next_map, next_fates, most_ticks};
+    ghost use Rattle.vx_play.specs.Plays.{IsWorld, answered, calls, opened, policy_of, seat_named, seat_at, next_version, map_of, all_renewed, ticked, next_map, next_fates, most_ticks};
 
     /// The world of this terrain under this policy, with nothing done yet.
     pub fn open(
@@ -157,27 +162,34 @@ impl<J: Naming> Play<J> {
         if MAX_TICKS <= self.ticks {
             return Err(TickError::HistoryFull);
         }
-        let (next, fates) = self.stepped(alloc)?;
-        let windows = self.renew(alloc, next)?;
-        Ok(Ticked { windows, fates })
+        let plan = self.plan(alloc)?;
+        let windows = self.renew(alloc, plan.puts.as_slice())?;
+        Ok(Ticked {
+            windows,
+            fates: plan.fates,
+        })
     }
 
-    // The map after the next tick, and the fates of its moves.
-    fn stepped(&self, alloc: Global) -> Result<(Whole, Vec<(Pos, Fate)>), AllocError>
-        ensures map { IfOk result (λ after. after.0 ≡ next_map self.now) }
-        ensures fates { IfOk result (λ after. after.1.items ≡ next_fates self.now) }
+    // What the next tick does.
+    fn plan(&self, alloc: Global) -> Result<Plan, AllocError>
+        ensures puts { IfOk result (λ plan.
+            next_map self.now ≡ with_cells_on (map_of self.now) plan.puts.items) }
+        ensures fates { IfOk result (λ plan. plan.fates.items ≡ next_fates self.now) }
+        ensures chests { IfOk result (λ plan.
+            All (λ put. is_chest put.1 ≡ false) plan.puts.items) }
     {
-        let map = map_of(alloc, self.bounds, &self.sectors)?;
-        step_owned(alloc, map, &self.version)
+        let cells = cells_of(alloc, &self.sectors)?;
+        plan(alloc, &Frozen::apart(self.bounds, &cells), &self.version)
     }
 
-    // Begins the next window of each sector over its cells of this map, judged by the policy after
-    // the edits so far, and hands out the records of the windows that this closes.
-    fn renew(&mut self, alloc: Global, next: Whole) -> Result<Vec<Vec<Entry>>, AllocError>
-        requires sizes { next.sizes ≡ self.old.sizes }
+    // Begins the next window of each sector over its cells with these put down, judged by the
+    // policy after the edits so far, and hands out the records of the windows that this closes.
+    fn renew(&mut self, alloc: Global, puts: &[(Pos, Cell)]) -> Result<Vec<Vec<Entry>>, AllocError>
+        requires chests { All (λ put. is_chest put.1 ≡ false) puts.now }
         requires more { self.old.ticks < most_ticks }
         ensures ok { OnOk result (self.new ≡ record self.old {
-          sectors = all_renewed (next_version self.old) self.old.sectors next.sectors;
+          sectors = all_renewed (next_version self.old) self.old.sectors
+              (with_cells_on (map_of self.old) puts.now).sectors;
           version = next_version self.old;
           ticks = self.old.ticks + 1;
         }) }
@@ -186,9 +198,8 @@ impl<J: Naming> Play<J> {
             map entries_in windows.items ≡ map entries_of self.old.sectors) }
     {
         let version = self.desk.fix(self.ticks + 2)?;
-        let (_, cells) = next.into_parts();
-        let fresh = all_fresh(alloc, cells, &version)?;
-        let windows = renew_sectors(alloc, self.bounds, &mut self.sectors, fresh)?;
+        let nexts = all_next(alloc, &self.sectors, &version)?;
+        let windows = renew_sectors(alloc, self.bounds, &version, &mut self.sectors, nexts, puts)?;
         self.version = version;
         self.ticks += 1;
         Ok(windows)
@@ -270,58 +281,104 @@ fn open_sectors(
     Ok(sectors)
 }
 
-// The map of these sectors, which is a copy of their cells.
-fn map_of(alloc: Global, bounds: Bounds, sectors: &[Sector]) -> Result<Whole, AllocError>
-    requires { AreSectors bounds (map cells_of sectors.now) }
-    ensures { IfOk result (λ whole.
-        whole ≡ record { sizes = bounds; sectors = map cells_of sectors.now }) }
-{
-    let cells = all_cells(alloc, sectors)?;
-    Ok(Whole::from_parts(bounds, cells))
-}
-
-// A copy of the cells of each sector.
-fn all_cells(alloc: Global, sectors: &[Sector]) -> Result<Vec<Cells>, AllocError>
-    ensures { IfOk result (λ cells. cells.items ≡ map cells_of sectors.now) }
+// The cells of each sector, where they stand.
+fn cells_of<'a>(alloc: Global, sectors: &'a [Sector]) -> Result<Vec<&'a Cells>, AllocError>
+    ensures { IfOk result (λ cells.
+        map (λ c. c.now) cells.items ≡ map cells_of sectors.now) }
 {
     let mut cells = Vec::with_capacity(alloc, sectors.len())?;
     for sector in sectors {
-        cells.push(sector.cells().try_clone()?)?;
+        cells.push(sector.cells())?;
     }
     Ok(cells)
 }
 
-// What windows over these cells begin with, judged by this version.
-fn all_fresh(alloc: Global, cells: Vec<Cells>, version: &Version) -> Result<Vec<Fresh>, AllocError>
-    ensures { IfOk result (λ fresh. fresh.items ≡ map (window_over version.now) cells.items) }
+// What the next window of each sector takes, judged by this version.
+fn all_next(alloc: Global, sectors: &[Sector], version: &Version) -> Result<Vec<Next>, AllocError>
+    ensures { IfOk result (λ nexts. AreNextOf version.now sectors.now nexts.items) }
 {
-    let mut fresh = Vec::with_capacity(alloc, cells.len())?;
-    for cells in cells {
-        fresh.push(Fresh::over(alloc, cells, version)?)?;
+    let mut nexts = Vec::with_capacity(alloc, sectors.len())?;
+    for sector in sectors {
+        nexts.push(sector.next(version)?)?;
     }
-    Ok(fresh)
+    Ok(nexts)
 }
 
-// Begins the next window of each sector of a world of this size with what was made for it, and
-// hands out the records of the windows that this closes. Memory is wanted only before the first.
+// Begins the next window of each sector of a world of this size over its cells with these put down,
+// and hands out the records of the windows that this closes. Memory is wanted only before the first.
 fn renew_sectors(
     alloc: Global,
     bounds: Bounds,
+    version: &Version,
     sectors: &mut [Sector],
-    fresh: Vec<Fresh>,
+    nexts: Vec<Next>,
+    puts: &[(Pos, Cell)],
 ) -> Result<Vec<Vec<Entry>>, AllocError>
     requires sectors { AreSectors bounds (map cells_of sectors.old) }
-    requires fresh { AreSectors bounds (map cells_for fresh.items) }
-    ensures renewed { OnOk result (sectors.new ≡ renewed_each sectors.old fresh.items) }
+    requires nexts { AreNextOf version.now sectors.old nexts.items }
+    requires chests { All (λ put. is_chest put.1 ≡ false) puts.now }
+    ensures renewed { OnOk result (sectors.new ≡ all_renewed version.now sectors.old
+        (with_cells_on (record { sizes = bounds; sectors = map cells_of sectors.old })
+        puts.now).sectors) }
     ensures err { OnErr result (sectors.new ≡ sectors.old) }
     ensures windows { IfOk result (λ windows.
         map entries_in windows.items ≡ map entries_of sectors.old) }
     ensures placed { AreSectors bounds (map cells_of sectors.new) }
 {
+    let windows = go_on_all(alloc, version, sectors, nexts)?;
+    put_all(bounds, sectors, puts);
+    Ok(windows)
+}
+
+// Goes on with the next window of each sector over its cells as they are, and hands out the records
+// of the windows that this closes. Memory is wanted only before the first.
+fn go_on_all(
+    alloc: Global,
+    version: &Version,
+    sectors: &mut [Sector],
+    nexts: Vec<Next>,
+) -> Result<Vec<Vec<Entry>>, AllocError>
+    requires { AreNextOf version.now sectors.old nexts.items }
+    ensures gone { OnOk result
+        (sectors.new ≡ all_renewed version.now sectors.old (map cells_of sectors.old)) }
+    ensures err { OnErr result (sectors.new ≡ sectors.old) }
+    ensures windows { IfOk result (λ windows.
+        map entries_in windows.items ≡ map entries_of sectors.old) }
+    ensures cells { map cells_of sectors.new ≡ map cells_of sectors.old }
+{
     let mut windows = Vec::with_capacity(alloc, sectors.len())?;
-    for fresh in fresh {
-        let closed = sectors[windows.len()].renew(fresh);
+    for next in nexts {
+        let closed = sectors[windows.len()].go_on(next);
         windows.push_reserved(closed);
     }
     Ok(windows)
+}
+
+// Puts these cells down one after another as the windows begin, and leaves out those outside the
+// world.
+fn put_all(bounds: Bounds, sectors: &mut [Sector], puts: &[(Pos, Cell)])
+    requires sectors { AreSectors bounds (map cells_of sectors.old) }
+    requires nothing { All (λ s. entries_of s ≡ []) sectors.old }
+    requires chests { All (λ put. is_chest put.1 ≡ false) puts.now }
+    ensures put { sectors.new ≡ put_all bounds sectors.old puts.now }
+    ensures placed { AreSectors bounds (map cells_of sectors.new) }
+{
+    for (p, cell) in puts {
+        put(bounds, sectors, *p, *cell);
+    }
+}
+
+// Puts a cell down as the windows begin; nothing outside the world.
+fn put(bounds: Bounds, sectors: &mut [Sector], p: Pos, cell: Cell)
+    requires sectors { AreSectors bounds (map cells_of sectors.old) }
+    requires nothing { All (λ s. entries_of s ≡ []) sectors.old }
+    requires chest { is_chest cell ≡ false }
+    ensures put { sectors.new ≡ put_at bounds sectors.old p cell }
+    ensures placed { AreSectors bounds (map cells_of sectors.new) }
+    ensures nothing { All (λ s. entries_of s ≡ []) sectors.new }
+{
+    let Some(number) = bounds.sector_of(p) else {
+        return;
+    };
+    sectors[number as usize].put(p, cell);
 }

@@ -28,7 +28,7 @@ use Rattle.vx_sector.specs.declared.reply.Reply.{Reply}
 use Rattle.vx_sector.specs.declared.refusal.Refusal.{Refusal}
 use Rattle.vx_sector.specs.declared.refusal.Refusal.TheVariants.{Occupied, Nothing, Extended, NotLever}
 use Rattle.vx_sector.proofs.ActingLemmas.{refusal_leaves_cells}
-use Rattle.vx_sector.proofs.ChestLemmas.{is_block_at}
+use Rattle.vx_cells.proofs.Copying.{is_block_at}
 use Rattle.vx_sector.proofs.Outside.{elsewhere_is_refused, full_is_refused, answered_by_the_rules}
 use Rattle.vx_sector.proofs.Transfers.{none_first, not_so, not_hindered, yes, neither, a_lever, below_27, more_in, fewer_in, of_item, was_slot}
 

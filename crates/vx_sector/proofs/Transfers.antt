@@ -20,7 +20,7 @@ use Rattle.vx_sector.specs.declared.cmd.Cmd.{Cmd}
 use Rattle.vx_sector.specs.declared.cmd.Cmd.TheVariants.{Put, Take, Turn}
 use Rattle.vx_sector.specs.declared.reply.Reply.{Reply}
 use Rattle.vx_sector.specs.declared.refusal.Refusal.{Refusal}
-use Rattle.vx_sector.proofs.ChestLemmas.{is_block_at}
+use Rattle.vx_cells.proofs.Copying.{is_block_at}
 
 same_cells_left : (b : Bool) (s t : SectorData) → t.cells ≡ s.cells → (if b then t else s).cells ≡ s.cells
 same_cells_left true s t same = same

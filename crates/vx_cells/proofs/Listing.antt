@@ -20,7 +20,7 @@ module _ (v : Sizes) (k : ℕ) (f : Pos → Bool) where
   rest from n = filter f (positions_from v k from n)
 
   -- positions that don't pass are left out
-  passed : (gap n m from to : ℕ) → m ≡ gap + n → to ≡ from + gap
+  pub passed : (gap n m from to : ℕ) → m ≡ gap + n → to ≡ from + gap
       → ((i : ℕ) → from ≤ i → i < to → f (position_in_sector v k i) ≡ false)
       → rest from m ≡ rest to n
   passed zero n m from to more far none =
@@ -34,7 +34,7 @@ module _ (v : Sizes) (k : ℕ) (f : Pos → Bool) where
       ∙ passed gap n m (suc from) to (omega arith) (omega arith) (λ i low high. none i (omega arith) high)
 
   -- one that passes is the next
-  taken : (i to : ℕ) → i < to → f (position_in_sector v k i) ≡ true
+  pub taken : (i to : ℕ) → i < to → f (position_in_sector v k i) ≡ true
       → rest i (to - i) ≡ position_in_sector v k i ∷ rest (i + 1) (to - (i + 1))
   taken i to near pass =
       let left : to - i ≡ suc (to - (i + 1)) = omega arith in
@@ -98,7 +98,7 @@ some_device c (Some i) first =
 -- two tests that agree on the positions of a sector find the same
 module _ (f g : Pos → Bool) (v : Sizes) (k : ℕ) (sizes : AreSizes v) (low : k < sector_count v)
     (same : (p : Pos) → sector_of v p ≡ Some k → f p ≡ g p) where
-  same_found : (n from : ℕ) → from + n ≤ sector_cells v
+  pub same_found : (n from : ℕ) → from + n ≤ sector_cells v
       → filter f (positions_from v k from n) ≡ filter g (positions_from v k from n)
   same_found zero from within = refl
   same_found (suc n) from within =

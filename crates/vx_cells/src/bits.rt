@@ -44,6 +44,17 @@ impl Bits {
         self.words[word as usize] > 0
     }
 
+    /// Whether the bit of that index is set. Past the last word none is.
+    #[tactic(auto, unfolding(crate::specs::Marks::is_marked))]
+    pub fn has(&self, index: u32) -> bool
+        ensures { result ≡ is_marked self.now index }
+    {
+        match self.words.get((index / 64) as usize) {
+            Some(word) => has_bit(*word, index % 64),
+            None => false,
+        }
+    }
+
     /// Sets the bit of that index, or clears it.
     pub fn set(&mut self, index: u32, marked: bool)
         requires { index < 64 * length self.old }
@@ -98,6 +109,14 @@ impl Bits {
             words: Vec::from_slice(*self.words.allocator(), &self.words)?,
         })
     }
+}
+
+// Whether that bit of a word is set.
+fn has_bit(word: u64, bit: u32) -> bool
+    requires { bit < 64 }
+    ensures { result ≡ is_set word bit }
+{
+    (word >> bit) % 2 == 1
 }
 
 // The word with that bit set, or cleared.

@@ -54,6 +54,13 @@ impl Marks {
         self.filled.set(word, self.bits.has_marks(word));
     }
 
+    /// Whether an index is marked. It takes no memory.
+    pub fn has(&self, index: u32) -> bool
+        ensures { result ≡ is_marked self.now index }
+    {
+        self.bits.has(index)
+    }
+
     /// The first marked index from this one on.
     pub fn first_from(&self, from: u32) -> Option<u32>
         ensures { IsFirstMarked self.now from result }

@@ -1,0 +1,6 @@
+pub mod Adding
+pub mod Finding
+pub mod Marked
+pub mod Near
+pub mod Steps
+pub mod Widths

@@ -1,0 +1,23 @@
+use Rattle.std.proofs.Common.{◌<◌, ◌≤◌, nat_eq, ap, ◌∙◌, arith}
+use Rattle.std.specs.List.{list_any}
+use Rattle.vx_geom.specs.Sizes.{sector_count}
+use Rattle.vx_places.specs.Places.{steps_between}
+use Rattle.vx_places.proofs.Finding.{found_next, found_whole}
+use Rattle.vx_places.proofs.places.Places.all.Goals as goal
+
+pub loop-sector-preserved : goal.loop-sector-preserved
+loop-sector-preserved c p =
+    let d = c.args.self.now in
+    let k = c.loop-sector.sector in
+    let count = c.sectors-sector-end.ensures ∙ ap sector_count c.bounds.ensures in
+    let low : k < sector_count d.sizes = omega (arith, c.loop-sector-test.true, count) in
+    ap (list_any (λ q. nat_eq (steps_between q p) 0)) c.in_ok-append.ensures.items
+    ∙ found_next d k c.loop-sector.found.items c.in_ok-places.places.items c.soundness.ensures low
+    c.loop-sector.invariant c.in_ok-places.ensures p
+
+pub returns : goal.returns
+returns c =
+    let d = c.args.self.now in
+    let count = c.sectors-sector-end.ensures ∙ ap sector_count c.bounds.ensures in
+    let past : sector_count d.sizes ≤ c.loop-sector.sector = omega (arith, c.loop-sector-test.false, count) in
+    λ p. c.loop-sector.invariant p ∙ found_whole d c.loop-sector.sector p c.soundness.ensures past

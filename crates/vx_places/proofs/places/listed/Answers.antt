@@ -1,0 +1,35 @@
+use Rattle.std.proofs.Common.{◌+◌, ◌++◌, ap, ◌∙◌, arith}
+use Rattle.vx_places.proofs.Finding.{left_from, found_first, found_on, found_all}
+use Rattle.vx_places.proofs.places.listed.Goals as goal
+
+pub loop-index-init : goal.loop-index-init
+loop-index-init c =
+    let v = c.args.bounds in
+    let k = c.args.sector in
+    let words = c.args.marks.now in
+    record {
+      within = omega arith;
+      all = ap (λ ps. ps ++ left_from v k words 0) c.new-found.ensures.items
+          ∙ found_first v k words c.soundness.ensures c.requires.sector c.requires.room;
+    }
+
+pub loop-index-preserved : goal.loop-index-preserved
+loop-index-preserved c =
+    let v = c.args.bounds in
+    let k = c.args.sector in
+    let words = c.args.marks.now in
+    let index = c.in-Some.index in
+    let held = c.loop-index.invariant in
+    record {
+      within = omega (arith, c.in-Some.ensures.1, c.requires.room);
+      all = ap (λ ps. ps ++ left_from v k words (index + 1)) c.in-Ok.ensures.items
+          ∙ found_on v k words c.soundness.ensures c.requires.sector c.requires.room c.loop-index.from
+          c.loop-index.found.items index c.position_in_sector.result held.all c.position_in_sector.ensures
+          c.in-Some.ensures;
+    }
+
+pub returns : goal.returns
+returns c =
+    let held = c.loop-index.invariant in
+    found_all c.args.bounds c.args.sector c.args.marks.now c.soundness.ensures c.requires.sector c.requires.room
+    c.loop-index.from c.loop-index.found.items held.within held.all c.in_default.ensures

@@ -1,0 +1,44 @@
+-- The positions within so many steps of one, by layers, rows and columns.
+use Rattle.std.specs.Prelude.{◌≡◌, ℕ, ◌+◌, ◌-◌, min, Bool, ◌&&◌, ◌||◌, nat_eq, nat_lt, nat_le, if◌then◌else◌, ℤ, pos, int_lt, unsigned_abs}
+use Rattle.vx_geom.specs.declared.pos.Pos.{Pos}
+use Rattle.vx_geom.specs.Sizes.{is_inside}
+use Rattle.vx_places.specs.Places.{PlacesData, is_at, steps_between}
+
+-- at most so many steps lead from one position to the other
+abbrev pub is_around : Pos → ℕ → Pos → Bool
+is_around p steps q = nat_le (steps_between p q) steps
+
+-- the numbers of a position's layer, row and column
+abbrev pub layer_of : Pos → ℕ
+layer_of p = unsigned_abs p.y
+
+abbrev pub row_of : Pos → ℕ
+row_of p = unsigned_abs p.z
+
+abbrev pub column_of : Pos → ℕ
+column_of p = unsigned_abs p.x
+
+-- it passes a test, and its number is this one
+abbrev pub at_number : (Pos → ℕ) → (Pos → Bool) → ℕ → Pos → Bool
+at_number number test n p = test p && nat_eq (number p) n
+
+-- it passes a test, and its number is below this one
+abbrev pub below_number : (Pos → ℕ) → (Pos → Bool) → ℕ → Pos → Bool
+below_number number test n p = test p && nat_lt (number p) n
+
+-- of the numbers below `count` those within so many steps of a coordinate lie from this one
+unfoldable pub least_within : ℤ → ℕ → ℕ → ℕ
+least_within c steps count =
+    if int_lt c (pos 0) then 0 else min (unsigned_abs c - steps) count
+
+-- up to below this one
+unfoldable pub end_within : ℤ → ℕ → ℕ → ℕ
+end_within c steps count =
+    if int_lt c (pos 0)
+    then min (steps + 1 - unsigned_abs c) count
+    else min (unsigned_abs c + steps + 1) count
+
+-- the positions of the world that pass a test were added
+pub record Adds (test : Pos → Bool) (old new : PlacesData) : Type 0 where
+  pub sizes : new.sizes ≡ old.sizes
+  pub marked : (p : Pos) → is_at new p ≡ (is_at old p || (is_inside old.sizes p && test p))

@@ -1,0 +1,3 @@
+pub mod Around
+pub mod Laws
+pub mod Places

@@ -1,0 +1,267 @@
+ghost use Rattle.std.specs.Prelude.{◌≡◌, ◌+◌, ◌*◌, ◌%◌, ◌<◌, ◌≤◌, ◌&&◌, ◌||◌, ℕ, pos, ◌-ℤ◌, unsigned_abs, false, true, nat_eq, nat_le, length, replicate, slice_index_or, if◌then◌else◌, None, Some, IfOk, OnOk, IfSome};
+ghost use Rattle.std.specs.List.{filter, list_any};
+ghost use Rattle.vx_geom.specs.declared.pos.Pos.{Pos};
+ghost use Rattle.vx_geom.specs.Places.{positions};
+ghost use Rattle.vx_geom.specs.Sizes.{AreSizes, height, span, sector_count, sector_cells, is_inside};
+ghost use Rattle.vx_places.specs.Around.{is_around, at_number, layer_of, row_of, Adds};
+ghost use Rattle.vx_places.specs.Places.{marked_in, is_at, steps_between, marked_places, HasRoom};
+
+use crate::around::{columns, end_within, least_within, rows, steps_along};
+use std::alloc::{AllocError, Global};
+use std::marker::Model;
+use vx_cells::Marks;
+use vx_geom::{Bounds, Pos};
+
+// A world is so high.
+const HEIGHT: u32 = 64;
+
+/// A set of positions of a world, found sector by sector and in each in the order of positions. A
+/// sector where nothing was marked takes no memory beside its entry.
+#[derive(Drop)]
+pub struct Places {
+    bounds: Bounds,
+    sectors: Vec<Option<Marks>>,
+}
+
+impl Model for Places {
+    ghost use Rattle.vx_places.specs.Places.{PlacesData, ArePlaces};
+
+    ghost Value = { PlacesData };
+
+    ghost view = { λ a. record { sizes = a.bounds; marks = a.sectors.items } };
+
+    ghost invariant = { λ a. ArePlaces a.bounds a.sectors.items };
+}
+
+impl Places {
+    /// No positions of a world of this size.
+    pub fn new(alloc: Global, bounds: Bounds) -> Result<Places, AllocError>
+        ensures sizes { IfOk result (λ places. places.sizes ≡ bounds) }
+        ensures none { IfOk result (λ places. (p : Pos) → is_at places p ≡ false) }
+    {
+        bounds.soundness();
+        Ok(Places {
+            bounds,
+            sectors: unmarked(alloc, bounds.sectors())?,
+        })
+    }
+
+    /// The size of the world.
+    pub fn bounds(&self) -> Bounds
+        ensures { result ≡ self.now.sizes }
+    {
+        self.bounds
+    }
+
+    /// What holds of every such set: the size of its world is one that a world may have.
+    pub fn soundness(&self)
+        ensures { AreSizes self.now.sizes }
+    {
+        let _ = &self.sectors;
+    }
+
+    /// Whether it has the position. It takes no memory.
+    #[tactic(auto, unfolding(crate::specs::Places::is_at))]
+    pub fn has(&self, p: Pos) -> bool
+        ensures { result ≡ is_at self.now p }
+    {
+        let Some(sector) = self.bounds.sector_of(p) else {
+            return false;
+        };
+        match self.marks_of(sector) {
+            Some(marks) => marks.has(self.bounds.index_in_sector(p)),
+            None => false,
+        }
+    }
+
+    /// Adds a position, if it is of the world. Memory is wanted for the first of a sector.
+    pub fn mark(&mut self, alloc: Global, p: Pos) -> Result<(), AllocError>
+        ensures sizes { self.new.sizes ≡ self.old.sizes }
+        ensures marked { OnOk result ((q : Pos) → is_at self.new q
+            ≡ (is_at self.old q
+            || (is_inside self.old.sizes q && nat_eq (steps_between p q) 0))) }
+    {
+        let Some(number) = self.bounds.sector_of(p) else {
+            return Ok(());
+        };
+        let count = self.bounds.sector_cells();
+        let index = self.bounds.index_in_sector(p);
+        let Some(sector) = self.sectors.get_mut(number as usize) else {
+            return Ok(());
+        };
+        mark_in(alloc, sector, count, index)
+    }
+
+    /// Adds each position of a list that is of the world.
+    pub fn mark_all(&mut self, alloc: Global, places: &[Pos]) -> Result<(), AllocError>
+        ensures sizes { self.new.sizes ≡ self.old.sizes }
+        ensures marked { OnOk result ((q : Pos) → is_at self.new q
+            ≡ (is_at self.old q || (is_inside self.old.sizes q
+            && list_any (λ p. nat_eq (steps_between p q) 0) places.now))) }
+    {
+        for p in places {
+            self.mark(alloc, *p)?;
+        }
+        Ok(())
+    }
+
+    /// Adds each position of the world to which at most so many steps lead from this one, which may
+    /// lie anywhere.
+    pub fn mark_around(&mut self, alloc: Global, p: Pos, steps: u8) -> Result<(), AllocError>
+        requires { steps ≤ 8 }
+        ensures sizes { self.new.sizes ≡ self.old.sizes }
+        ensures marked { OnOk result ((q : Pos) → is_at self.new q
+            ≡ (is_at self.old q
+            || (is_inside self.old.sizes q && nat_le (steps_between p q) steps))) }
+    {
+        let steps = u32::from(steps);
+        let first = least_within(p.y, steps, HEIGHT);
+        for y in first..end_within(p.y, steps, HEIGHT) {
+            self.mark_layer(alloc, p, steps, y)?;
+        }
+        Ok(())
+    }
+
+    // Adds those of one layer alone.
+    fn mark_layer(&mut self, alloc: Global, p: Pos, steps: u32, y: u32) -> Result<(), AllocError>
+        requires few { steps ≤ 8 }
+        requires low { y < height }
+        requires near { unsigned_abs (p.y -ℤ pos y) ≤ steps }
+        ensures sizes { self.new.sizes ≡ self.old.sizes }
+        ensures marked { OnOk result (Adds (at_number layer_of (is_around p steps) y)
+            self.old self.new) }
+    {
+        let count = rows(self.bounds());
+        let left = steps - steps_along(p.y, y);
+        let first = least_within(p.z, left, count);
+        for z in first..end_within(p.z, left, count) {
+            self.mark_row(alloc, p, steps, y, z)?;
+        }
+        Ok(())
+    }
+
+    // Adds those of one row of a layer alone.
+    fn mark_row(
+        &mut self,
+        alloc: Global,
+        p: Pos,
+        steps: u32,
+        y: u32,
+        z: u32,
+    ) -> Result<(), AllocError>
+        requires few { steps ≤ 8 }
+        requires low { y < height }
+        requires north { z < 256 }
+        requires near { unsigned_abs (p.y -ℤ pos y) + unsigned_abs (p.z -ℤ pos z) ≤ steps }
+        ensures sizes { self.new.sizes ≡ self.old.sizes }
+        ensures marked { OnOk result (Adds
+            (at_number row_of (at_number layer_of (is_around p steps) y) z) self.old self.new) }
+    {
+        let count = columns(self.bounds());
+        let left = steps - steps_along(p.y, y) - steps_along(p.z, z);
+        let first = least_within(p.x, left, count);
+        for x in first..end_within(p.x, left, count) {
+            self.mark(alloc, Pos::new(x as i32, y as i32, z as i32))?;
+        }
+        Ok(())
+    }
+
+    /// The positions of a sector, in order. A sector without any costs a look.
+    pub fn in_sector(&self, alloc: Global, sector: u32) -> Result<Vec<Pos>, AllocError>
+        requires { sector < sector_count self.now.sizes }
+        ensures { IfOk result (λ found.
+            found.items ≡ filter (is_at self.now) (positions self.now.sizes sector)) }
+    {
+        self.soundness();
+        match self.marks_of(sector) {
+            Some(marks) => listed(alloc, self.bounds, sector, marks),
+            None => Ok(Vec::new(alloc)),
+        }
+    }
+
+    /// All positions, sector by sector.
+    pub fn all(&self, alloc: Global) -> Result<Vec<Pos>, AllocError>
+        ensures { IfOk result (λ found. (p : Pos)
+            → list_any (λ q. nat_eq (steps_between q p) 0) found.items ≡ is_at self.now p) }
+    {
+        self.soundness();
+        let mut found = Vec::new(alloc);
+        for sector in 0..self.bounds().sectors() {
+            let mut places = self.in_sector(alloc, sector)?;
+            found.append(&mut places)?;
+        }
+        Ok(found)
+    }
+
+    // The marks of a sector, if any place there was ever marked.
+    fn marks_of(&self, sector: u32) -> Option<&Marks>
+        ensures some { IfSome result (λ marks.
+            slice_index_or self.now.marks sector None ≡ Some marks.now) }
+        ensures room { IfSome result (λ marks.
+            64 * length marks.now ≡ sector_cells self.now.sizes) }
+        ensures none { result ≡ None → slice_index_or self.now.marks sector None ≡ None }
+    {
+        match self.sectors.get(sector as usize) {
+            Some(Some(marks)) => Some(marks),
+            _ => None,
+        }
+    }
+}
+
+// So many sectors in which nothing is marked.
+fn unmarked(alloc: Global, count: u32) -> Result<Vec<Option<Marks>>, AllocError>
+    ensures { IfOk result (λ sectors. sectors.items ≡ replicate count None) }
+{
+    let mut sectors = Vec::new(alloc);
+    for _number in 0..count {
+        sectors.push(None)?;
+    }
+    Ok(sectors)
+}
+
+// Marks an index of a sector that has so many places.
+fn mark_in(
+    alloc: Global,
+    sector: &mut Option<Marks>,
+    count: u32,
+    index: u32,
+) -> Result<(), AllocError>
+    requires count { count % 64 ≡ 0 }
+    requires index { index < count }
+    requires room { HasRoom count sector.old }
+    ensures room { HasRoom count sector.new }
+    ensures marked { OnOk result ((i : ℕ) → marked_in sector.new i
+        ≡ (if nat_eq i index then true else marked_in sector.old i)) }
+{
+    match sector {
+        Some(marks) => {
+            marks.set(index, true);
+            Ok(())
+        }
+        None => {
+            let mut marks = Marks::new(alloc, count)?;
+            marks.set(index, true);
+            *sector = Some(marks);
+            Ok(())
+        }
+    }
+}
+
+// The marked positions of a sector, in order. It costs what is marked.
+fn listed(alloc: Global, bounds: Bounds, sector: u32, marks: &Marks) -> Result<Vec<Pos>, AllocError>
+    requires sector { sector < sector_count bounds }
+    requires room { 64 * length marks.now ≡ sector_cells bounds }
+    ensures { IfOk result (λ found.
+        found.items ≡ marked_places bounds sector (Some marks.now)) }
+{
+    bounds.soundness();
+    let mut found = Vec::new(alloc);
+    let mut from = 0;
+    while let Some(index) = marks.first_from(from) {
+        let Ok(()) = found.push(bounds.position_in_sector(sector, index)) else {
+            return Err(AllocError);
+        };
+        from = index + 1;
+    }
+    Ok(found)
+}

@@ -86,13 +86,13 @@ module _ (w : Pos → Cell) (v : Sizes) (k : ℕ) where
       )
 
   -- dust in the columns is fed as on the whole map
-  deep_fed : (p : Pos) → IsDeep v k 0 p → fed_in w (columns_around v k 16) p ≡ is_fed w p
+  deep_fed : (p : Pos) → IsDeep v k 0 p → fed_in w (is_in (columns_around v k 16)) p ≡ is_fed w p
   unfolding fed_in
   deep_fed p deep = ap (λ b. b && is_fed w p) deep.1
 
   -- and links as there, while one link stays in them
   deep_links : (n : ℕ) (p : Pos) → IsDeep v k (suc n) p
-      → links_in w (columns_around v k 16) p ≡ links w p
+      → links_in w (is_in (columns_around v k 16)) p ≡ links w p
   unfolding links_in
   deep_links n p deep =
       ap (λ b. if b then links w p else [])
@@ -108,23 +108,23 @@ module _ (w : Pos → Cell) (v : Sizes) (k : ℕ) where
 
   -- two columns off a sector levels are those of the whole map
   near_levels : (p : Pos) → is_in (columns_around v k 2) p ≡ true
-      → level_by (fed_in w (columns_around v k 16)) (links_in w (columns_around v k 16)) 14 p
+      → level_by (fed_in w (is_in (columns_around v k 16))) (links_in w (is_in (columns_around v k 16))) 14 p
       ≡ level_by (is_fed w) (links w) 14 p
   near_levels p near =
-      level_by_carried (fed_in w (columns_around v k 16)) (links_in w (columns_around v k 16))
+      level_by_carried (fed_in w (is_in (columns_around v k 16))) (links_in w (is_in (columns_around v k 16)))
       (is_fed w) (links w) (IsDeep v k) deep_less deep_fed deep_links deep_next
       14 p (omega arith, near)
 
 -- what walks within the columns tell are the levels near the sector
 pub told_near : (m : MapData) (k : ℕ) (level : Pos → ℕ)
-    → ((p : Pos) → level p ≡ level_within (cell_on m) (columns_around m.sizes k 16) p)
+    → ((p : Pos) → level p ≡ level_within (cell_on m) (is_in (columns_around m.sizes k 16)) p)
     → AreLevels m k level
 unfolding level_of
 told_near m k level known p near = known p ∙ near_levels (cell_on m) m.sizes k p near
 
 module _ (m : MapData) (sizes : AreSizes m.sizes) where
   -- dust lies in some column
-  dust_in : (p : Pos) → is_dust (cell_on m p) ≡ true → is_in everywhere p ≡ true
+  pub dust_in : (p : Pos) → is_dust (cell_on m p) ≡ true → is_in everywhere p ≡ true
   dust_in p dust =
       let near = near_inside m.sizes p sizes (dust_inside m p dust) in
       let in_x = and_parts _ _ near in
@@ -138,7 +138,7 @@ module _ (m : MapData) (sizes : AreSizes m.sizes) where
     | inr other ↦ other
   ]
 
-  fed_everywhere : (p : Pos) → fed_in (cell_on m) everywhere p ≡ is_fed (cell_on m) p
+  fed_everywhere : (p : Pos) → fed_in (cell_on m) (is_in everywhere) p ≡ is_fed (cell_on m) p
   unfolding fed_in is_fed
   fed_everywhere p = elim (cases_Bool (is_in everywhere p)) [
     | inl there ↦ ap (λ b. b && is_fed (cell_on m) p) there
@@ -147,7 +147,7 @@ module _ (m : MapData) (sizes : AreSizes m.sizes) where
         ∙ sym (ap (λ b. b && has_feeder (cell_on m) p) (no_dust p outside))
   ]
 
-  links_everywhere : (p : Pos) → links_in (cell_on m) everywhere p ≡ links (cell_on m) p
+  pub links_everywhere : (p : Pos) → links_in (cell_on m) (is_in everywhere) p ≡ links (cell_on m) p
   unfolding links_in links
   links_everywhere p = elim (cases_Bool (is_in everywhere p)) [
     | inl there ↦ ap (λ b. if b then links (cell_on m) p else []) there
@@ -160,12 +160,12 @@ module _ (m : MapData) (sizes : AreSizes m.sizes) where
   ]
 
   -- walks within all columns tell the levels of the map
-  pub told_all : (level : Pos → ℕ) → ((p : Pos) → level p ≡ level_within (cell_on m) everywhere p)
+  pub told_all : (level : Pos → ℕ) → ((p : Pos) → level p ≡ level_within (cell_on m) (is_in everywhere) p)
       → AreAllLevels m level
   unfolding level_of
   told_all level known p =
       known p
-      ∙ level_by_carried (fed_in (cell_on m) everywhere) (links_in (cell_on m) everywhere)
+      ∙ level_by_carried (fed_in (cell_on m) (is_in everywhere)) (links_in (cell_on m) (is_in everywhere))
       (is_fed (cell_on m)) (links (cell_on m)) (λ n p. Unit {0}) (λ n p deep. tt)
       (λ p deep. fed_everywhere p) (λ n p deep. links_everywhere p) (λ n p q deep linked. tt)
       14 p tt

@@ -1,6 +1,6 @@
 -- The dust that devices near a sector feed is that which is fed in the columns around it, and the
 -- dust that all devices feed is all that is fed.
-use Rattle.std.proofs.Common.{◌≡◌, ℕ, zero, suc, ◌+◌, ◌-◌, ◌*◌, ◌/◌, ◌%◌, ◌<◌, ◌≤◌, inl, inr, Bool, true, false, ◌&&◌, if◌then◌else◌, cond, List, [], ◌∷◌, min, filter, unsigned_abs, pos, ℤ, ◌-ℤ◌, ◌≤ℤ◌, ◌<ℤ◌, Some, refl, sym, ap, ◌∙◌, subst, arith}
+use Rattle.std.proofs.Common.{◌≡◌, ℕ, zero, suc, ◌+◌, ◌-◌, ◌*◌, ◌/◌, ◌%◌, ◌<◌, ◌≤◌, inl, inr, Bool, true, false, ◌&&◌, min, unsigned_abs, pos, ℤ, ◌-ℤ◌, ◌≤ℤ◌, ◌<ℤ◌, Some, refl, sym, ap, ◌∙◌, subst, arith}
 use Rattle.std.proofs.lemmas.Bool.{or_cases, or_left, or_right, cases_Bool, cases_eq, cases_lt, false≢true}
 use Rattle.std.proofs.lemmas.Bool.Decides.{same_from_decides}
 use Rattle.std.proofs.lemmas.Int.{ints}
@@ -20,24 +20,11 @@ use Rattle.vx_cells.proofs.MapLemmas.{outside_is_air}
 use Rattle.vx_power.specs.declared.columns.Columns.{Columns}
 use Rattle.vx_power.specs.Levels.{has, is_in, columns_around, everywhere}
 use Rattle.vx_power.specs.Signals.{is_fed}
-use Rattle.vx_power.specs.Spreading.{fed_by, fed_by_sectors, fed_from, fed_in, FeedAll, Reaches, SpreadData, IsSpread}
-use Rattle.vx_power.specs.Walks.{within, level_by, IsAmong}
+use Rattle.vx_power.specs.Spreading.{fed_by, fed_by_sectors, fed_from, fed_in, FeedAll}
+use Rattle.vx_power.specs.Walks.{IsAmong}
 use Rattle.vx_power.proofs.Around.{lies_in, wider}
 use Rattle.vx_power.proofs.Feeders.{Feeds, feeds_at, from_feeds, feeds_fed, fed_feeds, feeds_off, feeds_device}
-use Rattle.vx_power.proofs.Having.{all_at, all_from, has_joined}
-
--- what passes stays in a filtered list
-among_filter : {X : Type 0} (test : X → Bool) (xs : List X) (x : X) → IsAmong xs x → test x ≡ true
-    → IsAmong (filter test xs) x
-among_filter test [] x among passes = absurd among
-among_filter test (y ∷ xs) x (inl same) passes =
-    subst (λ b. IsAmong (cond b (y ∷ filter test xs) (filter test xs)) x) (sym (ap test same ∙ passes))
-    (inl same)
-among_filter test (y ∷ xs) x (inr among) passes = kept (test y) (among_filter test xs x among passes)
-  where
-    kept : (b : Bool) → IsAmong (filter test xs) x → IsAmong (cond b (y ∷ filter test xs) (filter test xs)) x
-    kept true further = inr further
-    kept false further = further
+use Rattle.vx_power.proofs.Having.{all_at, all_from, among_filter, has_joined}
 
 -- the position of each index is among those from an index on
 among_from : (v : Sizes) (k index n i : ℕ) → index ≤ i → i < index + n
@@ -191,7 +178,7 @@ module _ (m : MapData) (sectors : AreSectors m.sizes m.sectors) where
         reached least most = omega arith
 
     -- so it is all that is fed there
-    feed_all : FeedAll m c first end
+    feed_all : FeedAll m (is_in c) first end
     unfolding fed_in
     feed_all p = elim (cases_Bool (is_in c p)) [
       | inl there ↦
@@ -206,35 +193,25 @@ module _ (m : MapData) (sectors : AreSectors m.sizes m.sectors) where
 
   -- the devices near a sector feed all that is fed around it
   pub near_feed : (k : ℕ)
-      → FeedAll m (columns_around m.sizes k 16) (first_near m.sizes k) (end_near m.sizes k)
+      → FeedAll m (is_in (columns_around m.sizes k 16)) (first_near m.sizes k) (end_near m.sizes k)
   near_feed k = feed_all (columns_around m.sizes k 16) (first_near m.sizes k) (end_near m.sizes k)
       (λ s p n there feeds held. number_near m.sizes k n s sectors.valid held
       (wider m.sizes k 16 2 18 p s (omega arith) (feeds_off (cell_on m) s p feeds) there))
 
   -- and those of all sectors all that is fed
-  pub all_feed : FeedAll m everywhere 0 (sector_count m.sizes)
+  pub all_feed : FeedAll m (is_in everywhere) 0 (sector_count m.sizes)
   all_feed = feed_all everywhere 0 (sector_count m.sizes)
       (λ s p n there feeds held.
       (omega arith, (in_sector m.sizes s n sectors.valid (held_at m.sizes s n sectors.valid held)).0))
 
--- the dust that these devices feed is what walks of no link tell
-pub begun : (m : MapData) (c : Columns) (first end : ℕ) (new : SpreadData) → FeedAll m c first end
-    → Reaches 15 (record { columns = c; table = []; reached = [] }) new
-    (fed_by_sectors m (cell_on m) first (end - first))
-    → IsSpread (cell_on m) 0 new
-unfolding within level_by
-begun m c first end new fed reaches = record {
-  levels = λ p.
-      reaches.levels p
-      ∙ ap (λ b. if b then 15 else 0) (fed p)
-      ∙ ap (λ c. if fed_in (cell_on m) c p then 15 else 0) (sym reaches.columns);
-  reached = λ p.
-      reaches.reached p
-      ∙ fed p
-      ∙ ap (λ c. fed_in (cell_on m) c p) (sym reaches.columns)
-      ∙ sym (and_true (fed_in (cell_on m) new.columns p));
-}
-  where
-    and_true : (b : Bool) → (b && true) ≡ b
-    and_true true = refl
-    and_true false = refl
+-- where devices feed all that is fed inside, it is fed where they feed it
+pub all_fed : (m : MapData) (inside : Pos → Bool) (first end : ℕ) → FeedAll m inside first end
+    → (p : Pos) → inside p ≡ true
+    → has (fed_by_sectors m (cell_on m) first (end - first)) p ≡ fed_in (cell_on m) inside p
+all_fed m inside first end feed p there =
+    sym (ap (λ b. b && has (fed_by_sectors m (cell_on m) first (end - first)) p) there) ∙ feed p
+
+-- and nothing outside is fed there
+pub none_fed : (w : Pos → Cell) (inside : Pos → Bool) (p : Pos) → inside p ≡ false → fed_in w inside p ≡ false
+unfolding fed_in
+none_fed w inside p outside = ap (λ b. b && is_fed w p) outside

@@ -1,5 +1,5 @@
 -- Positions in a list, and in lists that are joined.
-use Rattle.std.proofs.Common.{◌≡◌, true, ◌&&◌, ◌||◌, List, [], ◌∷◌, ◌++◌, inl, inr, refl, sym, ap, ◌∙◌, subst}
+use Rattle.std.proofs.Common.{◌≡◌, Bool, true, false, ◌&&◌, ◌||◌, List, [], ◌∷◌, ◌++◌, filter, cond, inl, inr, refl, sym, ap, ◌∙◌, subst}
 use Rattle.std.specs.Ordering.{int_eq}
 use Rattle.std.proofs.lemmas.Bool.{and_parts, and_from, or_cases, or_left, or_right, false≢true}
 use Rattle.std.proofs.lemmas.Bool.Decides.{Decides-int_eq, same_from_decides}
@@ -48,6 +48,42 @@ has_from ps p among = any_from (same_place p) ps p among (own_place p)
 -- two lists joined have what either has
 pub has_joined : (ps qs : List Pos) (p : Pos) → has (ps ++ qs) p ≡ (has ps p || has qs p)
 has_joined ps qs p = list_any-append (same_place p) ps qs
+
+-- what passes stays in a filtered list
+pub among_filter : {X : Type 0} (test : X → Bool) (xs : List X) (x : X) → IsAmong xs x → test x ≡ true
+    → IsAmong (filter test xs) x
+among_filter test [] x among passes = absurd among
+among_filter test (y ∷ xs) x (inl same) passes =
+    subst (λ b. IsAmong (cond b (y ∷ filter test xs) (filter test xs)) x) (sym (ap test same ∙ passes))
+    (inl same)
+among_filter test (y ∷ xs) x (inr among) passes = kept (test y) (among_filter test xs x among passes)
+  where
+    kept : (b : Bool) → IsAmong (filter test xs) x → IsAmong (cond b (y ∷ filter test xs) (filter test xs)) x
+    kept true further = inr further
+    kept false further = further
+
+-- what is in a filtered list passes, and is in the list
+filter_at : {X : Type 0} (test : X → Bool) (xs : List X) (x : X) → IsAmong (filter test xs) x
+    → (test x ≡ true) × IsAmong xs x
+filter_at test [] x among = absurd among
+filter_at test (y ∷ ys) x among = by (test y) refl (filter_at test ys x) among
+  where
+    by : (b : Bool) → test y ≡ b
+        → (IsAmong (filter test ys) x → (test x ≡ true) × IsAmong ys x)
+        → IsAmong (cond b (y ∷ filter test ys) (filter test ys)) x
+        → (test x ≡ true) × IsAmong (y ∷ ys) x
+    by true is rest (inl same) = (ap test (sym same) ∙ is, inl same)
+    by true is rest (inr further) = ((rest further).0, inr (rest further).1)
+    by false is rest further = ((rest further).0, inr (rest further).1)
+
+-- a filtered list has what the list has that passes
+pub has_filter : (test : Pos → Bool) (ps : List Pos) (p : Pos) → has (filter test ps) p ≡ (test p && has ps p)
+has_filter test ps p =
+    same_from_decides {P = (test p ≡ true) × (has ps p ≡ true)} (has (filter test ps) p) (test p && has ps p) (
+      λ is. let kept = filter_at test ps p (has_at (filter test ps) p is) in (kept.0, has_from ps p kept.1),
+      λ both. has_from (filter test ps) p (among_filter test ps p (has_at ps p both.1) both.0),
+    )
+    (and_parts (test p) (has ps p), λ both. and_from (test p) (has ps p) both.0 both.1)
 
 -- all joins the lists that each gives for the elements of a list
 module _ {X : Type 0} (each : X → List Pos) (all : List X → List Pos)

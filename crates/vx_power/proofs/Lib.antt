@@ -3,12 +3,16 @@ pub mod Carried
 pub mod Distant
 pub mod Feeders
 pub mod Feeding
+pub mod Finding
 pub mod Having
 pub mod Linking
 pub mod Local
+pub mod Outer
 pub mod Pointing
 pub mod Reach
 pub mod Reaching
 pub mod Rounds
+pub mod Showing
 pub mod Stepping
 pub mod Tables
+pub mod Unchanged

@@ -1,5 +1,5 @@
 -- How far the signals at a position see: each from the cells that so many steps lead to.
-use Rattle.std.proofs.Common.{◌≡◌, ℕ, zero, suc, not, ◌&&◌, ◌||◌, nat_lt, List, [], ◌∷◌, ◌++◌, if◌then◌else◌, inl, inr, Option, refl, sym, subst}
+use Rattle.std.proofs.Common.{◌≡◌, ℕ, zero, suc, not, ◌&&◌, ◌||◌, nat_lt, List, [], ◌∷◌, ◌++◌, if◌then◌else◌, inl, inr, Option, refl, sym, ap, subst}
 use Rattle.std.specs.List.{list_any}
 use Rattle.vx_geom.specs.declared.pos.Pos.{Pos}
 use Rattle.vx_geom.specs.declared.dir.Dir.{Dir}
@@ -14,10 +14,11 @@ use Rattle.vx_block.specs.Conductors.{conducts}
 use Rattle.vx_block.specs.Sides.{side_back, side_right}
 use Rattle.vx_block.specs.States.{side_dir}
 use Rattle.vx_power.specs.Dust.{beside, over, under, links_beside, links_up, links_down, links_on, links, is_joined, joins, points}
-use Rattle.vx_power.specs.Local.{around, within_steps, AreAlike, DustSees, PowerSees, ActivitySees}
+use Rattle.vx_power.specs.Local.{around, within_steps, AreAlike, shown, ShowAlike, DustSees, PowerSees, ActivitySees, DustSeesShown, PowerSeesShown, ActivitySeesShown}
 use Rattle.vx_power.specs.Signals.{gives, drives, drives_from, is_driven, is_strong, feeds_from, has_feeder, is_fed, reaches, dust_powers, is_dust_powered, is_powered, activates, is_front, is_active}
 use Rattle.vx_power.specs.Walks.{IsAmong}
 use Rattle.vx_power.proofs.Linking.{among_left, among_right}
+use Rattle.vx_power.proofs.Showing.{same_dust, same_conductor, same_giver, same_driver, same_joined}
 
 -- the two have the same at p, and wherever so many steps lead from it
 abbrev pub Near : {X : Type 0} → ℕ → Pos → (Pos → X) → (Pos → X) → Type 0
@@ -55,70 +56,98 @@ module _ {X : Type 0} (f g : Pos → X) where
   here zero p near = near
   here (suc n) p near = here n p near.0
 
+-- the two maps show the same at p, and wherever so many steps lead from it
+abbrev pub Shows : ℕ → Pos → (Pos → Cell) → (Pos → Cell) → Type 0
+Shows n p w v = Near n p (λ q. shown (w q)) (λ q. shown (v q))
+
+-- as they do where they have the same
+pub shows : (w v : Pos → Cell) (n : ℕ) (p : Pos) → Near n p w v → Shows n p w v
+shows w v zero p near = ap shown near
+shows w v (suc n) p near = (shows w v n p near.0, λ d. shows w v n (neighbor p d) (near.1 d))
+
+-- maps that show alike at a list of positions
+pub shows_from : (w v : Pos → Cell) (n : ℕ) (p : Pos) → ShowAlike (within_steps n p) w v → Shows n p w v
+shows_from w v = near_from (λ q. shown (w q)) (λ q. shown (v q))
+
 module _ (w v : Pos → Cell) where
-  -- the cell at p, one step off it, and two steps off
-  at : (n : ℕ) (p : Pos) → Near n p w v → w p ≡ v p
-  at = here w v
+  -- what is shown at p
+  at : (n : ℕ) (p : Pos) → Shows n p w v → shown (w p) ≡ shown (v p)
+  at = here (λ q. shown (w q)) (λ q. shown (v q))
 
-  links_beside_same : (p : Pos) (s : Side) → Near 2 p w v → links_beside w p s ≡ links_beside v p s
+  dust : (n : ℕ) (p : Pos) → Shows n p w v → is_dust (w p) ≡ is_dust (v p)
+  dust n p near = same_dust (w p) (v p) (at n p near)
+
+  conductor : (n : ℕ) (p : Pos) → Shows n p w v → conducts (w p) ≡ conducts (v p)
+  conductor n p near = same_conductor (w p) (v p) (at n p near)
+
+  giver : (n : ℕ) (p : Pos) (d : Dir) → Shows n p w v → gives (w p) d ≡ gives (v p) d
+  giver n p d near = same_giver (w p) (v p) d (at n p near)
+
+  driver : (n : ℕ) (p : Pos) (d : Dir) → Shows n p w v → drives (w p) d ≡ drives (v p) d
+  driver n p d near = same_driver (w p) (v p) d (at n p near)
+
+  joined : (n : ℕ) (p : Pos) (s : Side) → Shows n p w v → is_joined s (w p) ≡ is_joined s (v p)
+  joined n p s near = same_joined (w p) (v p) s (at n p near)
+
+  links_beside_same : (p : Pos) (s : Side) → Shows 2 p w v → links_beside w p s ≡ links_beside v p s
   unfolding links_beside
-  links_beside_same p s near = λ i. is_dust (at 1 (beside p s) (near.1 (side_dir s)) i)
+  links_beside_same p s near = λ i. dust 1 (beside p s) (near.1 (side_dir s)) i
 
-  links_up_same : (p : Pos) (s : Side) → Near 2 p w v → links_up w p s ≡ links_up v p s
+  links_up_same : (p : Pos) (s : Side) → Shows 2 p w v → links_up w p s ≡ links_up v p s
   unfolding links_up
   links_up_same p s near =
-      λ i. is_dust (at 0 (over (beside p s)) ((near.1 (side_dir s)).1 Up) i) && not (conducts (at 1 (over p) (near.1 Up) i))
+      λ i. dust 0 (over (beside p s)) ((near.1 (side_dir s)).1 Up) i && not (conductor 1 (over p) (near.1 Up) i)
 
-  links_down_same : (p : Pos) (s : Side) → Near 2 p w v → links_down w p s ≡ links_down v p s
+  links_down_same : (p : Pos) (s : Side) → Shows 2 p w v → links_down w p s ≡ links_down v p s
   unfolding links_down
   links_down_same p s near =
-      λ i. is_dust (at 0 (under (beside p s)) ((near.1 (side_dir s)).1 Down) i) && not (conducts (at 1 (beside p s) (near.1 (side_dir s)) i))
+      λ i. dust 0 (under (beside p s)) ((near.1 (side_dir s)).1 Down) i && not (conductor 1 (beside p s) (near.1 (side_dir s)) i)
 
-  links_on_same : (p : Pos) (s : Side) → Near 2 p w v → links_on w p s ≡ links_on v p s
+  links_on_same : (p : Pos) (s : Side) → Shows 2 p w v → links_on w p s ≡ links_on v p s
   unfolding links_on
   links_on_same p s near = λ i.
       (if links_beside_same p s near i then beside p s ∷ [] else [])
       ++ ((if links_up_same p s near i then over (beside p s) ∷ [] else [])
       ++ (if links_down_same p s near i then under (beside p s) ∷ [] else []))
 
-  pub links_same : (p : Pos) → Near 2 p w v → links w p ≡ links v p
+  pub links_same : (p : Pos) → Shows 2 p w v → links w p ≡ links v p
   unfolding links
   links_same p near = λ i.
-      if is_dust (at 2 p near i)
+      if dust 2 p near i
       then links_on_same p side.East near i ++ (links_on_same p side.West near i
       ++ (links_on_same p side.South near i ++ links_on_same p side.North near i))
       else []
 
-  joins_same : (p : Pos) (s : Side) → Near 2 p w v → joins w p s ≡ joins v p s
+  joins_same : (p : Pos) (s : Side) → Shows 2 p w v → joins w p s ≡ joins v p s
   unfolding joins
   joins_same p s near = λ i.
       links_beside_same p s near i || links_up_same p s near i || links_down_same p s near i
-      || is_joined s (at 1 (beside p s) (near.1 (side_dir s)) i)
+      || joined 1 (beside p s) s (near.1 (side_dir s)) i
 
-  points_same : (p : Pos) (s : Side) → Near 2 p w v → points w p s ≡ points v p s
+  points_same : (p : Pos) (s : Side) → Shows 2 p w v → points w p s ≡ points v p s
   unfolding points
   points_same p s near = λ i.
       joins_same p s near i
       || not (joins_same p (side_right s) near i || joins_same p (side_back (side_right s)) near i)
 
-  is_driven_same : (p : Pos) → Near 1 p w v → is_driven w p ≡ is_driven v p
+  is_driven_same : (p : Pos) → Shows 1 p w v → is_driven w p ≡ is_driven v p
   unfolding is_driven drives_from
-  is_driven_same p near = λ i. list_any (λ d. drives (at 0 (neighbor p d) (near.1 d) i) (opposite d)) all_dirs
+  is_driven_same p near = λ i. list_any (λ d. driver 0 (neighbor p d) (opposite d) (near.1 d) i) all_dirs
 
-  is_strong_same : (p : Pos) → Near 1 p w v → is_strong w p ≡ is_strong v p
+  is_strong_same : (p : Pos) → Shows 1 p w v → is_strong w p ≡ is_strong v p
   unfolding is_strong
-  is_strong_same p near = λ i. conducts (at 1 p near i) && is_driven_same p near i
+  is_strong_same p near = λ i. conductor 1 p near i && is_driven_same p near i
 
-  feeds_from_same : (p : Pos) (d : Dir) → Near 2 p w v → feeds_from w p d ≡ feeds_from v p d
+  feeds_from_same : (p : Pos) (d : Dir) → Shows 2 p w v → feeds_from w p d ≡ feeds_from v p d
   unfolding feeds_from
   feeds_from_same p d near = λ i.
-      gives (at 1 (neighbor p d) (near.1 d) i) (opposite d) || is_strong_same (neighbor p d) (near.1 d) i
+      giver 1 (neighbor p d) (opposite d) (near.1 d) i || is_strong_same (neighbor p d) (near.1 d) i
 
-  pub is_fed_same : (p : Pos) → Near 2 p w v → is_fed w p ≡ is_fed v p
+  pub is_fed_same : (p : Pos) → Shows 2 p w v → is_fed w p ≡ is_fed v p
   unfolding is_fed has_feeder
-  is_fed_same p near = λ i. is_dust (at 2 p near i) && list_any (λ d. feeds_from_same p d near i) all_dirs
+  is_fed_same p near = λ i. dust 2 p near i && list_any (λ d. feeds_from_same p d near i) all_dirs
 
-  reaches_same : (n : Pos) (d : Dir) → Near 2 n w v → reaches w n d ≡ reaches v n d
+  reaches_same : (n : Pos) (d : Dir) → Shows 2 n w v → reaches w n d ≡ reaches v n d
   reaches_same n East near = points_same n side.West near
   reaches_same n West near = points_same n side.East near
   reaches_same n Up near = refl
@@ -130,39 +159,54 @@ module _ (w v : Pos → Cell) where
     level : (n : ℕ) (p : Pos) → Near n p a b → a p ≡ b p
     level = here a b
 
-    dust_powers_same : (p : Pos) (d : Dir) → Near 3 p w v → Near 1 p a b → dust_powers w a p d ≡ dust_powers v b p d
+    dust_powers_same : (p : Pos) (d : Dir) → Shows 3 p w v → Near 1 p a b → dust_powers w a p d ≡ dust_powers v b p d
     unfolding dust_powers
     dust_powers_same p d near levels = λ i.
-        is_dust (at 2 (neighbor p d) (near.1 d) i) && nat_lt 0 (level 0 (neighbor p d) (levels.1 d) i)
+        dust 2 (neighbor p d) (near.1 d) i && nat_lt 0 (level 0 (neighbor p d) (levels.1 d) i)
         && reaches_same (neighbor p d) d (near.1 d) i
 
-    pub is_powered_same : (p : Pos) → Near 3 p w v → Near 1 p a b → is_powered w a p ≡ is_powered v b p
+    pub is_powered_same : (p : Pos) → Shows 3 p w v → Near 1 p a b → is_powered w a p ≡ is_powered v b p
     unfolding is_powered is_dust_powered
     is_powered_same p near levels = λ i.
-        conducts (at 3 p near i)
+        conductor 3 p near i
         && (is_driven_same p near.0.0 i || list_any (λ d. dust_powers_same p d near levels i) all_dirs)
 
-    pub activates_same : (p : Pos) (d : Dir) → Near 4 p w v → Near 2 p a b → activates w a p d ≡ activates v b p d
+    pub activates_same : (p : Pos) (d : Dir) → Shows 4 p w v → Near 2 p a b → activates w a p d ≡ activates v b p d
     unfolding activates
     activates_same p d near levels = λ i.
-        gives (at 3 (neighbor p d) (near.1 d) i) (opposite d)
+        giver 3 (neighbor p d) (opposite d) (near.1 d) i
         || is_powered_same (neighbor p d) (near.1 d) (levels.1 d) i
         || dust_powers_same p d near.0 levels.0 i
 
-    pub is_active_same : (front : Option Dir) (p : Pos) → Near 4 p w v → Near 2 p a b
+    pub is_active_same : (front : Option Dir) (p : Pos) → Shows 4 p w v → Near 2 p a b
         → is_active w a front p ≡ is_active v b front p
     unfolding is_active
     is_active_same front p near levels = λ i.
         list_any (λ d. not (is_front front d) && activates_same p d near levels i) all_dirs
 
+pub dust_sees_shown : DustSeesShown
+dust_sees_shown w v p alike =
+    let near = shows_from w v 2 p alike in (is_fed_same w v p near, links_same w v p near)
+
+pub power_sees_shown : PowerSeesShown
+power_sees_shown w v a b p cells levels =
+    is_powered_same w v a b p (shows_from w v 3 p cells) (near_from a b 1 p levels)
+
+pub activity_sees_shown : ActivitySeesShown
+activity_sees_shown w v a b front p cells levels =
+    is_active_same w v a b front p (shows_from w v 4 p cells) (near_from a b 2 p levels)
+
+-- what is the same shows the same
+alike_shown : (w v : Pos → Cell) (ps : List Pos) → AreAlike ps w v → ShowAlike ps w v
+alike_shown w v ps alike q among = ap shown (alike q among)
+
 pub dust_sees : DustSees
-dust_sees w v p alike =
-    let near = near_from w v 2 p alike in (is_fed_same w v p near, links_same w v p near)
+dust_sees w v p alike = dust_sees_shown w v p (alike_shown w v (within_steps 2 p) alike)
 
 pub power_sees : PowerSees
 power_sees w v a b p cells levels =
-    is_powered_same w v a b p (near_from w v 3 p cells) (near_from a b 1 p levels)
+    power_sees_shown w v a b p (alike_shown w v (within_steps 3 p) cells) levels
 
 pub activity_sees : ActivitySees
 activity_sees w v a b front p cells levels =
-    is_active_same w v a b front p (near_from w v 4 p cells) (near_from a b 2 p levels)
+    activity_sees_shown w v a b front p (alike_shown w v (within_steps 4 p) cells) levels

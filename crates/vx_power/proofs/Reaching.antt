@@ -1,5 +1,5 @@
 -- What is reached, one position or one list of positions after another.
-use Rattle.std.proofs.Common.{◌≡◌, ℕ, zero, suc, ◌+◌, ◌-◌, ◌<◌, ◌≤◌, Bool, true, false, not, ◌&&◌, ◌||◌, if◌then◌else◌, nat_lt, List, [], ◌∷◌, ◌++◌, take, length, get_or, refl, sym, ap, ◌∙◌, subst, arith}
+use Rattle.std.proofs.Common.{◌≡◌, ℕ, zero, suc, ◌+◌, ◌-◌, ◌<◌, ◌≤◌, Bool, true, false, not, ◌&&◌, ◌||◌, if◌then◌else◌, nat_lt, List, [], ◌∷◌, ◌++◌, take, length, get_or, filter, cond, refl, sym, ap, ◌∙◌, subst, arith}
 use Rattle.std.specs.List.{flat_map}
 use Rattle.std.proofs.lemmas.Bool.{true≢false, lt-ltb, le-ltb, ltb-false}
 use Rattle.std.proofs.lemmas.List.{append-nil, append_assoc, take_more, take_all}
@@ -18,7 +18,7 @@ use Rattle.vx_block.specs.States.{side_dir}
 use Rattle.vx_cells.specs.Listed.{devices_on}
 use Rattle.vx_cells.specs.Maps.{MapData}
 use Rattle.vx_power.specs.Dust.{beside, links_beside, links_on, links}
-use Rattle.vx_power.specs.Levels.{same_place, has, level_in, is_in}
+use Rattle.vx_power.specs.Levels.{same_place, has, level_in}
 use Rattle.vx_power.specs.Spreading.{dust_at, each_dir, fed_from, fed_by, fed_by_sectors, linked_to, SpreadData, Reaches}
 use Rattle.vx_power.proofs.Having.{place_is}
 
@@ -30,12 +30,9 @@ level_after level v had inside here = if had then v else if inside && here then 
 abbrev noted_after : Bool → Bool → Bool → Bool → Bool
 noted_after was had inside here = was || (not had && (inside && here))
 
--- a position has a level, and lies in the columns
+-- a position has a level
 abbrev leveled : SpreadData → Pos → Bool
 leveled s p = nat_lt 0 (level_in s.table p)
-
-abbrev held : SpreadData → Pos → Bool
-held s p = is_in s.columns p
 
 -- a position is in two lists joined where it is in one of them
 pub has_joined : (xs ys : List Pos) (p : Pos) → has (xs ++ ys) p ≡ (has xs p || has ys p)
@@ -58,28 +55,27 @@ nothing_new false false true = refl
 nothing_new false false false = refl
 
 -- no position reached
-pub reaches_none : {level : ℕ} {s : SpreadData} → Reaches level s s []
-reaches_none {level} {s} = record {
-  columns = refl;
-  levels = λ p. nothing_more (level_in s.table p) level (leveled s p) (held s p) refl;
-  reached = λ p. nothing_new (has s.reached p) (leveled s p) (held s p);
+pub reaches_none : {inside : Pos → Bool} {level : ℕ} {s : SpreadData} → Reaches inside level s s []
+reaches_none {inside} {level} {s} = record {
+  levels = λ p. nothing_more (level_in s.table p) level (leveled s p) (inside p) refl;
+  reached = λ p. nothing_new (has s.reached p) (leveled s p) (inside p);
 }
 
 -- the same of another name of a list
-pub reaches_as : {level : ℕ} {a b : SpreadData} {ps qs : List Pos} → ps ≡ qs
-    → Reaches level a b ps → Reaches level a b qs
-reaches_as {level} {a} {b} same reaches = subst (Reaches level a b) same reaches
+pub reaches_as : {inside : Pos → Bool} {level : ℕ} {a b : SpreadData} {ps qs : List Pos} → ps ≡ qs
+    → Reaches inside level a b ps → Reaches inside level a b qs
+reaches_as {inside} {level} {a} {b} same reaches = subst (Reaches inside level a b) same reaches
 
--- and of other names of all that is named
-pub reaches_same : {k level : ℕ} {a b c : SpreadData} {ps qs : List Pos} → k ≡ level → a ≡ b → ps ≡ qs
-    → Reaches k a c ps → Reaches level b c qs
-reaches_same {level = level} {a = a} {c = c} {ps = ps} same_level same same_list reaches =
-    reaches_as same_list
-    (subst (λ s. Reaches level s c ps) same (subst (λ k. Reaches k a c ps) same_level reaches))
+-- and of other names of what it begins with, too
+pub reaches_same : {inside : Pos → Bool} {level : ℕ} {a b c : SpreadData} {ps qs : List Pos} → a ≡ b → ps ≡ qs
+    → Reaches inside level a c ps → Reaches inside level b c qs
+reaches_same {inside} {level} {c = c} {ps = ps} same same_list reaches =
+    reaches_as same_list (subst (λ s. Reaches inside level s c ps) same reaches)
 
 -- nothing is reached where a list turns out to be empty
-pub reaches_nothing : {level : ℕ} {s : SpreadData} {ps : List Pos} → ps ≡ [] → Reaches level s s ps
-reaches_nothing {level} {s} none = subst (Reaches level s s) (sym none) reaches_none
+pub reaches_nothing : {inside : Pos → Bool} {level : ℕ} {s : SpreadData} {ps : List Pos} → ps ≡ []
+    → Reaches inside level s s ps
+reaches_nothing {inside} {level} {s} none = subst (Reaches inside level s s) (sym none) reaches_none
 
 -- who has a level after a step
 has_level : (level v new : ℕ) (had i x : Bool) → 0 < level → nat_lt 0 v ≡ had
@@ -106,48 +102,42 @@ noted_twice false false true false y = refl
 noted_twice false false false x y = refl
 
 -- what is reached in two steps
-pub reaches_on : {level : ℕ} {a b c : SpreadData} {xs ys : List Pos} → 0 < level
-    → Reaches level a b xs → Reaches level b c ys → Reaches level a c (xs ++ ys)
-reaches_on {level} {a} {b} {c} {xs} {ys} some first second = record {
-  columns = second.columns ∙ first.columns;
+pub reaches_on : {inside : Pos → Bool} {level : ℕ} {a b c : SpreadData} {xs ys : List Pos} → 0 < level
+    → Reaches inside level a b xs → Reaches inside level b c ys → Reaches inside level a c (xs ++ ys)
+reaches_on {inside} {level} {a} {b} {c} {xs} {ys} some first second = record {
   levels = levels_on;
   reached = reached_on;
 }
   where
     -- who has a level between the steps
     between : Pos → Bool
-    between p = leveled a p || (held a p && has xs p)
+    between p = leveled a p || (inside p && has xs p)
 
     leveled_between : (p : Pos) → leveled b p ≡ between p
     leveled_between p =
-        has_level level (level_in a.table p) (level_in b.table p) (leveled a p) (held a p) (has xs p)
+        has_level level (level_in a.table p) (level_in b.table p) (leveled a p) (inside p) (has xs p)
         some refl (first.levels p)
-
-    held_between : (p : Pos) → held b p ≡ held a p
-    held_between p = ap (λ columns. is_in columns p) first.columns
 
     levels_on : (p : Pos)
         → level_in c.table p
-        ≡ level_after level (level_in a.table p) (leveled a p) (held a p) (has (xs ++ ys) p)
+        ≡ level_after level (level_in a.table p) (leveled a p) (inside p) (has (xs ++ ys) p)
     levels_on p =
         let u = level_in a.table p in
         let v = level_in b.table p in
-        level_twice level u v (level_in c.table p) (leveled a p) (held a p) (has xs p) (has ys p) (first.levels p)
+        level_twice level u v (level_in c.table p) (leveled a p) (inside p) (has xs p) (has ys p) (first.levels p)
         (second.levels p
-        ∙ ap (λ had. level_after level v had (held b p) (has ys p)) (leveled_between p)
-        ∙ ap (λ inside. level_after level v (between p) inside (has ys p)) (held_between p))
-        ∙ ap (λ here. level_after level u (leveled a p) (held a p) here) (sym (has_joined xs ys p))
+        ∙ ap (λ had. level_after level v had (inside p) (has ys p)) (leveled_between p))
+        ∙ ap (λ here. level_after level u (leveled a p) (inside p) here) (sym (has_joined xs ys p))
 
     reached_on : (p : Pos)
-        → has c.reached p ≡ noted_after (has a.reached p) (leveled a p) (held a p) (has (xs ++ ys) p)
+        → has c.reached p ≡ noted_after (has a.reached p) (leveled a p) (inside p) (has (xs ++ ys) p)
     reached_on p =
-        let was = noted_after (has a.reached p) (leveled a p) (held a p) (has xs p) in
+        let was = noted_after (has a.reached p) (leveled a p) (inside p) (has xs p) in
         second.reached p
-        ∙ ap (λ r. noted_after r (leveled b p) (held b p) (has ys p)) (first.reached p)
-        ∙ ap (λ had. noted_after was had (held b p) (has ys p)) (leveled_between p)
-        ∙ ap (λ inside. noted_after was (between p) inside (has ys p)) (held_between p)
-        ∙ noted_twice (has a.reached p) (leveled a p) (held a p) (has xs p) (has ys p)
-        ∙ ap (λ here. noted_after (has a.reached p) (leveled a p) (held a p) here) (sym (has_joined xs ys p))
+        ∙ ap (λ r. noted_after r (leveled b p) (inside p) (has ys p)) (first.reached p)
+        ∙ ap (λ had. noted_after was had (inside p) (has ys p)) (leveled_between p)
+        ∙ noted_twice (has a.reached p) (leveled a p) (inside p) (has xs p) (has ys p)
+        ∙ ap (λ here. noted_after (has a.reached p) (leveled a p) (inside p) here) (sym (has_joined xs ys p))
 
 -- a position after one got a level: the same one, or another
 level_got : (level v new : ℕ) (had i same : Bool) → nat_lt 0 v ≡ had
@@ -169,23 +159,22 @@ noted_got r true i false free = refl
 noted_got r false true false free = refl
 noted_got r false false false free = refl
 
--- a position in the columns without a level gets one, and is noted
-pub reaches_one : {level : ℕ} {old new : SpreadData} {p : Pos} → held old p ≡ true → leveled old p ≡ false
-    → new.columns ≡ old.columns
+-- a position inside without a level gets one, and is noted
+pub reaches_one : {inside : Pos → Bool} {level : ℕ} {old new : SpreadData} {p : Pos}
+    → inside p ≡ true → leveled old p ≡ false
     → ((q : Pos) → level_in new.table q ≡ (if same_place q p then level else level_in old.table q))
-    → new.reached ≡ old.reached ++ p ∷ [] → Reaches level old new (p ∷ [])
-reaches_one {level} {old} {new} {p} inside none columns levels reached = record {
-  columns = columns;
-  levels = λ q. level_got level (level_in old.table q) (level_in new.table q) (leveled old q) (held old q)
+    → new.reached ≡ old.reached ++ p ∷ [] → Reaches inside level old new (p ∷ [])
+reaches_one {inside} {level} {old} {new} {p} there none levels reached = record {
+  levels = λ q. level_got level (level_in old.table q) (level_in new.table q) (leveled old q) (inside q)
       (same_place q p) refl (free q) (levels q);
   reached = λ q. ap (λ ps. has ps q) reached ∙ has_joined old.reached (p ∷ []) q
-      ∙ noted_got (has old.reached q) (leveled old q) (held old q) (same_place q p) (free q);
+      ∙ noted_got (has old.reached q) (leveled old q) (inside q) (same_place q p) (free q);
 }
   where
-    free : (q : Pos) → same_place q p ≡ true → (leveled old q ≡ false) × (held old q ≡ true)
+    free : (q : Pos) → same_place q p ≡ true → (leveled old q ≡ false) × (inside q ≡ true)
     free q same =
         let is = place_is q p same in
-        (ap (λ r. leveled old r) is ∙ none, ap (λ r. held old r) is ∙ inside)
+        (ap (λ r. leveled old r) is ∙ none, ap inside is ∙ there)
 
 -- a position that is passed over
 level_kept : (level v : ℕ) (had i same : Bool) → nat_lt 0 v ≡ had
@@ -203,18 +192,17 @@ noted_kept false false true true taken = absurd (true≢false (taken refl))
 noted_kept false false true false taken = refl
 noted_kept false false false same taken = refl
 
--- a position outside the columns, or with a level, is passed over
-pub reaches_over : {level : ℕ} {s : SpreadData} {p : Pos}
-    → (not (leveled s p) && held s p) ≡ false → Reaches level s s (p ∷ [])
-reaches_over {level} {s} {p} taken = record {
-  columns = refl;
+-- a position that is not inside, or has a level, is passed over
+pub reaches_over : {inside : Pos → Bool} {level : ℕ} {s : SpreadData} {p : Pos}
+    → (not (leveled s p) && inside p) ≡ false → Reaches inside level s s (p ∷ [])
+reaches_over {inside} {level} {s} {p} taken = record {
   levels = λ q.
-      level_kept level (level_in s.table q) (leveled s q) (held s q) (same_place q p) refl (still q);
-  reached = λ q. noted_kept (has s.reached q) (leveled s q) (held s q) (same_place q p) (still q);
+      level_kept level (level_in s.table q) (leveled s q) (inside q) (same_place q p) refl (still q);
+  reached = λ q. noted_kept (has s.reached q) (leveled s q) (inside q) (same_place q p) (still q);
 }
   where
-    still : (q : Pos) → same_place q p ≡ true → (not (leveled s q) && held s q) ≡ false
-    still q same = ap (λ r. not (leveled s r) && held s r) (place_is q p same) ∙ taken
+    still : (q : Pos) → same_place q p ≡ true → (not (leveled s q) && inside q) ≡ false
+    still q same = ap (λ r. not (leveled s r) && inside r) (place_is q p same) ∙ taken
 
 -- what one item more of a list gives, joined to what those before it give
 flat_more : {X : Type 0} (f : X → List Pos) (xs : List X) (i : ℕ) (d : X) → i < length xs
@@ -225,17 +213,17 @@ flat_more f xs i d within =
     ∙ ap (λ ps. flat_map f (take i xs) ++ ps) (append-nil (f (get_or xs i d)))
 
 -- what one item more of a list reaches
-pub reaches_more : {X : Type 0} {level : ℕ} {a b c : SpreadData}
+pub reaches_more : {X : Type 0} {inside : Pos → Bool} {level : ℕ} {a b c : SpreadData}
     (f : X → List Pos) (xs : List X) (i : ℕ) (d : X) → i < length xs → 0 < level
-    → Reaches level a b (flat_map f (take i xs)) → Reaches level b c (f (get_or xs i d))
-    → Reaches level a c (flat_map f (take (i + 1) xs))
+    → Reaches inside level a b (flat_map f (take i xs)) → Reaches inside level b c (f (get_or xs i d))
+    → Reaches inside level a c (flat_map f (take (i + 1) xs))
 reaches_more f xs i d within some first second =
     reaches_as (sym (flat_more f xs i d within)) (reaches_on some first second)
 
 -- what all items of a list reach, after the last of them
-pub reaches_all : {X : Type 0} {level : ℕ} {a b : SpreadData}
+pub reaches_all : {X : Type 0} {inside : Pos → Bool} {level : ℕ} {a b : SpreadData}
     (f : X → List Pos) (xs : List X) (i : ℕ) (ps : List Pos) → length xs ≤ i → flat_map f xs ≡ ps
-    → Reaches level a b (flat_map f (take i xs)) → Reaches level a b ps
+    → Reaches inside level a b (flat_map f (take i xs)) → Reaches inside level a b ps
 reaches_all f xs i ps past give reaches =
     reaches_as (ap (flat_map f) (take_all i xs past) ∙ give) reaches
 
@@ -275,6 +263,18 @@ pub dust_gives : (w : Pos → Cell) (ps : List Pos) → flat_map (links w) ps �
 dust_gives w [] = refl
 dust_gives w (p ∷ ps) = ap (λ qs. links w p ++ qs) (dust_gives w ps)
 
+-- those of a list that pass a test
+pub passing_give : (test : Pos → Bool) (ps : List Pos)
+    → flat_map (λ p. if test p then p ∷ [] else []) ps ≡ filter test ps
+passing_give test [] = refl
+passing_give test (p ∷ ps) =
+    ap (λ qs. (if test p then p ∷ [] else []) ++ qs) (passing_give test ps)
+    ∙ one_more (test p) p (filter test ps)
+  where
+    one_more : (b : Bool) (p : Pos) (qs : List Pos) → ((if b then p ∷ [] else []) ++ qs) ≡ cond b (p ∷ qs) qs
+    one_more true p qs = refl
+    one_more false p qs = refl
+
 -- the dust that the devices of one sector more feed
 module _ (m : MapData) (w : Pos → Cell) where
   of_sector : ℕ → List Pos
@@ -290,9 +290,10 @@ module _ (m : MapData) (w : Pos → Cell) where
       ∙ ap (λ j. (of_sector k ++ further) ++ of_sector j) (omega arith)
 
   -- and what they reach
-  pub sector_reaches : {a b c : SpreadData} (first n : ℕ) → first ≤ n
-      → Reaches 15 a b (fed_by_sectors m w first (n - first)) → Reaches 15 b c (fed_by w (devices_on m n))
-      → Reaches 15 a c (fed_by_sectors m w first (n + 1 - first))
+  pub sector_reaches : {inside : Pos → Bool} {a b c : SpreadData} (first n : ℕ) → first ≤ n
+      → Reaches inside 15 a b (fed_by_sectors m w first (n - first))
+      → Reaches inside 15 b c (fed_by w (devices_on m n))
+      → Reaches inside 15 a c (fed_by_sectors m w first (n + 1 - first))
   unfolding of_sector
   sector_reaches first n least before here =
       let count : suc (n - first) ≡ n + 1 - first = omega arith in

@@ -6,6 +6,8 @@ use Rattle.std.specs.Ordering.{int_eq}
 use Rattle.vx_geom.specs.declared.pos.Pos.{Pos}
 use Rattle.vx_geom.specs.Places.{west, north}
 use Rattle.vx_geom.specs.Sizes.{Sizes, span}
+use Rattle.vx_block.specs.declared.cell.Cell.{Cell}
+use Rattle.vx_block.specs.declared.cell.Cell.TheVariants.{Dust}
 use Rattle.vx_cells.specs.Maps.{MapData, cell_on, far}
 use Rattle.vx_power.specs.declared.columns.Columns.{Columns}
 use Rattle.vx_power.specs.Laws.{dust_level}
@@ -46,6 +48,11 @@ columns_around v k d = record {
 -- all the columns that a world may have
 abbrev pub everywhere : Columns
 everywhere = record { west = pos 0; east = pos far; north = pos 0; south = pos far }
+
+-- the level that dust stores; 0 of another cell
+abbrev pub stored_level : Cell → ℕ
+stored_level (Dust level) = level
+stored_level _ = 0
 
 -- how many columns off a sector levels are told: a next part reads no level further off
 abbrev pub told_columns : ℕ

@@ -5,6 +5,8 @@ use Rattle.vx_geom.specs.declared.dir.Dir.{Dir}
 use Rattle.vx_geom.specs.Dirs.{all_dirs}
 use Rattle.vx_geom.specs.Neighbor.{neighbor}
 use Rattle.vx_block.specs.declared.cell.Cell.{Cell}
+use Rattle.vx_block.specs.declared.cell.Cell.TheVariants.{Dust, Repeater, Lamp}
+use Rattle.vx_block.specs.declared.lamp.Lamp.TheVariants.{Off}
 use Rattle.vx_power.specs.declared.columns.Columns.{Columns}
 use Rattle.vx_power.specs.Dust.{links}
 use Rattle.vx_power.specs.Laws.{dust_level}
@@ -45,6 +47,33 @@ PowerSees = (w v : Pos → Cell) (a b : Pos → ℕ) (p : Pos)
 abbrev pub ActivitySees : Type 0
 ActivitySees = (w v : Pos → Cell) (a b : Pos → ℕ) (front : Option Dir) (p : Pos)
     → AreAlike (within_steps 4 p) w v → AreAlike (within_steps 2 p) a b
+    → is_active w a front p ≡ is_active v b front p
+
+-- what a cell shows to other positions: all but the level that dust stores, the state of a lamp and
+-- what a repeater counts
+abbrev pub shown : Cell → Cell
+shown (Dust level) = Dust 0
+shown (Repeater r) = Repeater (record r { wait = 0 })
+shown (Lamp state) = Lamp Off
+shown other = other
+
+-- at these positions the two maps show the same
+abbrev pub ShowAlike : List Pos → (Pos → Cell) → (Pos → Cell) → Type 0
+ShowAlike ps w v = AreAlike ps (λ q. shown (w q)) (λ q. shown (v q))
+
+-- of what they see, dust, power and activity depend on what is shown there alone
+abbrev pub DustSeesShown : Type 0
+DustSeesShown = (w v : Pos → Cell) (p : Pos) → ShowAlike (sees p) w v
+    → (is_fed w p ≡ is_fed v p) × (links w p ≡ links v p)
+
+abbrev pub PowerSeesShown : Type 0
+PowerSeesShown = (w v : Pos → Cell) (a b : Pos → ℕ) (p : Pos)
+    → ShowAlike (within_steps 3 p) w v → AreAlike (within_steps 1 p) a b
+    → is_powered w a p ≡ is_powered v b p
+
+abbrev pub ActivitySeesShown : Type 0
+ActivitySeesShown = (w v : Pos → Cell) (a b : Pos → ℕ) (front : Option Dir) (p : Pos)
+    → ShowAlike (within_steps 4 p) w v → AreAlike (within_steps 2 p) a b
     → is_active w a front p ≡ is_active v b front p
 
 -- the columns up to so many off that of p

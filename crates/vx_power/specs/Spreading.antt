@@ -1,5 +1,7 @@
--- How levels spread from the dust that is fed, link by link, within some columns.
-use Rattle.std.specs.Prelude.{◌≡◌, ℕ, zero, suc, Bool, false, not, ◌&&◌, ◌||◌, ◌-◌, nat_lt, if◌then◌else◌, List, [], ◌∷◌, ◌++◌}
+-- How levels spread from the dust that is fed, link by link, within a region: the positions that
+-- pass a test, `inside`.
+use Rattle.std.specs.Prelude.{◌≡◌, ℕ, zero, suc, Bool, false, not, ◌&&◌, ◌||◌, ◌-◌, ◌==◌, nat_lt, if◌then◌else◌, List, [], ◌∷◌, ◌++◌}
+use Rattle.std.specs.List.{flat_map}
 use Rattle.vx_geom.specs.declared.pos.Pos.{Pos}
 use Rattle.vx_geom.specs.declared.dir.Dir.{Dir}
 use Rattle.vx_geom.specs.declared.dir.Dir.TheVariants.{East, West, Up, Down, South, North}
@@ -9,9 +11,8 @@ use Rattle.vx_block.specs.Components.{is_dust}
 use Rattle.vx_block.specs.Conductors.{conducts}
 use Rattle.vx_cells.specs.Listed.{devices_on}
 use Rattle.vx_cells.specs.Maps.{MapData, cell_on}
-use Rattle.vx_power.specs.declared.columns.Columns.{Columns}
 use Rattle.vx_power.specs.Dust.{links}
-use Rattle.vx_power.specs.Levels.{LevelTable, has, level_in, is_in}
+use Rattle.vx_power.specs.Levels.{LevelTable, has, level_in, stored_level}
 use Rattle.vx_power.specs.Signals.{gives, drives, is_fed}
 use Rattle.vx_power.specs.Walks.{within, level_by}
 
@@ -51,49 +52,56 @@ abbrev pub linked_to : (Pos → Cell) → List Pos → List Pos
 linked_to w [] = []
 linked_to w (p ∷ ps) = links w p ++ linked_to w ps
 
--- the dust in these columns that is fed, and the links of the dust in them
-unfoldable pub fed_in : (Pos → Cell) → Columns → Pos → Bool
-fed_in w c p = is_in c p && is_fed w p
+-- the dust inside that is fed, and the links of the dust there
+unfoldable pub fed_in : (Pos → Cell) → (Pos → Bool) → Pos → Bool
+fed_in w inside p = inside p && is_fed w p
 
-unfoldable pub links_in : (Pos → Cell) → Columns → Pos → List Pos
-links_in w c p = if is_in c p then links w p else []
+unfoldable pub links_in : (Pos → Cell) → (Pos → Bool) → Pos → List Pos
+links_in w inside p = if inside p then links w p else []
 
--- of the dust in these columns, the devices of the sectors from `first` up to below `end` feed all
--- that is fed
-abbrev pub FeedAll : MapData → Columns → ℕ → ℕ → Type 0
-FeedAll m c first end = (p : Pos)
-    → (is_in c p && has (fed_by_sectors m (cell_on m) first (end - first)) p)
-    ≡ fed_in (cell_on m) c p
+-- what those of these positions link to that pass a test
+abbrev pub linked_where : (Pos → Cell) → (Pos → Bool) → List Pos → List Pos
+linked_where w test ps = flat_map (links_in w test) ps
 
--- the level of dust by walks of fourteen links within these columns
-abbrev pub level_within : (Pos → Cell) → Columns → Pos → ℕ
-level_within w c p = level_by (fed_in w c) (links_in w c) 14 p
+-- what stands at p stores this level
+abbrev pub stores : (Pos → Cell) → ℕ → Pos → Bool
+stores w level p = stored_level (w p) == level
 
--- the columns to which levels spread, a table of levels, and the positions that it got last
+-- of the dust inside, the devices of the sectors from `first` up to below `end` feed all that is
+-- fed
+abbrev pub FeedAll : MapData → (Pos → Bool) → ℕ → ℕ → Type 0
+FeedAll m inside first end = (p : Pos)
+    → (inside p && has (fed_by_sectors m (cell_on m) first (end - first)) p)
+    ≡ fed_in (cell_on m) inside p
+
+-- the level of dust by walks of fourteen links that stay inside
+abbrev pub level_within : (Pos → Cell) → (Pos → Bool) → Pos → ℕ
+level_within w inside p = level_by (fed_in w inside) (links_in w inside) 14 p
+
+-- a table of levels, and the positions that it got last
 pub record SpreadData : Type 0 where
-  pub columns : Columns
   pub table : LevelTable
   pub reached : List Pos
 
--- each of these positions that lies in the columns and had no level got this one, and is noted
-pub record Reaches (level : ℕ) (old new : SpreadData) (ps : List Pos) : Type 0 where
-  pub columns : new.columns ≡ old.columns
+-- each of these positions that lies inside and had no level got this one, and is noted
+pub record Reaches (inside : Pos → Bool) (level : ℕ) (old new : SpreadData) (ps : List Pos)
+    : Type 0 where
   pub levels : (p : Pos) → level_in new.table p ≡ (if nat_lt 0 (level_in old.table p)
       then level_in old.table p
-      else if is_in old.columns p && has ps p then level else 0)
+      else if inside p && has ps p then level else 0)
   pub reached : (p : Pos) → has new.reached p
       ≡ (has old.reached p
-      || (not (nat_lt 0 (level_in old.table p)) && (is_in old.columns p && has ps p)))
+      || (not (nat_lt 0 (level_in old.table p)) && (inside p && has ps p)))
 
 -- walks of less than so many links lead from the place to a fed one
 abbrev pub before : {X : Type 0} → (X → Bool) → (X → List X) → ℕ → X → Bool
 before fed links zero p = false
 before fed links (suc n) p = within fed links n p
 
--- the table tells what walks of so many links tell, and the last of them reached these positions
-pub record IsSpread (w : Pos → Cell) (n : ℕ) (s : SpreadData) : Type 0 where
-  pub levels : (p : Pos)
-      → level_in s.table p ≡ level_by (fed_in w s.columns) (links_in w s.columns) n p
+-- inside, the table tells what walks of so many links tell of these fed places and links, and the
+-- last of them reached these positions
+pub record IsSpread (inside fed : Pos → Bool) (links : Pos → List Pos) (n : ℕ) (s : SpreadData)
+    : Type 0 where
+  pub levels : (p : Pos) → level_in s.table p ≡ (if inside p then level_by fed links n p else 0)
   pub reached : (p : Pos) → has s.reached p
-      ≡ (within (fed_in w s.columns) (links_in w s.columns) n p
-      && not (before (fed_in w s.columns) (links_in w s.columns) n p))
+      ≡ (inside p && (within fed links n p && not (before fed links n p)))

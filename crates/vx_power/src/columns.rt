@@ -2,6 +2,7 @@ ghost use Rattle.std.specs.Prelude.{◌≡◌, ◌<◌, ◌≤◌, ◌&&◌, int
 ghost use Rattle.vx_geom.specs.Sizes.{sector_count};
 ghost use Rattle.vx_power.specs.Levels.{columns_around, is_in};
 
+use crate::region::Region;
 use vx_geom::{Bounds, Pos};
 
 /// Columns of a world and past its borders: those from `west` up to below `east`, and from `north`
@@ -39,12 +40,20 @@ impl Columns {
         }
     }
 
-    /// Whether a position lies in one of these columns.
+    // Whether a position lies in one of these columns.
     #[tactic(auto, using(vx_base::proofs::Signed::signed))]
-    pub fn hold(self, p: Pos) -> bool
+    fn has(self, p: Pos) -> bool
         ensures { result ≡ is_in self p }
     {
         is_between(self.west, p.x, self.east) && is_between(self.north, p.z, self.south)
+    }
+}
+
+impl Region for Columns {
+    ghost holds = { is_in };
+
+    fn hold(&self, p: Pos) -> bool {
+        self.has(p)
     }
 }
 

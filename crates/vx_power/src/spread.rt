@@ -1,6 +1,7 @@
 //! How levels spread: from the dust that is fed, link by link.
-ghost use Rattle.std.specs.Prelude.{◌≡◌, ◌<◌, ◌≤◌, ◌+◌, ◌-◌, ◌&&◌, [], ◌∷◌, if◌then◌else◌, OnOk, IfOk};
+ghost use Rattle.std.specs.Prelude.{◌≡◌, ◌<◌, ◌≤◌, ◌+◌, ◌-◌, ◌&&◌, [], ◌∷◌, ◌++◌, filter, if◌then◌else◌, OnOk, IfOk};
 ghost use Rattle.std.specs.Option.{option_to_list};
+ghost use Rattle.vx_block.specs.Components.{is_dust};
 ghost use Rattle.vx_block.specs.Conductors.{conducts};
 ghost use Rattle.vx_cells.specs.Listed.{devices_on};
 ghost use Rattle.vx_cells.specs.Maps.{cell_on};
@@ -8,14 +9,15 @@ ghost use Rattle.vx_geom.specs.Neighbor.{neighbor};
 ghost use Rattle.vx_geom.specs.declared.pos.Pos.{Pos};
 ghost use Rattle.vx_geom.specs.Sizes.{sector_count};
 ghost use Rattle.vx_power.specs.Dust.{links, links_on};
-ghost use Rattle.vx_power.specs.Levels.{level_in, AreLevels, AreAllLevels};
-ghost use Rattle.vx_power.specs.Signals.{drives};
-ghost use Rattle.vx_power.specs.Spreading.{dust_at, each_dir, fed_towards, fed_from, fed_by, fed_by_sectors, linked_to, FeedAll, level_within, Reaches, IsSpread};
+ghost use Rattle.vx_power.specs.Levels.{is_in, level_in, AreLevels, AreAllLevels};
+ghost use Rattle.vx_power.specs.Signals.{drives, is_fed};
+ghost use Rattle.vx_power.specs.Spreading.{dust_at, each_dir, fed_towards, fed_from, fed_by, fed_by_sectors, linked_to, FeedAll, level_within, Reaches};
 
 use crate::columns::Columns;
-use crate::dust_near::{driven, dust_at, dust_given, dust_over, dust_under};
 use crate::level_table::Levels;
 use crate::leveled::Leveled;
+use crate::next_dust::{driven, dust_at, dust_given, dust_here, dust_over, dust_under, fed_here};
+use crate::region::Region;
 use std::alloc::{AllocError, Global};
 use std::marker::Model;
 use std::mem;
@@ -23,11 +25,11 @@ use vx_block::{Cell, Side};
 use vx_cells::Frozen;
 use vx_geom::{Dir, Pos};
 
-// The level of dust that is fed.
-const FED: u8 = 15;
+/// The level of dust that is fed.
+pub const FED: u8 = 15;
 
-// A walk from fed dust has at most so many links.
-const MOST_LINKS: u8 = 14;
+/// A walk from fed dust has at most so many links.
+pub const MOST_LINKS: u8 = 14;
 
 // Levels are told up to two columns off a sector, and a link leads at most one column further.
 const COLUMNS_OFF: u32 = 16;
@@ -69,22 +71,21 @@ fn levels_in(
 ) -> Result<Levels, AllocError>
     requires order { first ≤ end }
     requires there { end ≤ sector_count map.now.sizes }
-    requires fed { FeedAll map.now columns first end }
+    requires fed { FeedAll map.now (is_in columns) first end }
     ensures { IfOk result (λ levels. (p : Pos)
-        → level_in levels p ≡ level_within (cell_on map.now) columns p) }
+        → level_in levels p ≡ level_within (cell_on map.now) (is_in columns) p) }
 {
-    let mut spread = Spread::new(alloc, columns);
-    spread.begin(alloc, map, first, end)?;
+    let mut spread = Spread::new(alloc);
+    spread.begin(alloc, map, &columns, first, end)?;
     for links in 0..MOST_LINKS {
-        spread.go_on(alloc, map, MOST_LINKS - links)?;
+        spread.go_on(alloc, map, &columns, MOST_LINKS - links)?;
     }
     Ok(spread.into_levels())
 }
 
-// Levels as they spread within some columns.
+/// Levels as they spread within a region.
 #[derive(Drop)]
-struct Spread {
-    columns: Columns,
+pub struct Spread {
     levels: Levels,
     reached: Vec<Pos>,
 }
@@ -94,203 +95,279 @@ impl Model for Spread {
 
     ghost Value = { SpreadData };
 
-    ghost view = { λ a.
-        record { columns = a.columns; table = a.levels; reached = a.reached.items } };
+    ghost view = { λ a. record { table = a.levels; reached = a.reached.items } };
 }
 
 impl Spread {
-    // Nothing reached yet.
-    fn new(alloc: Global, columns: Columns) -> Spread
-        ensures { result ≡ record { columns = columns; table = []; reached = [] } }
+    /// Nothing reached yet.
+    pub fn new(alloc: Global) -> Spread
+        ensures { result ≡ record { table = []; reached = [] } }
     {
         Spread {
-            columns,
             levels: Levels::new(alloc),
             reached: Vec::new(alloc),
         }
     }
 
     // Reaches the dust that the devices of the sectors from `first` up to below `end` feed.
-    fn begin(
+    fn begin<R: Region>(
         &mut self,
         alloc: Global,
         map: &Frozen<'_>,
+        region: &R,
         first: u32,
         end: u32,
     ) -> Result<(), AllocError>
         requires order { first ≤ end }
         requires there { end ≤ sector_count map.now.sizes }
-        ensures { OnOk result (Reaches 15 self.old self.new
+        ensures { OnOk result (Reaches (R.holds region.now) 15 self.old self.new
             (fed_by_sectors map.now (cell_on map.now) first (end - first))) }
     {
         for number in first..end {
-            self.begin_in(alloc, map, number)?;
+            self.begin_in(alloc, map, region, number)?;
         }
         Ok(())
     }
 
     // Reaches the dust that the devices of one sector feed.
-    fn begin_in(&mut self, alloc: Global, map: &Frozen<'_>, sector: u32) -> Result<(), AllocError>
+    fn begin_in<R: Region>(
+        &mut self,
+        alloc: Global,
+        map: &Frozen<'_>,
+        region: &R,
+        sector: u32,
+    ) -> Result<(), AllocError>
         requires { sector < sector_count map.now.sizes }
-        ensures { OnOk result (Reaches 15 self.old self.new
+        ensures { OnOk result (Reaches (R.holds region.now) 15 self.old self.new
             (fed_by (cell_on map.now) (devices_on map.now sector))) }
     {
         if !map.has_devices(sector) {
             return Ok(());
         }
         let devices = map.devices(alloc, sector)?;
-        self.reach_all_fed(map, devices.as_slice())
+        self.reach_all_fed(map, region, devices.as_slice())
     }
 
-    // One link further, where dust gets this level.
-    fn go_on(&mut self, alloc: Global, map: &Frozen<'_>, level: u8) -> Result<(), AllocError>
+    /// Reaches those of these positions where dust lies.
+    pub fn reach_dust<R: Region>(
+        &mut self,
+        map: &Frozen<'_>,
+        region: &R,
+        places: &[Pos],
+    ) -> Result<(), AllocError>
+        ensures { OnOk result (Reaches (R.holds region.now) 15 self.old self.new
+            (filter (λ p. is_dust (cell_on map.now p)) places.now)) }
+    {
+        for p in places {
+            self.reach_found(region, dust_here(map, *p), FED)?;
+        }
+        Ok(())
+    }
+
+    /// Reaches those of these positions where dust lies that is fed.
+    pub fn reach_fed_among<R: Region>(
+        &mut self,
+        map: &Frozen<'_>,
+        region: &R,
+        places: &[Pos],
+    ) -> Result<(), AllocError>
+        ensures { OnOk result (Reaches (R.holds region.now) 15 self.old self.new
+            (filter (is_fed (cell_on map.now)) places.now)) }
+    {
+        for p in places {
+            self.reach_found(region, fed_here(map, *p), FED)?;
+        }
+        Ok(())
+    }
+
+    /// One link further: reaches what the positions reached last link to.
+    pub fn go_on<R: Region>(
+        &mut self,
+        alloc: Global,
+        map: &Frozen<'_>,
+        region: &R,
+        level: u8,
+    ) -> Result<(), AllocError>
         requires some { 0 < level }
-        requires most { level ≤ 14 }
-        requires spread { IsSpread (cell_on map.now) (14 - level) self.old }
-        ensures columns { OnOk result (self.new.columns ≡ self.old.columns) }
-        ensures spread { OnOk result (IsSpread (cell_on map.now) (15 - level) self.new) }
+        requires most { level ≤ 15 }
+        ensures { OnOk result (Reaches (R.holds region.now) level
+            (record self.old { reached = [] }) self.new
+            (linked_to (cell_on map.now) self.old.reached)) }
     {
         let from = mem::replace(&mut self.reached, Vec::new(alloc));
-        self.reach_all_links(map, from.as_slice(), level)
+        self.reach_all_links(map, region, from.as_slice(), level)
     }
 
     // Reaches the dust that any of these devices feeds.
-    fn reach_all_fed(&mut self, map: &Frozen<'_>, devices: &[Pos]) -> Result<(), AllocError>
-        ensures { OnOk result (Reaches 15 self.old self.new
+    fn reach_all_fed<R: Region>(
+        &mut self,
+        map: &Frozen<'_>,
+        region: &R,
+        devices: &[Pos],
+    ) -> Result<(), AllocError>
+        ensures { OnOk result (Reaches (R.holds region.now) 15 self.old self.new
             (fed_by (cell_on map.now) devices.now)) }
     {
         for device in devices {
-            self.reach_fed(map, *device)?;
+            self.reach_fed(map, region, *device)?;
         }
         Ok(())
     }
 
     // Reaches the dust that a device feeds.
-    fn reach_fed(&mut self, map: &Frozen<'_>, device: Pos) -> Result<(), AllocError>
-        ensures { OnOk result (Reaches 15 self.old self.new (fed_from (cell_on map.now) device)) }
+    fn reach_fed<R: Region>(
+        &mut self,
+        map: &Frozen<'_>,
+        region: &R,
+        device: Pos,
+    ) -> Result<(), AllocError>
+        ensures { OnOk result (Reaches (R.holds region.now) 15 self.old self.new
+            (fed_from (cell_on map.now) device)) }
     {
         let cell = map.cell(device);
         for dir in Dir::ALL {
-            self.reach_towards(map, &cell, device, dir)?;
+            self.reach_towards(map, region, &cell, device, dir)?;
         }
         Ok(())
     }
 
     // Reaches the dust that a device feeds in one direction.
-    fn reach_towards(
+    fn reach_towards<R: Region>(
         &mut self,
         map: &Frozen<'_>,
+        region: &R,
         cell: &Cell,
         device: Pos,
         dir: Dir,
     ) -> Result<(), AllocError>
         requires { cell.now ≡ cell_on map.now device }
-        ensures { OnOk result (Reaches 15 self.old self.new
+        ensures { OnOk result (Reaches (R.holds region.now) 15 self.old self.new
             (fed_towards (cell_on map.now) device dir)) }
     {
-        self.reach_found(dust_given(map, cell, device, dir), FED)?;
-        self.reach_driven(map, cell, device, dir)
+        self.reach_found(region, dust_given(map, cell, device, dir), FED)?;
+        self.reach_driven(map, region, cell, device, dir)
     }
 
     // Reaches the dust around the conductor in one direction, if a cell at this position drives it.
-    fn reach_driven(
+    fn reach_driven<R: Region>(
         &mut self,
         map: &Frozen<'_>,
+        region: &R,
         cell: &Cell,
         p: Pos,
         dir: Dir,
     ) -> Result<(), AllocError>
-        ensures { OnOk result (Reaches 15 self.old self.new
+        ensures { OnOk result (Reaches (R.holds region.now) 15 self.old self.new
             (if drives cell.now dir && conducts (cell_on map.now (neighbor p dir))
             then each_dir (dust_at (cell_on map.now) (neighbor p dir)) else [])) }
     {
         match driven(map, cell, p, dir) {
-            Some(block) => self.reach_around(map, block),
+            Some(block) => self.reach_around(map, region, block),
             None => Ok(()),
         }
     }
 
     // Reaches the dust beside a position in each direction.
-    fn reach_around(&mut self, map: &Frozen<'_>, p: Pos) -> Result<(), AllocError>
-        ensures { OnOk result (Reaches 15 self.old self.new
+    fn reach_around<R: Region>(
+        &mut self,
+        map: &Frozen<'_>,
+        region: &R,
+        p: Pos,
+    ) -> Result<(), AllocError>
+        ensures { OnOk result (Reaches (R.holds region.now) 15 self.old self.new
             (each_dir (dust_at (cell_on map.now) p))) }
     {
         for dir in Dir::ALL {
-            self.reach_found(dust_at(map, p, dir), FED)?;
+            self.reach_found(region, dust_at(map, p, dir), FED)?;
         }
         Ok(())
     }
 
     // Reaches what dust at any of these positions links to.
-    fn reach_all_links(
+    fn reach_all_links<R: Region>(
         &mut self,
         map: &Frozen<'_>,
+        region: &R,
         from: &[Pos],
         level: u8,
     ) -> Result<(), AllocError>
         requires some { 0 < level }
         requires most { level ≤ 15 }
-        ensures { OnOk result (Reaches level self.old self.new
+        ensures { OnOk result (Reaches (R.holds region.now) level self.old self.new
             (linked_to (cell_on map.now) from.now)) }
     {
         for p in from {
-            self.reach_links(map, *p, level)?;
+            self.reach_links(map, region, *p, level)?;
         }
         Ok(())
     }
 
-    // Reaches what dust at a position links to.
-    fn reach_links(&mut self, map: &Frozen<'_>, p: Pos, level: u8) -> Result<(), AllocError>
+    /// Reaches what dust at a position links to.
+    pub fn reach_links<R: Region>(
+        &mut self,
+        map: &Frozen<'_>,
+        region: &R,
+        p: Pos,
+        level: u8,
+    ) -> Result<(), AllocError>
         requires some { 0 < level }
         requires most { level ≤ 15 }
-        ensures { OnOk result (Reaches level self.old self.new (links (cell_on map.now) p)) }
+        ensures { OnOk result (Reaches (R.holds region.now) level self.old self.new
+            (links (cell_on map.now) p)) }
     {
         if !map.cell(p).is_dust() {
             return Ok(());
         }
         for side in Side::ALL {
-            self.reach_links_on(map, p, side, level)?;
+            self.reach_links_on(map, region, p, side, level)?;
         }
         Ok(())
     }
 
     // Reaches what dust at a position links to on one side.
-    fn reach_links_on(
+    fn reach_links_on<R: Region>(
         &mut self,
         map: &Frozen<'_>,
+        region: &R,
         p: Pos,
         side: Side,
         level: u8,
     ) -> Result<(), AllocError>
         requires some { 0 < level }
         requires most { level ≤ 15 }
-        ensures { OnOk result (Reaches level self.old self.new
+        ensures { OnOk result (Reaches (R.holds region.now) level self.old self.new
             (links_on (cell_on map.now) p side)) }
     {
-        self.reach_found(dust_at(map, p, side.dir()), level)?;
-        self.reach_found(dust_over(map, p, side), level)?;
-        self.reach_found(dust_under(map, p, side), level)
+        self.reach_found(region, dust_at(map, p, side.dir()), level)?;
+        self.reach_found(region, dust_over(map, p, side), level)?;
+        self.reach_found(region, dust_under(map, p, side), level)
     }
 
-    // Reaches a position, if there is one.
-    fn reach_found(&mut self, found: Option<Pos>, level: u8) -> Result<(), AllocError>
+    /// Reaches a position, if there is one.
+    pub fn reach_found<R: Region>(
+        &mut self,
+        region: &R,
+        found: Option<Pos>,
+        level: u8,
+    ) -> Result<(), AllocError>
         requires some { 0 < level }
         requires most { level ≤ 15 }
-        ensures { OnOk result (Reaches level self.old self.new (option_to_list found)) }
+        ensures { OnOk result (Reaches (R.holds region.now) level self.old self.new
+            (option_to_list found)) }
     {
         match found {
-            Some(p) => self.reach(p, level),
+            Some(p) => self.reach(region, p, level),
             None => Ok(()),
         }
     }
 
-    // Gives a position this level, if it lies in the columns and has none.
-    fn reach(&mut self, p: Pos, level: u8) -> Result<(), AllocError>
+    // Gives a position this level, if the region has it and it has none.
+    fn reach<R: Region>(&mut self, region: &R, p: Pos, level: u8) -> Result<(), AllocError>
         requires some { 0 < level }
         requires most { level ≤ 15 }
-        ensures { OnOk result (Reaches level self.old self.new (p ∷ [])) }
+        ensures { OnOk result (Reaches (R.holds region.now) level self.old self.new (p ∷ [])) }
     {
-        if !self.columns.hold(p) || self.levels.at(p) > 0 {
+        if !region.hold(p) || self.levels.at(p) > 0 {
             return Ok(());
         }
         self.levels.put(p, level)?;
@@ -298,8 +375,23 @@ impl Spread {
         Ok(())
     }
 
-    // The levels as they are.
-    fn into_levels(self) -> Levels
+    /// Adds the positions reached last to a list.
+    pub fn add_reached(&self, found: &mut Vec<Pos>) -> Result<(), AllocError>
+        ensures { OnOk result (found.new.items ≡ found.old.items ++ self.now.reached) }
+    {
+        found.extend_from_slice(self.reached.as_slice())?;
+        Ok(())
+    }
+
+    /// The positions reached last.
+    pub fn into_reached(self) -> Vec<Pos>
+        ensures { result.items ≡ self.reached }
+    {
+        self.reached
+    }
+
+    /// The levels as they are.
+    pub fn into_levels(self) -> Levels
         ensures { result ≡ self.table }
     {
         self.levels

@@ -5,7 +5,7 @@ use Rattle.vx_power.proofs.Reaching.{reaches_as, reaches_nothing, sector_reaches
 use Rattle.vx_power.proofs.spread.Spread.begin.Goals as goal
 
 pub loop-number-init : goal.loop-number-init
-loop-number-init c =
+loop-number-init g c =
     let m = c.args.map.now in
     let none : c.args.first - c.args.first ≡ 0 = omega arith in
     record {
@@ -14,7 +14,7 @@ loop-number-init c =
     }
 
 pub loop-number-preserved : goal.loop-number-preserved
-loop-number-preserved c =
+loop-number-preserved g c =
     let m = c.args.map.now in
     record {
       from = omega (arith, c.loop-number.invariant.from);
@@ -23,7 +23,7 @@ loop-number-preserved c =
     }
 
 pub returns : goal.returns
-returns c =
+returns g c =
     let m = c.args.map.now in
     let order = c.requires.order in
     let all : c.loop-number.number ≡ c.args.end = omega (arith, order) in

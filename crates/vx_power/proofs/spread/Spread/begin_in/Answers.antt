@@ -8,7 +8,7 @@ use Rattle.vx_power.proofs.Reaching.{reaches_nothing}
 use Rattle.vx_power.proofs.spread.Spread.begin_in.Goals as goal
 
 pub returns-then-not-has_devices : goal.returns-then-not-has_devices
-returns-then-not-has_devices c =
+returns-then-not-has_devices g c =
     let found = devices_on c.args.map.now c.args.sector in
     let few = ltb-false 0 (length found) (sym c.if-not-has_devices.ensures) in
     let none = nil_from_length found (omega (arith, few)) in

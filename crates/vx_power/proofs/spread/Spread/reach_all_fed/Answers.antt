@@ -5,15 +5,15 @@ use Rattle.vx_power.proofs.Reaching.{reaches_none, reaches_more, reaches_all, de
 use Rattle.vx_power.proofs.spread.Spread.reach_all_fed.Goals as goal
 
 pub loop-device-init : goal.loop-device-init
-loop-device-init c = reaches_none
+loop-device-init g c = reaches_none
 
 pub loop-device-preserved : goal.loop-device-preserved
-loop-device-preserved c =
+loop-device-preserved g c =
     reaches_more (fed_from (cell_on c.args.map.now)) c.args.devices.now c.loop-device.device-index _
     c.loop-device-test.true (omega arith) c.loop-device.invariant c.in_ok-reach_fed.ensures
 
 pub returns : goal.returns
-returns c =
+returns g c =
     reaches_all (fed_from (cell_on c.args.map.now)) c.args.devices.now c.loop-device.device-index _
     c.loop-device-test.false (devices_give (cell_on c.args.map.now) c.args.devices.now)
     c.loop-device.invariant

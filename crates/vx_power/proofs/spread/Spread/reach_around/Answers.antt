@@ -6,10 +6,10 @@ use Rattle.vx_power.proofs.Reaching.{reaches_none, reaches_more, reaches_as}
 use Rattle.vx_power.proofs.spread.Spread.reach_around.Goals as goal
 
 pub loop-dir-init : goal.loop-dir-init
-loop-dir-init c = reaches_none
+loop-dir-init g c = reaches_none
 
 pub loop-dir-preserved : goal.loop-dir-preserved
-loop-dir-preserved c =
+loop-dir-preserved g c =
     reaches_more (dust_at (cell_on c.args.map.now) c.args.p) all_dirs c.loop-dir.dir-index _
     c.loop-dir-test.true (omega arith) c.loop-dir.invariant
     (reaches_as c.dust_at.ensures c.in_ok-reach_found.ensures)

@@ -6,6 +6,6 @@ use Rattle.vx_power.proofs.spread.Spread.reach_around.Given as goal
 
 -- the dust in the directions so far is reached
 abbrev pub invariant-loop-dir : goal.invariant-loop-dir
-invariant-loop-dir l =
-    Reaches 15 l.initial.self l.self
+invariant-loop-dir g l =
+    Reaches (g.R.Region.holds l.region) 15 l.initial.self l.self
     (flat_map (dust_at (cell_on l.map) l.fn.p) (take l.dir-index l.dir-items))

@@ -9,7 +9,7 @@ use Rattle.vx_power.proofs.Reaching.{reaches_nothing}
 use Rattle.vx_power.proofs.spread.Spread.reach_driven.Goals as goal
 
 pub returns-in-None : goal.returns-in-None
-returns-in-None c =
+returns-in-None g c =
     let at = neighbor c.args.p c.args.dir in
     let none = false_from_ne_true
     (drives c.args.cell.now c.args.dir && conducts (cell_on c.args.map.now at)) c.in-None.ensures in

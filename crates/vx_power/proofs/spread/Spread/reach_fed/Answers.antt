@@ -6,16 +6,16 @@ use Rattle.vx_power.proofs.Reaching.{reaches_none, reaches_more, reaches_all, al
 use Rattle.vx_power.proofs.spread.Spread.reach_fed.Goals as goal
 
 pub loop-dir-init : goal.loop-dir-init
-loop-dir-init c = reaches_none
+loop-dir-init g c = reaches_none
 
 pub loop-dir-preserved : goal.loop-dir-preserved
-loop-dir-preserved c =
+loop-dir-preserved g c =
     reaches_more (fed_towards (cell_on c.args.map.now) c.args.device) all_dirs c.loop-dir.dir-index _
     c.loop-dir-test.true (omega arith) c.loop-dir.invariant c.in_ok-reach_towards.ensures
 
 pub returns : goal.returns
 unfolding fed_from
-returns c =
+returns g c =
     reaches_all (fed_towards (cell_on c.args.map.now) c.args.device) all_dirs c.loop-dir.dir-index _
     c.loop-dir-test.false (all_dirs_give (fed_towards (cell_on c.args.map.now) c.args.device))
     c.loop-dir.invariant

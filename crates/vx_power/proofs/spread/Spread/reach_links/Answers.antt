@@ -7,20 +7,20 @@ use Rattle.vx_power.proofs.Reaching.{reaches_none, reaches_nothing, reaches_more
 use Rattle.vx_power.proofs.spread.Spread.reach_links.Goals as goal
 
 pub returns-then-not-is_dust : goal.returns-then-not-is_dust
-returns-then-not-is_dust c =
+returns-then-not-is_dust g c =
     let none : is_dust (cell_on c.args.map.now c.args.p) ≡ false = cc in
     reaches_nothing (no_links (cell_on c.args.map.now) c.args.p none)
 
 pub loop-side-init : goal.loop-side-init
-loop-side-init c = reaches_none
+loop-side-init g c = reaches_none
 
 pub loop-side-preserved : goal.loop-side-preserved
-loop-side-preserved c =
+loop-side-preserved g c =
     reaches_more (links_on (cell_on c.args.map.now) c.args.p) all_sides c.loop-side.side-index _
     c.loop-side-test.true c.requires.some c.loop-side.invariant c.in_ok-reach_links_on.ensures
 
 pub returns : goal.returns
-returns c =
+returns g c =
     let dust : is_dust (cell_on c.args.map.now c.args.p) ≡ true = cc in
     reaches_all (links_on (cell_on c.args.map.now) c.args.p) all_sides c.loop-side.side-index _
     c.loop-side-test.false (all_sides_give (cell_on c.args.map.now) c.args.p dust) c.loop-side.invariant

@@ -7,6 +7,6 @@ use Rattle.vx_power.proofs.spread.Spread.reach_links.Given as goal
 
 -- what is linked to on the sides so far is reached
 abbrev pub invariant-loop-side : goal.invariant-loop-side
-invariant-loop-side l =
-    Reaches l.fn.level l.initial.self l.self
+invariant-loop-side g l =
+    Reaches (g.R.Region.holds l.region) l.fn.level l.initial.self l.self
     (flat_map (links_on (cell_on l.map) l.fn.p) (take l.side-index l.side-items))

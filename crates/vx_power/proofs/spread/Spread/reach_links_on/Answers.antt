@@ -8,7 +8,7 @@ use Rattle.vx_power.proofs.spread.Spread.reach_links_on.Goals as goal
 
 pub returns : goal.returns
 unfolding links_on
-returns c = on_ok_weaker c.reach_found-3.result
+returns g c = on_ok_weaker c.reach_found-3.result
     (λ third. reaches_on c.requires.some
     (reaches_as (c.dust_at.ensures ∙ ap (dust_at (cell_on c.args.map.now) c.args.p) c.dir.ensures
     ∙ first_links (cell_on c.args.map.now) c.args.p c.args.side) c.in_ok-reach_found.ensures)

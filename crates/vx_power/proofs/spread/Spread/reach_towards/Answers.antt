@@ -10,7 +10,7 @@ use Rattle.vx_power.proofs.spread.Spread.reach_towards.Goals as goal
 
 pub returns : goal.returns
 unfolding fed_towards
-returns c =
+returns g c =
     let w = cell_on c.args.map.now in
     let d = c.args.dir in
     let next = neighbor c.args.device d in

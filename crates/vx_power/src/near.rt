@@ -1,0 +1,42 @@
+ghost use Rattle.std.specs.Prelude.{◌≡◌, IfOk};
+ghost use Rattle.vx_cells.specs.Maps.{cell_on};
+ghost use Rattle.vx_geom.specs.declared.pos.Pos.{Pos};
+ghost use Rattle.vx_power.specs.Levels.{has, is_in};
+ghost use Rattle.vx_power.specs.Nearness.{is_near, is_near_in};
+
+use crate::columns::Columns;
+use crate::spread::{MOST_LINKS, Spread};
+use std::alloc::{AllocError, Global};
+use vx_cells::Frozen;
+use vx_geom::Pos;
+
+/// The dust from which at most fourteen links lead to dust at one of these positions. Each is found
+/// once. It costs what is found.
+pub fn dust_near(alloc: Global, map: &Frozen<'_>, places: &[Pos]) -> Result<Vec<Pos>, AllocError>
+    ensures { IfOk result (λ found. (p : Pos)
+        → has found.items p ≡ is_near (cell_on map.now) (has places.now) p) }
+{
+    map.soundness();
+    dust_near_in(alloc, map, Columns::EVERYWHERE, places)
+}
+
+// The same by links that stay in some columns.
+fn dust_near_in(
+    alloc: Global,
+    map: &Frozen<'_>,
+    columns: Columns,
+    places: &[Pos],
+) -> Result<Vec<Pos>, AllocError>
+    ensures { IfOk result (λ found. (p : Pos)
+        → has found.items p ≡ is_near_in (cell_on map.now) (is_in columns) (has places.now) p) }
+{
+    let mut spread = Spread::new(alloc);
+    let mut found = Vec::new(alloc);
+    spread.reach_dust(map, &columns, places)?;
+    spread.add_reached(&mut found)?;
+    for links in 0..MOST_LINKS {
+        spread.go_on(alloc, map, &columns, MOST_LINKS - links)?;
+        spread.add_reached(&mut found)?;
+    }
+    Ok(found)
+}

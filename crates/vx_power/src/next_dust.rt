@@ -1,0 +1,92 @@
+//! Where dust lies that dust links to or a device feeds.
+ghost use Rattle.std.specs.Prelude.{◌≡◌, ◌&&◌, true, [], ◌∷◌, if◌then◌else◌, SomeIff};
+ghost use Rattle.std.specs.Option.{option_to_list};
+ghost use Rattle.vx_block.specs.Components.{is_dust};
+ghost use Rattle.vx_block.specs.Conductors.{conducts};
+ghost use Rattle.vx_cells.specs.Maps.{cell_on};
+ghost use Rattle.vx_geom.specs.Neighbor.{neighbor};
+ghost use Rattle.vx_power.specs.Dust.{beside, over, under, links_up, links_down};
+ghost use Rattle.vx_power.specs.Signals.{gives, drives, is_fed};
+ghost use Rattle.vx_power.specs.Spreading.{dust_at};
+
+use crate::dust::{links_down, links_up};
+use crate::signals::{drives, gives, is_fed};
+use vx_block::{Cell, Side};
+use vx_cells::Frozen;
+use vx_geom::{Dir, Pos};
+
+/// The dust at a position.
+pub fn dust_here(map: &Frozen<'_>, p: Pos) -> Option<Pos>
+    ensures { option_to_list result ≡ (if is_dust (cell_on map.now p) then p ∷ [] else []) }
+{
+    if map.cell(p).is_dust() { Some(p) } else { None }
+}
+
+/// The dust at a position, if it is fed.
+pub fn fed_here(map: &Frozen<'_>, p: Pos) -> Option<Pos>
+    ensures { option_to_list result ≡ (if is_fed (cell_on map.now) p then p ∷ [] else []) }
+{
+    if is_fed(map, p) { Some(p) } else { None }
+}
+
+/// The dust at the next position in that direction.
+#[tactic(auto, unfolding(crate::specs::Spreading::dust_at))]
+pub fn dust_at(map: &Frozen<'_>, p: Pos, dir: Dir) -> Option<Pos>
+    ensures { option_to_list result ≡ dust_at (cell_on map.now) p dir }
+{
+    match map.next(p, dir) {
+        Some(next) if map.cell(next).is_dust() => Some(next),
+        _ => None,
+    }
+}
+
+/// The dust to which dust at a position climbs on that side.
+pub fn dust_over(map: &Frozen<'_>, p: Pos, side: Side) -> Option<Pos>
+    ensures { option_to_list result
+        ≡ (if links_up (cell_on map.now) p side then over (beside p side) ∷ [] else []) }
+{
+    map.soundness();
+    if !links_up(map, p, side) {
+        return None;
+    }
+    p.step(side.dir())?.step(Dir::Up)
+}
+
+/// The dust to which dust at a position runs down on that side.
+pub fn dust_under(map: &Frozen<'_>, p: Pos, side: Side) -> Option<Pos>
+    ensures { option_to_list result
+        ≡ (if links_down (cell_on map.now) p side then under (beside p side) ∷ [] else []) }
+{
+    map.soundness();
+    if !links_down(map, p, side) {
+        return None;
+    }
+    p.step(side.dir())?.step(Dir::Down)
+}
+
+/// The dust in that direction to which a cell at a position gives power.
+pub fn dust_given(map: &Frozen<'_>, cell: &Cell, p: Pos, dir: Dir) -> Option<Pos>
+    ensures { option_to_list result
+        ≡ (if gives cell.now dir then dust_at (cell_on map.now) p dir else []) }
+{
+    if gives(*cell, dir) {
+        dust_at(map, p, dir)
+    } else {
+        None
+    }
+}
+
+/// The conductor in that direction that a cell at a position drives.
+pub fn driven(map: &Frozen<'_>, cell: &Cell, p: Pos, dir: Dir) -> Option<Pos>
+    ensures { SomeIff result
+        ((drives cell.now dir && conducts (cell_on map.now (neighbor p dir))) ≡ true)
+        (neighbor p dir) }
+{
+    if !drives(*cell, dir) {
+        return None;
+    }
+    match map.next(p, dir) {
+        Some(next) if map.cell(next).conducts() => Some(next),
+        _ => None,
+    }
+}

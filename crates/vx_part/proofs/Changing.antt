@@ -11,7 +11,7 @@ use Rattle.vx_part.specs.Parts.{next_of, next_part}
 
 module _ (w : Pos → Cell) (level : Pos → ℕ) where
   -- what is no component stays
-  stays : (p : Pos) (c : Cell) → is_component c ≡ false → next_of w level p c ≡ c
+  pub stays : (p : Pos) (c : Cell) → is_component c ≡ false → next_of w level p c ≡ c
   unfolding next_of
   stays p cell.Air is = refl
   stays p cell.Stone is = refl
@@ -29,21 +29,28 @@ module _ (w : Pos → Cell) (level : Pos → ℕ) where
   stays p (cell.Repeater r) is = cc
   stays p (cell.Lamp lamp) is = cc
 
-  no_change : (p : Pos) → is_component (w p) ≡ false → change_at w level p ≡ None
+  -- nothing changes where the next part is the one that is there
+  pub no_change : (p : Pos) → next_part w level p ≡ w p → change_at w level p ≡ None
   unfolding change_at
-  no_change p is =
+  no_change p still =
       ap (λ b. if b then None else Some (next_part w level p))
-      ((cell_decided (next_part w level p) (w p)).1 (stays p (w p) is))
+      ((cell_decided (next_part w level p) (w p)).1 still)
 
-  -- one more position before others, component or not
-  more : (p : Pos) (ps : List Pos) (b : Bool) → is_component (w p) ≡ b
-      → changes w level (filter (λ p. is_component (w p)) ps) ≡ changes w level ps
-      → changes w level (filter (λ p. is_component (w p)) (p ∷ ps)) ≡ changes w level (p ∷ ps)
-  more p ps true is rest = rw is (ap (before p (change_at w level p)) rest)
-  more p ps false is rest = rw is (rest ∙ sym (ap (λ c. before p c (changes w level ps)) (no_change p is)))
+  module _ (keep : Pos → Bool) (rest : (p : Pos) → keep p ≡ false → next_part w level p ≡ w p) where
+    -- one more position before others, kept or not
+    more : (p : Pos) (ps : List Pos) (b : Bool) → keep p ≡ b
+        → changes w level (filter keep ps) ≡ changes w level ps
+        → changes w level (filter keep (p ∷ ps)) ≡ changes w level (p ∷ ps)
+    more p ps true is others = rw is (ap (before p (change_at w level p)) others)
+    more p ps false is others =
+        rw is (others ∙ sym (ap (λ c. before p c (changes w level ps)) (no_change p (rest p is))))
 
-  -- so others than components may be left out
+    -- positions where nothing changes may be left out
+    pub kept_change : (ps : List Pos) → changes w level (filter keep ps) ≡ changes w level ps
+    kept_change [] = refl
+    kept_change (p ∷ ps) = more p ps (keep p) refl (kept_change ps)
+
+  -- so others than components may be
   pub components_change : (ps : List Pos)
       → changes w level (filter (λ p. is_component (w p)) ps) ≡ changes w level ps
-  components_change [] = refl
-  components_change (p ∷ ps) = more p ps (is_component (w p)) refl (components_change ps)
+  components_change = kept_change (λ p. is_component (w p)) (λ p is. stays p (w p) is)

@@ -13,7 +13,7 @@ use Rattle.vx_cells.specs.SameCells.{same_cell}
 use Rattle.vx_power.specs.Laws.{dust_level}
 use Rattle.vx_power.specs.Levels.{is_in, columns_around, AreLevels}
 use Rattle.vx_power.proofs.Around.{itself, step_off, wider, in_columns}
-use Rattle.vx_power.proofs.Local.{Near, near_from}
+use Rattle.vx_power.proofs.Local.{Near, shows_from}
 use Rattle.vx_part.specs.Changes.{change_at, before, changes}
 use Rattle.vx_part.specs.Parts.{next_part}
 use Rattle.vx_part.proofs.Reading.{part_same}
@@ -46,7 +46,7 @@ module _ (m : MapData) (k : ℕ) (level : Pos → ℕ) (levels : AreLevels m k l
       → next_part (cell_on m) level p ≡ next_part (cell_on m) (dust_level (cell_on m)) p
   same_part p lies =
       part_same (cell_on m) (cell_on m) level (dust_level (cell_on m)) p
-      (near_from (cell_on m) (cell_on m) 4 p (λ q among. refl)) (right 2 0 p (omega arith) lies)
+      (shows_from (cell_on m) (cell_on m) 4 p (λ q among. refl)) (right 2 0 p (omega arith) lies) refl
 
   same_change : (p : Pos) → is_in (columns_around m.sizes k 0) p ≡ true
       → change_at (cell_on m) level p ≡ change_at (cell_on m) (dust_level (cell_on m)) p

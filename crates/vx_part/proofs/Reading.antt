@@ -8,14 +8,23 @@ use Rattle.vx_block.specs.declared.cell.Cell.TheVariants as cell
 use Rattle.vx_block.specs.Repeating.{Repeating}
 use Rattle.vx_block.specs.Sides.{side_back, side_right}
 use Rattle.vx_block.specs.States.{mount_dir, side_dir}
-use Rattle.vx_power.proofs.Local.{Near, near_from, here, is_powered_same, activates_same, is_active_same}
-use Rattle.vx_part.specs.Laws.{PartsRead}
+use Rattle.vx_power.specs.Local.{shown}
+use Rattle.vx_power.proofs.Local.{Near, Shows, near_from, shows, shows_from, here, is_powered_same, activates_same, is_active_same}
+use Rattle.vx_power.proofs.Showing.{same_told}
+use Rattle.vx_part.specs.Laws.{PartsRead, PartsReadShown}
 use Rattle.vx_part.specs.Parts.{next_lamp, is_on_towards, locks_from, is_locked, counted, next_repeater, next_of, next_part}
 
-module _ (w v : Pos → Cell) (a b : Pos → ℕ) (p : Pos) (cells : Near 4 p w v) (levels : Near 2 p a b) where
+-- a repeater that is on is so whatever it counts
+same_lock : (side : Side) (c d : Cell) → shown c ≡ shown d → is_on_towards side c ≡ is_on_towards side d
+same_lock side = same_told (is_on_towards side) (λ level. refl) (λ state. refl) (λ r. refl)
+
+module _ (w v : Pos → Cell) (a b : Pos → ℕ) (p : Pos) (cells : Shows 4 p w v) (levels : Near 2 p a b) where
   locks_same : (s : Side) → locks_from w p s ≡ locks_from v p s
   unfolding locks_from
-  locks_same s = λ i. is_on_towards (side_back s) (here w v 3 (neighbor p (side_dir s)) (cells.1 (side_dir s)) i)
+  locks_same s =
+      let q = neighbor p (side_dir s) in
+      same_lock (side_back s) (w q) (v q)
+      (here (λ r. shown (w r)) (λ r. shown (v r)) 3 q (cells.1 (side_dir s)))
 
   locked_same : (facing : Side) → is_locked w p facing ≡ is_locked v p facing
   unfolding is_locked
@@ -47,9 +56,15 @@ module _ (w v : Pos → Cell) (a b : Pos → ℕ) (p : Pos) (cells : Near 4 p w 
   next_same (cell.Piston facing sticky extended) = refl
   next_same (cell.Head facing sticky) = refl
 
-  -- near cells and levels that are alike have one next part
-  pub part_same : next_part w a p ≡ next_part v b p
-  part_same = ap (next_of w a p) (here w v 4 p cells) ∙ next_same (v p)
+  -- one cell among cells that show alike, with levels that are alike, has one next part
+  pub part_same : w p ≡ v p → next_part w a p ≡ next_part v b p
+  part_same own = ap (next_of w a p) own ∙ next_same (v p)
+
+pub parts_read_shown : PartsReadShown
+parts_read_shown w v a b p cells own levels =
+    part_same w v a b p (shows_from w v 4 p cells) (near_from a b 2 p levels) own
 
 pub parts_read : PartsRead
-parts_read w v a b p cells levels = part_same w v a b p (near_from w v 4 p cells) (near_from a b 2 p levels)
+parts_read w v a b p cells levels =
+    let near = near_from w v 4 p cells in
+    part_same w v a b p (shows w v 4 p near) (near_from a b 2 p levels) (here w v 4 p near)

@@ -5,9 +5,10 @@ use Rattle.vx_block.specs.declared.cell.Cell.{Cell}
 use Rattle.vx_block.specs.declared.cell.Cell.TheVariants as cell
 use Rattle.vx_block.specs.declared.mount.Mount.{Mount}
 use Rattle.vx_block.specs.declared.lamp.Lamp.TheVariants as lamp
+use Rattle.vx_block.specs.Components.{is_component}
 use Rattle.vx_block.specs.Repeating.{Repeating}
 use Rattle.vx_block.specs.States.{mount_dir, ticks_of}
-use Rattle.vx_power.specs.Local.{within_steps, sees, AreAlike}
+use Rattle.vx_power.specs.Local.{within_steps, sees, AreAlike, ShowAlike}
 use Rattle.vx_power.specs.Signals.{is_powered}
 use Rattle.vx_part.specs.Parts.{is_locked, counted, next_lamp, next_part}
 
@@ -57,3 +58,14 @@ reads p = within_steps 4 p
 abbrev pub PartsRead : Type 0
 PartsRead = (w v : Pos → Cell) (a b : Pos → ℕ) (p : Pos)
     → AreAlike (reads p) w v → AreAlike (sees p) a b → next_part w a p ≡ next_part v b p
+
+-- of the other cells it is decided by what they show alone
+abbrev pub PartsReadShown : Type 0
+PartsReadShown = (w v : Pos → Cell) (a b : Pos → ℕ) (p : Pos)
+    → ShowAlike (reads p) w v → w p ≡ v p → AreAlike (sees p) a b
+    → next_part w a p ≡ next_part v b p
+
+-- what is no component stays
+abbrev pub OthersStay : Type 0
+OthersStay = (w : Pos → Cell) (level : Pos → ℕ) (p : Pos)
+    → is_component (w p) ≡ false → next_part w level p ≡ w p

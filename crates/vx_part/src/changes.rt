@@ -35,8 +35,9 @@ pub fn next_parts<L: Leveled>(
     changes_among(alloc, map, levels, components.as_slice())
 }
 
-// The cells at these positions that are others after the tick.
-fn changes_among<L: Leveled>(
+/// The cells at these positions that are others after the tick, pistons left out, each beside its
+/// position, in their order.
+pub fn changes_among<L: Leveled>(
     alloc: Global,
     map: &Frozen<'_>,
     levels: &L,

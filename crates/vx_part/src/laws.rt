@@ -1,4 +1,4 @@
-ghost use Rattle.vx_part.specs.Laws.{DustKeepsItsLevel, TorchesInvert, LockedRepeatersStay, RepeatersDelay, LampsGoOutLate, PartsRead};
+ghost use Rattle.vx_part.specs.Laws.{DustKeepsItsLevel, TorchesInvert, LockedRepeatersStay, RepeatersDelay, LampsGoOutLate, PartsRead, PartsReadShown, OthersStay};
 
 /// Dust keeps its level, and a torch inverts the power of its block, a tick later.
 pub fn dust_keeps_torches_invert()
@@ -22,4 +22,14 @@ pub fn lamps_go_out_late()
 /// levels that two steps lead to.
 pub fn parts_read_four_steps()
     ensures { PartsRead }
+{}
+
+/// Of the other cells that four steps lead to, it is decided by what they show alone.
+pub fn parts_read_what_is_shown()
+    ensures { PartsReadShown }
+{}
+
+/// What is no component of machines stays as it is.
+pub fn other_cells_stay()
+    ensures { OthersStay }
 {}

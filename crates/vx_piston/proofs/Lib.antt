@@ -5,6 +5,7 @@ pub mod Firsts
 pub mod Lines
 pub mod MoveLaws
 pub mod Pushes
+pub mod Restless
 pub mod Rivals
 pub mod Rows
 pub mod Wanted

@@ -1,14 +1,16 @@
 -- What holds of whatever a piston would move.
-use Rattle.std.specs.Prelude.{◌≡◌, ℕ, zero, suc, ◌≤◌, true, List, [], ◌∷◌, ◌++◌, ◌⊎◌, length, slice_get, Some}
+use Rattle.std.specs.Prelude.{◌≡◌, ℕ, zero, suc, ◌≤◌, true, false, List, [], ◌∷◌, ◌++◌, ◌⊎◌, length, slice_get, Some, None}
 use Rattle.vx_geom.specs.declared.dir.Dir.{Dir}
 use Rattle.vx_geom.specs.declared.pos.Pos.{Pos}
 use Rattle.vx_geom.specs.Neighbor.{neighbor}
 use Rattle.vx_geom.specs.Sizes.{is_inside}
+use Rattle.vx_block.specs.declared.cell.Cell.{Cell}
 use Rattle.vx_block.specs.declared.mobility.Mobility.TheVariants.{Empty, Moves, Breaks}
 use Rattle.vx_block.specs.Mobilities.{mobility_of}
 use Rattle.vx_cells.specs.Maps.{MapData, cell_on}
+use Rattle.vx_power.specs.Local.{within_steps, AreAlike, ShowAlike}
 use Rattle.vx_power.specs.Walks.{IsAmong}
-use Rattle.vx_piston.specs.Moves.{Moving, most_cells, most_pushed, candidate}
+use Rattle.vx_piston.specs.Moves.{Moving, most_cells, most_pushed, candidate, is_restless}
 
 -- the position so many steps from p in that direction
 abbrev pub steps : Dir → ℕ → Pos → Pos
@@ -53,3 +55,15 @@ LiesInLine m p move = (n : ℕ) (q : Pos) → slice_get move.cells n ≡ Some q
 abbrev pub TakesEachOnce : MapData → Pos → Moving → Type 0
 TakesEachOnce m p move = (i j : ℕ) (q : Pos)
     → slice_get move.cells i ≡ Some q → slice_get move.cells j ≡ Some q → i ≡ j
+
+-- whether a piston is restless is decided by its own cell, by what the cells that four steps lead
+-- to show, and by the levels that two lead to
+abbrev pub RestlessReads : Type 0
+RestlessReads = (w v : Pos → Cell) (a b : Pos → ℕ) (p : Pos)
+    → ShowAlike (within_steps 4 p) w v → w p ≡ v p → AreAlike (within_steps 2 p) a b
+    → is_restless w a p ≡ is_restless v b p
+
+-- no other piston moves
+abbrev pub OthersStay : Type 0
+OthersStay = (m : MapData) (level : Pos → ℕ) (p : Pos)
+    → is_restless (cell_on m) level p ≡ false → candidate m level p ≡ None

@@ -1,5 +1,5 @@
 -- What a piston would move.
-use Rattle.std.specs.Prelude.{ℕ, zero, suc, ◌+◌, Bool, true, false, List, [], ◌∷◌, ◌++◌, if◌then◌else◌, Option, Some, None, option_map}
+use Rattle.std.specs.Prelude.{ℕ, zero, suc, ◌+◌, Bool, true, false, not, List, [], ◌∷◌, ◌++◌, if◌then◌else◌, Option, Some, None, option_map}
 use Rattle.vx_geom.specs.declared.dir.Dir.{Dir}
 use Rattle.vx_geom.specs.declared.pos.Pos.{Pos}
 use Rattle.vx_geom.specs.Neighbor.{neighbor}
@@ -87,3 +87,12 @@ move_of m level p _ = None
 -- the move of what stands at p, if it is a piston that would make one
 unfoldable pub candidate : MapData → (Pos → ℕ) → Pos → Option Moving
 candidate m level p = move_of m level p (cell_on m p)
+
+-- a piston would move, if what stands before it lets it: it is in and active, or out and not
+abbrev pub restless_as : (Pos → Cell) → (Pos → ℕ) → Pos → Cell → Bool
+restless_as w level p (Piston d sticky false) = is_active w level (Some d) p
+restless_as w level p (Piston d sticky true) = not (is_active w level (Some d) p)
+restless_as w level p _ = false
+
+unfoldable pub is_restless : (Pos → Cell) → (Pos → ℕ) → Pos → Bool
+is_restless w level p = restless_as w level p (w p)

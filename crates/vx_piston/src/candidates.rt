@@ -4,7 +4,7 @@ ghost use Rattle.std.specs.Prelude.{◌≡◌, ◌+◌, true, ◌∷◌, ◌++�
 ghost use Rattle.vx_cells.specs.Maps.{cell_on};
 ghost use Rattle.vx_geom.specs.Neighbor.{neighbor};
 ghost use Rattle.vx_geom.specs.Sizes.{is_inside};
-ghost use Rattle.vx_piston.specs.Moves.{most_pushed, row, if_inside, pulled, pushing, drawing, candidate};
+ghost use Rattle.vx_piston.specs.Moves.{most_pushed, row, if_inside, pulled, pushing, drawing, candidate, is_restless};
 
 use crate::moves::{MAX_CELLS, Move};
 use arrayvec::ArrayVec;
@@ -33,6 +33,21 @@ pub fn candidate<L: Leveled>(map: &Frozen<'_>, levels: &L, p: Pos) -> Option<Mov
         (false, true) => pushing(map, facing, p),
         (true, false) => Some(drawing(map, facing, sticky, p)),
         _ => None,
+    }
+}
+
+/// Whether the piston at a position would move, if what stands before it let it. It takes no memory.
+#[tactic(auto, unfolding(crate::specs::Moves::is_restless))]
+pub fn is_restless<L: Leveled>(map: &Frozen<'_>, levels: &L, p: Pos) -> bool
+    ensures { result ≡ is_restless (cell_on map.now) (L.level levels.now) p }
+{
+    match map.cell(p) {
+        Cell::Piston {
+            facing,
+            extended,
+            ..
+        } => extended != active(map, levels, p, Some(facing)),
+        _ => false,
     }
 }
 

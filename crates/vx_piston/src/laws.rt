@@ -1,4 +1,4 @@
-ghost use Rattle.vx_piston.specs.Laws.{OfCandidates, BeginsWithPiston, TakesFewCells, PushesFewCells, StaysInside, LiesInLine, TakesEachOnce};
+ghost use Rattle.vx_piston.specs.Laws.{OfCandidates, BeginsWithPiston, TakesFewCells, PushesFewCells, StaysInside, LiesInLine, TakesEachOnce, RestlessReads, OthersStay};
 
 /// What a piston would move begins with the cell of the piston itself.
 pub fn moves_begin_with_pistons()
@@ -21,4 +21,10 @@ pub fn moves_stay_inside()
 pub fn moves_are_lines()
     ensures steps { OfCandidates LiesInLine }
     ensures once { OfCandidates TakesEachOnce }
+{}
+
+/// Whether a piston is restless is decided within four steps of it, and no other piston moves.
+pub fn restless_pistons_move()
+    ensures reads { RestlessReads }
+    ensures others { OthersStay }
 {}

@@ -8,9 +8,12 @@ mod claiming;
 mod laws;
 mod moves;
 
-pub use candidates::candidate;
+pub use candidates::{candidate, is_restless};
 pub use claim_laws::unbeaten_moves_share_no_cell;
 pub use claim_table::Claims;
 pub use claiming::claims;
-pub use laws::{moves_are_lines, moves_are_short, moves_begin_with_pistons, moves_stay_inside};
+pub use laws::{
+    moves_are_lines, moves_are_short, moves_begin_with_pistons, moves_stay_inside,
+    restless_pistons_move,
+};
 pub use moves::{MAX_CELLS, Move};

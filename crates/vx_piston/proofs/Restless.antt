@@ -1,0 +1,39 @@
+-- Which pistons are restless: how far that reads, and that no other moves.
+use Rattle.std.proofs.Common.{◌≡◌, ℕ, Bool, true, false, not, Some, None, if◌then◌else◌, refl, sym, ap, ◌∙◌}
+use Rattle.vx_block.specs.declared.cell.Cell.{Cell}
+use Rattle.vx_block.specs.declared.cell.Cell.TheVariants.{Piston}
+use Rattle.vx_cells.specs.Maps.{MapData, cell_on}
+use Rattle.vx_geom.specs.declared.pos.Pos.{Pos}
+use Rattle.vx_power.specs.Local.{within_steps, AreAlike, ShowAlike}
+use Rattle.vx_power.specs.Signals.{is_active}
+use Rattle.vx_power.proofs.Local.{activity_sees_shown}
+use Rattle.vx_piston.specs.Laws.{RestlessReads, OthersStay}
+use Rattle.vx_piston.specs.Moves.{pushing, drawing, move_of, candidate, restless_as, is_restless}
+
+module _ (w v : Pos → Cell) (a b : Pos → ℕ) (p : Pos)
+    (cells : ShowAlike (within_steps 4 p) w v) (levels : AreAlike (within_steps 2 p) a b) where
+  reads_as : (c : Cell) → restless_as w a p c ≡ restless_as v b p c
+  reads_as (Piston d sticky false) = activity_sees_shown w v a b (Some d) p cells levels
+  reads_as (Piston d sticky true) = ap not (activity_sees_shown w v a b (Some d) p cells levels)
+  reads_as _ = refl
+
+pub restless_reads : RestlessReads
+unfolding is_restless
+restless_reads w v a b p cells own levels =
+    ap (restless_as w a p) own ∙ reads_as w v a b p cells levels (v p)
+
+stays : (b : Bool) → not b ≡ false → b ≡ true
+stays true is = refl
+stays false is = sym is
+
+module _ (m : MapData) (level : Pos → ℕ) (p : Pos) where
+  unmoved : (c : Cell) → restless_as (cell_on m) level p c ≡ false → move_of m level p c ≡ None
+  unmoved (Piston d sticky false) is = ap (λ b. if b then pushing m d p else None) is
+  unmoved (Piston d sticky true) is =
+      ap (λ b. if b then None else Some (drawing m d sticky p))
+      (stays (is_active (cell_on m) level (Some d) p) is)
+  unmoved _ is = refl
+
+pub others_stay : OthersStay
+unfolding is_restless candidate
+others_stay m level p is = unmoved m level p (cell_on m p) is

@@ -1,0 +1,95 @@
+//! The places of a map at which a tick has to look.
+ghost use Rattle.std.specs.Prelude.{◌≡◌, ◌≤◌, ◌&&◌, ◌||◌, ◌++◌, true, IfOk, OnOk};
+ghost use Rattle.std.specs.List.{list_any};
+ghost use Rattle.vx_cells.specs.Maps.{cell_on};
+ghost use Rattle.vx_geom.specs.declared.pos.Pos.{Pos};
+ghost use Rattle.vx_geom.specs.Sizes.{is_inside};
+ghost use Rattle.vx_places.specs.Around.{is_around};
+ghost use Rattle.vx_places.specs.Places.{is_at};
+ghost use Rattle.vx_power.specs.Levels.{has};
+ghost use Rattle.vx_wake.specs.Laws.{with_changed};
+ghost use Rattle.vx_wake.specs.Waking.{IsSettled, RestsBut, is_woken};
+
+use crate::waking::Waking;
+use std::alloc::{AllocError, Global};
+use vx_cells::Frozen;
+use vx_geom::{Bounds, Pos};
+use vx_places::Places;
+use vx_power::dust_near;
+
+// A part reads cells that at most so many steps lead to.
+const CELLS_OFF: u8 = 4;
+
+// It reads levels that at most so many lead to, and so far dust sees cells.
+const LEVELS_OFF: u8 = 2;
+
+/// The places of a map outside which all rests, where it rests but for what is told, and but for
+/// what was written since. It costs what was changed and what that wakes.
+pub fn unsettled(
+    alloc: Global,
+    map: &Frozen<'_>,
+    waking: &Waking,
+    written: &[Pos],
+) -> Result<Places, AllocError>
+    requires { RestsBut map.now (with_changed waking.now written.now) }
+    ensures sizes { IfOk result (λ places. places.sizes ≡ map.now.sizes) }
+    ensures settled { IfOk result (λ places. IsSettled map.now (is_at places)) }
+{
+    let changed = joined(alloc, &waking.changed, written)?;
+    let mut places = woken(alloc, map, changed.as_slice())?;
+    places.mark_all(alloc, waking.besides.as_slice())?;
+    Ok(places)
+}
+
+// The first of these positions, and then the others.
+fn joined(alloc: Global, first: &[Pos], others: &[Pos]) -> Result<Vec<Pos>, AllocError>
+    ensures { IfOk result (λ all. all.items ≡ first.now ++ others.now) }
+{
+    let mut all = Vec::from_slice(alloc, first)?;
+    all.extend_from_slice(others)?;
+    Ok(all)
+}
+
+// The places that changes at these positions wake.
+fn woken(alloc: Global, map: &Frozen<'_>, changed: &[Pos]) -> Result<Places, AllocError>
+    ensures sizes { IfOk result (λ places. places.sizes ≡ map.now.sizes) }
+    ensures woken { IfOk result (λ places. (p : Pos) → is_inside map.now.sizes p ≡ true
+        → is_woken (cell_on map.now) (has changed.now) p ≡ true → is_at places p ≡ true) }
+{
+    map.soundness();
+    let seen = in_sight(alloc, map.bounds(), changed)?;
+    let near = dust_near(alloc, map, seen.as_slice())?;
+    let mut places = Places::new(alloc, map.bounds())?;
+    mark_around_all(alloc, &mut places, changed, CELLS_OFF)?;
+    mark_around_all(alloc, &mut places, near.as_slice(), LEVELS_OFF)?;
+    Ok(places)
+}
+
+// The positions of the world at which dust sees one of these.
+fn in_sight(alloc: Global, bounds: Bounds, changed: &[Pos]) -> Result<Vec<Pos>, AllocError>
+    ensures { IfOk result (λ seen. (p : Pos) → has seen.items p
+        ≡ (is_inside bounds p && list_any (λ c. is_around c 2 p) changed.now)) }
+{
+    let mut places = Places::new(alloc, bounds)?;
+    mark_around_all(alloc, &mut places, changed, LEVELS_OFF)?;
+    places.all(alloc)
+}
+
+// Adds each position of the world to which at most so many steps lead from one of these.
+fn mark_around_all(
+    alloc: Global,
+    places: &mut Places,
+    centers: &[Pos],
+    steps: u8,
+) -> Result<(), AllocError>
+    requires { steps ≤ 8 }
+    ensures sizes { places.new.sizes ≡ places.old.sizes }
+    ensures marked { OnOk result ((p : Pos) → is_at places.new p
+        ≡ (is_at places.old p || (is_inside places.old.sizes p
+        && list_any (λ c. is_around c steps p) centers.now))) }
+{
+    for center in centers {
+        places.mark_around(alloc, *center, steps)?;
+    }
+    Ok(())
+}

@@ -54,7 +54,7 @@ module _ (w : Pos → Cell) (level : Pos → ℕ) where
       later q (change_at w level q) (changes w level ps) p cell (has_change ps p cell further is)
 
   -- where nothing changes the next part is the cell that stands there
-  no_change : (p : Pos) → change_at w level p ≡ None → next_part w level p ≡ w p
+  pub no_change : (p : Pos) → change_at w level p ≡ None → next_part w level p ≡ w p
   unfolding change_at
   no_change p none = by (same_cell (next_part w level p) (w p)) refl none
     where
@@ -116,6 +116,16 @@ module _ (m : MapData) (filled : IsFilled m) where
           (air_stays (cell_on m) (dust_level (cell_on m)) p
           (outside_is_air m p (λ inside. false≢true (sym outside ∙ inside)))))
 
+  -- each change is among those of the map
+  pub is_among : (p : Pos) (cell : Cell)
+      → change_at (cell_on m) (dust_level (cell_on m)) p ≡ Some cell
+      → IsAmong (changed_up_to m (sector_count m.sizes)) (p, cell)
+  is_among p cell some =
+      let inside = changes_inside p cell some in
+      let low = number_below m.sizes p filled.map.valid inside in
+      has_one (sector_count m.sizes) (sector_number m.sizes p) p cell low
+      (is_listed m.sizes p (sector_number m.sizes p) filled.map.valid inside (numbered m.sizes p inside) low) some
+
   nothing_put : (p : Pos) → change_at (cell_on m) (dust_level (cell_on m)) p ≡ None
       → block_on (advanced m) p ≡ block_on m p
   nothing_put p none =
@@ -131,12 +141,10 @@ module _ (m : MapData) (filled : IsFilled m) where
       ∙ sym (no_change (cell_on m) (dust_level (cell_on m)) p none)
   becomes p (Some cell) some =
       let inside = changes_inside p cell some in
-      let low = number_below m.sizes p filled.map.valid inside in
       sym (cell_of_block (advanced m) p)
       ∙ ap (λ b. b.cell) (all_put m (changed_up_to m (sector_count m.sizes)) p cell filled inside
       (λ other among. let is = is_one (sector_count m.sizes) p other among in cc)
-      (has_one (sector_count m.sizes) (sector_number m.sizes p) p cell low
-      (is_listed m.sizes p (sector_number m.sizes p) filled.map.valid inside (numbered m.sizes p inside) low) some))
+      (is_among p cell some))
       ∙ (a_change (cell_on m) (dust_level (cell_on m)) p cell some).0
 
 pub parts_become_next : PartsBecomeNext

@@ -37,18 +37,23 @@ module _ (m : MapData) (level : Pos → ℕ) where
   unfolding candidate
   no_move p is = asks_nothing p (cell_on m p) is
 
-  -- one more position before others, device or not
-  more : (p : Pos) (ps : List Pos) (b : Bool) → is_device (cell_on m p) ≡ b
-      → asked m level (filter (λ p. is_device (cell_on m p)) ps) ≡ asked m level ps
-      → asked m level (filter (λ p. is_device (cell_on m p)) (p ∷ ps)) ≡ asked m level (p ∷ ps)
-  more p ps true is rest = rw is (ap (asked_before (candidate m level p)) rest)
-  more p ps false is rest = rw is (rest ∙ sym (ap (λ c. asked_before c (asked m level ps)) (no_move p is)))
+  module _ (keep : Pos → Bool) (none : (p : Pos) → keep p ≡ false → candidate m level p ≡ None) where
+    -- one more position before others, kept or not
+    more : (p : Pos) (ps : List Pos) (b : Bool) → keep p ≡ b
+        → asked m level (filter keep ps) ≡ asked m level ps
+        → asked m level (filter keep (p ∷ ps)) ≡ asked m level (p ∷ ps)
+    more p ps true is rest = rw is (ap (asked_before (candidate m level p)) rest)
+    more p ps false is rest = rw is (rest ∙ sym (ap (λ c. asked_before c (asked m level ps)) (none p is)))
 
-  -- so others than devices may be left out
+    -- positions at which nothing is asked for may be left out
+    pub kept_ask : (ps : List Pos) → asked m level (filter keep ps) ≡ asked m level ps
+    kept_ask [] = refl
+    kept_ask (p ∷ ps) = more p ps (keep p) refl (kept_ask ps)
+
+  -- so others than devices may be
   devices_ask : (ps : List Pos)
       → asked m level (filter (λ p. is_device (cell_on m p)) ps) ≡ asked m level ps
-  devices_ask [] = refl
-  devices_ask (p ∷ ps) = more p ps (is_device (cell_on m p)) refl (devices_ask ps)
+  devices_ask = kept_ask (λ p. is_device (cell_on m p)) no_move
 
   -- the devices of a sector ask for what all its positions do
   pub all_asked : (k : ℕ) (ps qs : List Pos) → ps ≡ qs → qs ≡ devices_on m k

@@ -4,6 +4,7 @@ pub mod Dividing
 pub mod Gathering
 pub mod InOrder
 pub mod Joining
+pub mod Remaining
 pub mod Making
 pub mod Movers
 pub mod NoChests
@@ -13,5 +14,6 @@ pub mod Plans
 pub mod PutDown
 pub mod Permitting
 pub mod Puts
+pub mod Resting
 pub mod Sharing
 pub mod Told

@@ -1,5 +1,5 @@
 -- A tick told by the map before it.
-use Rattle.std.proofs.Common.{◌≡◌, ℕ, false, inl, inr, List, ◌++◌, sym, ap, ap₂, ◌∙◌, subst}
+use Rattle.std.proofs.Common.{◌≡◌, ℕ, false, inl, inr, List, ◌++◌, refl, sym, ap, ◌∙◌, subst}
 use Rattle.std.specs.List.{All}
 use Rattle.vx_geom.specs.declared.pos.Pos.{Pos}
 use Rattle.vx_geom.specs.Sizes.{sector_count}
@@ -16,6 +16,7 @@ use Rattle.vx_piston.specs.Moves.{Moving}
 use Rattle.vx_region.specs.Regions.{Regions}
 use Rattle.vx_step.specs.declared.fate.Fate.{Fate}
 use Rattle.vx_step.specs.Fates.{AreFates}
+use Rattle.vx_step.specs.Leaving.{IsWorked}
 use Rattle.vx_step.specs.Ticks.{advanced, changed_up_to, put_down, fates_on, stepped, AreMoves, IsTick}
 use Rattle.vx_step.proofs.Advancing.{parts_become_next}
 use Rattle.vx_step.proofs.Gathering.{cells_joined}
@@ -71,26 +72,40 @@ module _ (m : MapData) (level : Pos → ℕ) (filled : IsFilled m) (exact : AreA
           (subst (λ list. IsAmong list put) same_puts moved)
     ]
 
--- what a plan tells of a tick
-pub record IsPlan (rs : Regions) (m : MapData) (puts : List (Pos × Cell)) (fates : List (Pos × Fate)) : Type 0 where
-  pub map : stepped rs m ≡ with_cells_on m puts
-  pub told : fates ≡ fates_on rs m
-  pub chests : All (λ (put : Pos × Cell). is_chest put.1 ≡ false) puts
-
--- the changes, and what these moves put down by the next parts, are what a plan tells
-pub is_plan : (m : MapData) (level : Pos → ℕ) (rs : Regions) (moves : List Moving)
-    (fates : List (Pos × Fate)) (changes moved all : List (Pos × Cell))
+-- the changes, and what these moves put down by the next parts, are what a tick does
+pub is_worked : (m : MapData) (level : Pos → ℕ) (rs : Regions) (moves : List Moving)
+    (fates : List (Pos × Fate)) (changes moved : List (Pos × Cell))
     → IsFilled m → AreAllLevels m level → AreMoves m moves → AreFates rs moves moves fates
     → changes ≡ changed_up_to m (sector_count m.sizes)
-    → moved ≡ put_down (next_part (cell_on m) level) moves fates → all ≡ changes ++ moved
-    → IsPlan rs m all fates
-is_plan m level rs moves fates changes moved all filled exact are told changed put joined =
-    subst (λ puts. IsPlan rs m puts fates)
-    (sym (joined ∙ ap₂ (λ a b. a ++ b) changed put))
+    → moved ≡ put_down (next_part (cell_on m) level) moves fates
+    → IsWorked rs m changes moved fates
+is_worked m level rs moves fates changes moved filled exact are told changed put =
+    subst (λ xs. IsWorked rs m xs moved fates) (sym changed)
+    (subst (λ ys. IsWorked rs m (changed_up_to m (sector_count m.sizes)) ys fates) (sym put)
     (record {
-      map = sym (planned m level filled exact rs moves fates are told).0;
+      parts = refl;
+      after =
+          sym (planned m level filled exact rs moves fates are told).0
+          ∙ cells_joined m (changed_up_to m (sector_count m.sizes))
+          (put_down (next_part (cell_on m) level) moves fates);
       told = (planned m level filled exact rs moves fates are told).1;
       chests =
           all_among (λ (put : Pos × Cell). is_chest put.1 ≡ false) _
           (no_chest m level filled exact rs moves fates are told);
-    })
+    }))
+
+-- told in one list, that is the map after the tick
+pub all_puts : (rs : Regions) (m : MapData) (changes moved all : List (Pos × Cell))
+    (fates : List (Pos × Fate)) → IsWorked rs m changes moved fates → all ≡ changes ++ moved
+    → stepped rs m ≡ with_cells_on m all
+all_puts rs m changes moved all fates worked joined =
+    worked.after
+    ∙ ap (λ xs. with_cells_on (with_cells_on m xs) moved) (sym worked.parts)
+    ∙ sym (cells_joined m changes moved)
+    ∙ ap (with_cells_on m) (sym joined)
+
+pub no_chests : (rs : Regions) (m : MapData) (changes moved all : List (Pos × Cell))
+    (fates : List (Pos × Fate)) → IsWorked rs m changes moved fates → all ≡ changes ++ moved
+    → All (λ (put : Pos × Cell). is_chest put.1 ≡ false) all
+no_chests rs m changes moved all fates worked joined =
+    subst (All (λ (put : Pos × Cell). is_chest put.1 ≡ false)) (sym joined) worked.chests

@@ -2,7 +2,9 @@ ghost use Rattle.std.specs.Prelude.{◌≡◌, ◌<◌, IfOk};
 ghost use Rattle.vx_cells.specs.Maps.{MapData};
 ghost use Rattle.vx_geom.specs.Places.{positions};
 ghost use Rattle.vx_geom.specs.Sizes.{sector_count};
+ghost use Rattle.vx_places.specs.Places.{is_at};
 ghost use Rattle.vx_power.specs.Levels.{level_in, AreAllLevels};
+ghost use Rattle.vx_wake.specs.Waking.{IsSettled};
 ghost use Rattle.vx_step.specs.Pieces.{asked_in, changed_in};
 ghost use Rattle.vx_step.specs.Ticks.{asked, asked_up_to, changed_up_to, AreMoves};
 
@@ -10,9 +12,10 @@ use std::alloc::{AllocError, Global};
 use vx_block::Cell;
 use vx_cells::Frozen;
 use vx_geom::Pos;
-use vx_part::next_parts;
+use vx_part::{changes_among, next_parts};
 use vx_piston::{Move, candidate};
-use vx_power::Levels;
+use vx_places::Places;
+use vx_power::{Leveled, Levels};
 
 /// What a tick finds on a map as it begins, or in a part of it.
 #[derive(Drop)]
@@ -40,6 +43,53 @@ impl Found {
             moves.append(&mut found.moves)?;
         }
         sort(&mut moves);
+        Ok(Found { changes, moves })
+    }
+
+    /// The same by the places outside which a map rests. It costs what those are.
+    pub fn among<L: Leveled>(
+        alloc: Global,
+        map: &Frozen<'_>,
+        levels: &L,
+        places: &Places,
+    ) -> Result<Found, AllocError>
+        requires levels { AreAllLevels map.now (L.level levels.now) }
+        requires sizes { places.now.sizes ≡ map.now.sizes }
+        requires settled { IsSettled map.now (is_at places.now) }
+        ensures changes { IfOk result (λ found.
+            found.changes.items ≡ changed_up_to map.now (sector_count map.now.sizes)) }
+        ensures moves { IfOk result (λ found. AreMoves map.now found.moves.items) }
+    {
+        let mut changes = Vec::new(alloc);
+        let mut moves = Vec::new(alloc);
+        for number in 0..map.bounds().sectors() {
+            let mut here = Found::at(alloc, map, levels, places, number)?;
+            changes.append(&mut here.changes)?;
+            moves.append(&mut here.moves)?;
+        }
+        sort(&mut moves);
+        Ok(Found { changes, moves })
+    }
+
+    // What a tick finds in a sector by those places.
+    fn at<L: Leveled>(
+        alloc: Global,
+        map: &Frozen<'_>,
+        levels: &L,
+        places: &Places,
+        sector: u32,
+    ) -> Result<Found, AllocError>
+        requires there { sector < sector_count map.now.sizes }
+        requires levels { AreAllLevels map.now (L.level levels.now) }
+        requires sizes { places.now.sizes ≡ map.now.sizes }
+        requires settled { IsSettled map.now (is_at places.now) }
+        ensures changes { IfOk result (λ found.
+            found.changes.items ≡ changed_in map.now sector) }
+        ensures moves { IfOk result (λ found. found.moves.items ≡ asked_in map.now sector) }
+    {
+        let here = places.in_sector(alloc, sector)?;
+        let changes = changes_among(alloc, map, levels, here.as_slice())?;
+        let moves = moves_among(alloc, map, levels, here.as_slice())?;
         Ok(Found { changes, moves })
     }
 
@@ -87,14 +137,14 @@ fn moves_in(
 }
 
 // The moves that pistons at these positions ask for, in their order.
-fn moves_among(
+fn moves_among<L: Leveled>(
     alloc: Global,
     map: &Frozen<'_>,
-    levels: &Levels,
+    levels: &L,
     positions: &[Pos],
 ) -> Result<Vec<Move>, AllocError>
     ensures { IfOk result (λ moves.
-        moves.items ≡ asked map.now (level_in levels.now) positions.now) }
+        moves.items ≡ asked map.now (L.level levels.now) positions.now) }
 {
     let mut moves = Vec::new(alloc);
     for p in positions {

@@ -1,59 +1,38 @@
-use Rattle.std.proofs.Common.{◌≡◌, length, ap, ap₂, sym, ◌∙◌, subst}
-use Rattle.vx_step.specs.Fates.{AreFates}
-use Rattle.vx_step.specs.Ticks.{put_down}
-use Rattle.vx_step.proofs.Plans.{is_plan}
-use Rattle.vx_step.proofs.Told.{fates_length}
+use Rattle.std.proofs.Common.{◌≡◌, ◌++◌, false, ◌∙◌}
+use Rattle.std.specs.List.{All}
+use Rattle.std.proofs.lemmas.Result.{IfOk-weaker}
+use Rattle.vx_geom.specs.declared.pos.Pos.{Pos}
+use Rattle.vx_block.specs.declared.cell.Cell.{Cell}
+use Rattle.vx_cells.specs.SectorCells.{is_chest}
+use Rattle.vx_cells.specs.Wholes.{with_cells_on}
+use Rattle.vx_step.specs.Ticks.{fates_on, stepped}
+use Rattle.vx_step.proofs.Plans.{all_puts, no_chests}
 use Rattle.vx_step.proofs.planning.plan.Goals as goal
-
-pub put_down-requires : goal.put_down-requires
-put_down-requires c = record {
-  each =
-      ap length c.as_slice-3.ensures.value
-      ∙ fates_length c.new-policy.result c.as_slice.result.now c.as_slice.result.now c.in_ok-fates.fates.items c.in_ok-fates.ensures
-      ∙ ap length (c.as_slice.ensures.value ∙ sym c.as_slice-2.ensures.value);
-}
 
 pub returns-clause-puts : goal.returns-clause-puts
 returns-clause-puts c =
     let rs = c.args.version.now.policy in
     let m = c.args.map.now in
-    let moves = c.in_ok-changes.field-0.moves.items in
-    let fates = c.in_ok-fates.fates.items in
-    let policy : c.new-policy.result ≡ rs = c.new-policy.ensures ∙ c.regions.ensures in
-    let told : AreFates rs moves moves fates =
-    subst (λ r. AreFates r moves moves fates) policy
-    (subst (λ ms. AreFates c.new-policy.result ms ms fates) c.as_slice.ensures.value c.in_ok-fates.ensures) in
-    (is_plan m _ rs moves fates c.in_ok-changes.field-0.changes.items c.in_ok-moved.moved.items _
-    c.filling.ensures c.in_ok-levels.ensures c.in_ok-changes.ensures.moves told c.in_ok-changes.ensures.changes
-    (c.in_ok-moved.ensures ∙ ap₂ (put_down _) c.as_slice-2.ensures.value c.as_slice-3.ensures.value)
-    c.in_ok-append.ensures.items).map
+    let done = c.in_ok-done.done in
+    IfOk-weaker c.planned.result (λ plan. plan.puts.items ≡ done.changes.items ++ done.moved.items)
+    (λ plan. stepped rs m ≡ with_cells_on m plan.puts.items)
+    (λ plan joined. all_puts rs m _ _ plan.puts.items _ c.in_ok-done.ensures joined)
+    c.planned.ensures.puts
 
 pub returns-clause-fates : goal.returns-clause-fates
 returns-clause-fates c =
-    let rs = c.args.version.now.policy in
-    let m = c.args.map.now in
-    let moves = c.in_ok-changes.field-0.moves.items in
-    let fates = c.in_ok-fates.fates.items in
-    let policy : c.new-policy.result ≡ rs = c.new-policy.ensures ∙ c.regions.ensures in
-    let told : AreFates rs moves moves fates =
-    subst (λ r. AreFates r moves moves fates) policy
-    (subst (λ ms. AreFates c.new-policy.result ms ms fates) c.as_slice.ensures.value c.in_ok-fates.ensures) in
-    (is_plan m _ rs moves fates c.in_ok-changes.field-0.changes.items c.in_ok-moved.moved.items _
-    c.filling.ensures c.in_ok-levels.ensures c.in_ok-changes.ensures.moves told c.in_ok-changes.ensures.changes
-    (c.in_ok-moved.ensures ∙ ap₂ (put_down _) c.as_slice-2.ensures.value c.as_slice-3.ensures.value)
-    c.in_ok-append.ensures.items).told
+    let done = c.in_ok-done.done in
+    IfOk-weaker c.planned.result (λ plan. plan.fates.items ≡ done.fates.items)
+    (λ plan. plan.fates.items ≡ fates_on c.args.version.now.policy c.args.map.now)
+    (λ plan same. same ∙ c.in_ok-done.ensures.told)
+    c.planned.ensures.fates
 
 pub returns-clause-chests : goal.returns-clause-chests
 returns-clause-chests c =
     let rs = c.args.version.now.policy in
     let m = c.args.map.now in
-    let moves = c.in_ok-changes.field-0.moves.items in
-    let fates = c.in_ok-fates.fates.items in
-    let policy : c.new-policy.result ≡ rs = c.new-policy.ensures ∙ c.regions.ensures in
-    let told : AreFates rs moves moves fates =
-    subst (λ r. AreFates r moves moves fates) policy
-    (subst (λ ms. AreFates c.new-policy.result ms ms fates) c.as_slice.ensures.value c.in_ok-fates.ensures) in
-    (is_plan m _ rs moves fates c.in_ok-changes.field-0.changes.items c.in_ok-moved.moved.items _
-    c.filling.ensures c.in_ok-levels.ensures c.in_ok-changes.ensures.moves told c.in_ok-changes.ensures.changes
-    (c.in_ok-moved.ensures ∙ ap₂ (put_down _) c.as_slice-2.ensures.value c.as_slice-3.ensures.value)
-    c.in_ok-append.ensures.items).chests
+    let done = c.in_ok-done.done in
+    IfOk-weaker c.planned.result (λ plan. plan.puts.items ≡ done.changes.items ++ done.moved.items)
+    (λ plan. All (λ (put : Pos × Cell). is_chest put.1 ≡ false) plan.puts.items)
+    (λ plan joined. no_chests rs m _ _ plan.puts.items _ c.in_ok-done.ensures joined)
+    c.planned.ensures.puts

@@ -201,6 +201,11 @@ impl Cells {
         self.listed(alloc, false)
     }
 
+    /// About what going over its components costs, in words of marks. No clause speaks of it.
+    pub fn component_words(&self) -> u32 {
+        self.dust.filled_words().saturating_add(self.devices.filled_words())
+    }
+
     /// Whether a device stands in this sector. Where none was ever placed it costs a look.
     pub fn has_devices(&self) -> bool
         ensures { result ≡ nat_lt 0 (length (devices_of self.now)) }

@@ -184,6 +184,16 @@ impl<'a> Frozen<'a> {
         self.sector_at(sector).devices(alloc)
     }
 
+    /// About what going over all components costs, in words of marks. No clause speaks of it.
+    pub fn component_words(&self) -> u32 {
+        self.soundness();
+        let mut words = 0_u32;
+        for sector in 0..self.bounds().sectors() {
+            words = words.saturating_add(self.sector_at(sector).component_words());
+        }
+        words
+    }
+
     /// Whether a device stands in a sector. Where none was ever placed it costs a look.
     pub fn has_devices(&self, sector: u32) -> bool
         requires { sector < sector_count self.now.sizes }

@@ -78,6 +78,11 @@ impl Marks {
         Some(self.bits.first_of_word(word))
     }
 
+    /// How many words have a mark: what going over all marks costs, and no clause speaks of it.
+    pub fn filled_words(&self) -> u32 {
+        self.filled.count_ones()
+    }
+
     /// A copy.
     pub fn try_clone(&self) -> Result<Marks, AllocError>
         ensures { IfOk result (λ copy. copy ≡ self.now) }

@@ -3,3 +3,4 @@ pub mod Keeping
 pub mod Playing
 pub mod Renewals
 pub mod Whole
+pub mod Written

@@ -2,3 +2,4 @@ pub mod Games
 pub mod Laws
 pub mod Nexts
 pub mod Plays
+pub mod Writing

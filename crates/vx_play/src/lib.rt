@@ -7,6 +7,7 @@ mod names;
 mod play;
 mod tick_error;
 mod ticked;
+mod written;
 
 pub use names::number_of;
 pub use play::{MAX_PLAYERS, MAX_TICKS, Play};

@@ -5,10 +5,12 @@ ghost use Rattle.vx_cells.specs.SectorCells.{is_chest};
 ghost use Rattle.vx_cells.specs.Wholes.{with_cells_on};
 ghost use Rattle.vx_play.specs.Nexts.{AreNextOf, put_at, put_all};
 ghost use Rattle.vx_play.specs.Plays.{cells_of, opened_by, all_renewed, entries_in, entries_of};
+ghost use Rattle.vx_wake.specs.Waking.{RestsBut};
 
 use crate::names::number_of;
 use crate::tick_error::TickError;
 use crate::ticked::Ticked;
+use crate::written::written;
 use std::alloc::{AllocError, Global};
 use std::marker::Model;
 use vx_block::Cell;
@@ -18,7 +20,8 @@ use vx_geom::{Bounds, Pos};
 use vx_policy::{Edit, Policy, Version};
 use vx_region::Name;
 use vx_sector::{Cmd, Entry, Fresh, Next, Refusal, Reply, Seat, Sector};
-use vx_step::{Plan, plan};
+use vx_step::{Plan, plan_woken};
+use vx_wake::Waking;
 
 /// How many players a world may have.
 pub const MAX_PLAYERS: usize = 16;
@@ -28,6 +31,7 @@ pub const MAX_TICKS: u64 = 1_099_511_627_776;
 
 /// A world at play: its sectors in their places, its players in order of their seats, and the desk
 /// where its policy is edited.
+// It keeps where the map as the windows began does not rest, so that a tick looks there alone.
 #[derive(Drop)]
 pub struct Play<J: Naming> {
     bounds: Bounds,
@@ -36,6 +40,7 @@ pub struct Play<J: Naming> {
     names: Vec<Name>,
     desk: DeskState<J>,
     ticks: u64,
+    waking: Waking,
 }
 
 impl<J: Naming> Model for Play<J> {
@@ -43,7 +48,9 @@ impl<J: Naming> Model for Play<J> {
     ghost use Rattle.vx_region.specs.Texts.{texts};
     ghost use Rattle.vx_cells.specs.Maps.{AreSectors};
     ghost use Rattle.vx_play.specs.Plays.{PlayData, cells_of, most_ticks};
+    ghost use Rattle.vx_play.specs.Writing.{map_before};
     ghost use Rattle.vx_play.specs.declared.play.TheConstants.{MAX_PLAYERS};
+    ghost use Rattle.vx_wake.specs.Waking.{RestsBut};
 
     ghost Value = { PlayData };
 
@@ -58,7 +65,8 @@ impl<J: Naming> Model for Play<J> {
     } };
 
     ghost invariant = { λ a. (vec_len a.names ≤ MAX_PLAYERS) × (a.ticks ≤ most_ticks)
-        × AreSectors a.bounds (map cells_of a.sectors.items) };
+        × AreSectors a.bounds (map cells_of a.sectors.items)
+        × RestsBut (map_before a.bounds a.sectors.items) a.waking };
 }
 
 impl<J: Naming> Play<J> {
@@ -86,6 +94,7 @@ impl<J: Naming> Play<J> {
         let desk = DeskState::new(alloc, policy);
         let version = desk.fix(1)?;
         let sectors = open_sectors(alloc, cells, &version)?;
+        let waking = all_awake(alloc, bounds, &sectors)?;
         Ok(Play {
             bounds,
             sectors,
@@ -93,6 +102,7 @@ impl<J: Naming> Play<J> {
             names,
             desk,
             ticks: 0,
+            waking,
         })
     }
 
@@ -162,29 +172,45 @@ impl<J: Naming> Play<J> {
         if MAX_TICKS <= self.ticks {
             return Err(TickError::HistoryFull);
         }
-        let plan = self.plan(alloc)?;
-        let windows = self.renew(alloc, plan.puts.as_slice())?;
+        let (plan, waking) = self.plan(alloc)?;
+        let windows = self.renew(alloc, plan.puts.as_slice(), waking)?;
         Ok(Ticked {
             windows,
             fates: plan.fates,
         })
     }
 
-    // What the next tick does.
-    fn plan(&self, alloc: Global) -> Result<Plan, AllocError>
-        ensures puts { IfOk result (λ plan.
-            next_map self.now ≡ with_cells_on (map_of self.now) plan.puts.items) }
-        ensures fates { IfOk result (λ plan. plan.fates.items ≡ next_fates self.now) }
-        ensures chests { IfOk result (λ plan.
-            All (λ put. is_chest put.1 ≡ false) plan.puts.items) }
+    // What the next tick does, and where the one after it has to look.
+    fn plan(&self, alloc: Global) -> Result<(Plan, Waking), AllocError>
+        ensures puts { IfOk result (λ done.
+            next_map self.now ≡ with_cells_on (map_of self.now) done.0.puts.items) }
+        ensures fates { IfOk result (λ done. done.0.fates.items ≡ next_fates self.now) }
+        ensures chests { IfOk result (λ done.
+            All (λ put. is_chest put.1 ≡ false) done.0.puts.items) }
+        ensures waking { IfOk result (λ done. RestsBut (next_map self.now) done.1) }
     {
         let cells = cells_of(alloc, &self.sectors)?;
-        plan(alloc, &Frozen::apart(self.bounds, &cells), &self.version)
+        let written = written(alloc, &self.sectors)?;
+        let map = Frozen::apart(self.bounds, &cells);
+        plan_woken(
+            alloc,
+            &map,
+            &self.version,
+            &self.waking,
+            written.as_slice(),
+        )
     }
 
     // Begins the next window of each sector over its cells with these put down, judged by the
-    // policy after the edits so far, and hands out the records of the windows that this closes.
-    fn renew(&mut self, alloc: Global, puts: &[(Pos, Cell)]) -> Result<Vec<Vec<Entry>>, AllocError>
+    // policy after the edits so far, and hands out the records of the windows that this closes. The
+    // next tick looks where it is told.
+    fn renew(
+        &mut self,
+        alloc: Global,
+        puts: &[(Pos, Cell)],
+        waking: Waking,
+    ) -> Result<Vec<Vec<Entry>>, AllocError>
+        requires rests { RestsBut (with_cells_on (map_of self.old) puts.now) waking }
         requires chests { All (λ put. is_chest put.1 ≡ false) puts.now }
         requires more { self.old.ticks < most_ticks }
         ensures ok { OnOk result (self.new ≡ record self.old {
@@ -201,6 +227,7 @@ impl<J: Naming> Play<J> {
         let nexts = all_next(alloc, &self.sectors, &version)?;
         let windows = renew_sectors(alloc, self.bounds, &version, &mut self.sectors, nexts, puts)?;
         self.version = version;
+        self.waking = waking;
         self.ticks += 1;
         Ok(windows)
     }
@@ -291,6 +318,16 @@ fn cells_of<'a>(alloc: Global, sectors: &'a [Sector]) -> Result<Vec<&'a Cells>, 
         cells.push(sector.cells())?;
     }
     Ok(cells)
+}
+
+// All components of the sectors of a world of this size, as of a map of which nothing is known yet.
+fn all_awake(alloc: Global, bounds: Bounds, sectors: &[Sector]) -> Result<Waking, AllocError>
+    requires { AreSectors bounds (map cells_of sectors.now) }
+    ensures { IfOk result (λ waking.
+        RestsBut (record { sizes = bounds; sectors = map cells_of sectors.now }) waking) }
+{
+    let cells = cells_of(alloc, sectors)?;
+    Waking::all(alloc, &Frozen::apart(bounds, &cells))
 }
 
 // What the next window of each sector takes, judged by this version.

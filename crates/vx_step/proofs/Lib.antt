@@ -8,6 +8,7 @@ pub mod Remaining
 pub mod Making
 pub mod Movers
 pub mod NoChests
+pub mod Nothing
 pub mod OneTick
 pub mod Pairs
 pub mod Plans

@@ -26,7 +26,7 @@ use Rattle.vx_step.specs.Ticks.{advanced, changed_up_to, stepped}
 use Rattle.vx_step.proofs.Advancing.{no_change, a_change, is_among, parts_become_next}
 use Rattle.vx_step.proofs.Puts.{none_put, puts_filled}
 use Rattle.vx_wake.specs.Laws.{IsLeft}
-use Rattle.vx_wake.specs.Waking.{IsSettled, RestsBut}
+use Rattle.vx_wake.specs.Waking.{RestsBut}
 use Rattle.vx_wake.proofs.Carrying.{ticks_wake}
 
 module _ (w : Pos → Cell) where
@@ -78,11 +78,23 @@ place_there (put ∷ puts) p cell (inr further) =
 
 module _ (rs : Regions) (m : MapData) (changes moved : List (Pos × Cell))
     (fates : List (Pos × Fate)) (filled : IsFilled m) (worked : IsWorked rs m changes moved fates)
-    (keep : Pos → Bool) (settled : IsSettled m keep) (changed besides : List Pos)
+    (changed besides pistons : List Pos)
     (changed_is : changed ≡ shown_changes (cell_on m) changes ++ places_of moved)
-    (hidden : (p : Pos) → has (hidden_changes (cell_on m) changes) p ≡ true → has besides p ≡ true)
-    (restless : (p : Pos) → keep p ≡ true
-    → is_restless (cell_on m) (dust_level (cell_on m)) p ≡ true → has besides p ≡ true) where
+    (besides_is : besides ≡ hidden_changes (cell_on m) changes ++ pistons)
+    (restless : (p : Pos) → is_restless (cell_on m) (dust_level (cell_on m)) p ≡ true
+    → has pistons p ≡ true) where
+  -- what is looked at besides
+  hidden : (p : Pos) → has (hidden_changes (cell_on m) changes) p ≡ true → has besides p ≡ true
+  hidden p is =
+      ap (λ ps. has ps p) besides_is ∙ has_joined (hidden_changes (cell_on m) changes) pistons p
+      ∙ or_left (has (hidden_changes (cell_on m) changes) p) (has pistons p) is
+
+  would_move : (p : Pos) → is_restless (cell_on m) (dust_level (cell_on m)) p ≡ true
+      → has besides p ≡ true
+  would_move p is =
+      ap (λ ps. has ps p) besides_is ∙ has_joined (hidden_changes (cell_on m) changes) pistons p
+      ∙ or_right (has (hidden_changes (cell_on m) changes) p) (has pistons p) (restless p is)
+
   -- an unchanged position shows what it showed, and nothing was moved there
   apart : (p : Pos) → has changed p ≡ false
       → (has (shown_changes (cell_on m) changes) p ≡ false) × (has (places_of moved) p ≡ false)
@@ -148,10 +160,7 @@ module _ (rs : Regions) (m : MapData) (changes moved : List (Pos × Cell))
     others = λ p unchanged away other.
         stands p unchanged
         ∙ same_still p unchanged away other (change_at (cell_on m) (dust_level (cell_on m)) p) refl;
-    pistons = λ p is. elim (cases_Bool (keep p)) [
-      | inl kept ↦ restless p kept is
-      | inr left_out ↦ absurd (false≢true (sym (settled p left_out).piston ∙ is))
-    ];
+    pistons = would_move;
   }
 
   -- so all else rests after it

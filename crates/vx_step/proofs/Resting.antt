@@ -1,19 +1,87 @@
 -- Where a map rests nothing changes and no piston moves, so a tick need not look there.
-use Rattle.std.proofs.Common.{◌≡◌, ℕ, Bool, List, ap, ◌∙◌}
+use Rattle.std.proofs.Common.{◌≡◌, ℕ, zero, suc, ◌<◌, ◌≤◌, Bool, true, false, cond, List, [], ◌∷◌, ◌++◌, Some, inl, inr, refl, sym, ap, ◌∙◌, arith}
 use Rattle.std.specs.List.{filter}
+use Rattle.std.specs.List.Sorted.{IsPermutation}
+use Rattle.std.proofs.lemmas.Bool.{cases_Bool, cases_eq, and_from, false≢true, or_left, or_right}
 use Rattle.vx_geom.specs.declared.pos.Pos.{Pos}
 use Rattle.vx_geom.specs.Places.{positions}
-use Rattle.vx_geom.specs.Sizes.{Sizes}
+use Rattle.vx_geom.specs.Sizes.{Sizes, AreSizes, is_inside, sector_count, sector_number, sector_of}
+use Rattle.vx_block.specs.declared.cell.Cell.{Cell}
+use Rattle.vx_block.specs.declared.cell.Cell.TheVariants as cell
+use Rattle.vx_block.specs.Components.{is_device}
+use Rattle.vx_cells.specs.Listed.{devices_on}
 use Rattle.vx_cells.specs.Maps.{MapData, cell_on}
+use Rattle.vx_cells.proofs.Indices.{numbered, number_below}
+use Rattle.vx_cells.proofs.MapLemmas.{outside_is_air}
 use Rattle.vx_power.specs.Laws.{dust_level}
-use Rattle.vx_power.specs.Levels.{AreAllLevels}
+use Rattle.vx_power.specs.Levels.{AreAllLevels, has}
+use Rattle.vx_power.proofs.Feeding.{is_listed}
+use Rattle.vx_power.proofs.Having.{has_filter, has_from, has_joined}
 use Rattle.vx_part.specs.Changes.{changes}
 use Rattle.vx_part.proofs.Changing.{kept_change}
+use Rattle.vx_piston.specs.Moves.{is_restless, restless_as}
 use Rattle.vx_piston.proofs.Restless.{others_stay}
-use Rattle.vx_step.specs.Pieces.{asked_in, changed_in}
+use Rattle.vx_step.specs.Pieces.{asked_in, changed_in, restless_in, restless_up_to}
 use Rattle.vx_step.specs.Ticks.{asked}
 use Rattle.vx_step.proofs.Asking.{kept_ask, asked_exact, changes_exact}
 use Rattle.vx_wake.specs.Waking.{IsSettled}
+
+-- what is left out passes no test, so it may be left out before the test
+pub kept_pass : (keep test : Pos → Bool) → ((p : Pos) → keep p ≡ false → test p ≡ false) → (ps : List Pos)
+    → filter test (filter keep ps) ≡ filter test ps
+kept_pass keep test none [] = refl
+kept_pass keep test none (p ∷ ps) = by (keep p) refl (kept_pass keep test none ps)
+  where
+    by : (b : Bool) → keep p ≡ b → filter test (filter keep ps) ≡ filter test ps
+        → filter test (cond b (p ∷ filter keep ps) (filter keep ps))
+        ≡ cond (test p) (p ∷ filter test ps) (filter test ps)
+    by true is rest = ap (λ qs. cond (test p) (p ∷ qs) qs) rest
+    by false is rest = rest ∙ sym (ap (λ b. cond b (p ∷ filter test ps) (filter test ps)) (none p is))
+
+-- what is no device is no piston that would move
+still_as : (w : Pos → Cell) (level : Pos → ℕ) (p : Pos) (c : Cell) → is_device c ≡ false
+    → restless_as w level p c ≡ false
+still_as w level p (cell.Piston d sticky extended) is = cc
+still_as w level p (cell.Torch facing lit) is = refl
+still_as w level p (cell.Lever facing on) is = refl
+still_as w level p (cell.Repeater r) is = refl
+still_as w level p (cell.Lamp lamp) is = refl
+still_as w level p cell.Air is = refl
+still_as w level p cell.Stone is = refl
+still_as w level p cell.Dirt is = refl
+still_as w level p cell.Planks is = refl
+still_as w level p cell.Glass is = refl
+still_as w level p cell.Obsidian is = refl
+still_as w level p cell.Bedrock is = refl
+still_as w level p cell.Chest is = refl
+still_as w level p (cell.Dust l) is = refl
+still_as w level p (cell.Head facing sticky) is = refl
+
+pub no_device_still : (w : Pos → Cell) (level : Pos → ℕ) (p : Pos) → is_device (w p) ≡ false
+    → is_restless w level p ≡ false
+unfolding is_restless
+no_device_still w level p is = still_as w level p (w p) is
+
+-- by levels that are those of the map, the same pistons would move
+pub restless_exact : (m : MapData) (level : Pos → ℕ) (ps : List Pos) → AreAllLevels m level
+    → filter (is_restless (cell_on m) level) ps
+    ≡ filter (is_restless (cell_on m) (dust_level (cell_on m))) ps
+restless_exact m level ps same = λ i. filter (is_restless (cell_on m) (λ p. same p i)) ps
+
+-- the devices of a sector that would move are all of the sector that would
+pub devices_restless : (m : MapData) (level : Pos → ℕ) (k : ℕ) (ps : List Pos) → AreAllLevels m level
+    → ps ≡ devices_on m k → filter (is_restless (cell_on m) level) ps ≡ restless_in m k
+unfolding devices_on
+devices_restless m level k ps exact listed =
+    restless_exact m level ps exact
+    ∙ ap (filter (is_restless (cell_on m) (dust_level (cell_on m)))) listed
+    ∙ kept_pass (λ p. is_device (cell_on m p)) (is_restless (cell_on m) (dust_level (cell_on m)))
+    (no_device_still (cell_on m) (dust_level (cell_on m))) (positions m.sizes k)
+
+-- those that would move ask for all that any ask for
+pub restless_ask : (m : MapData) (level : Pos → ℕ) (ps : List Pos)
+    → asked m level (filter (is_restless (cell_on m) level) ps) ≡ asked m level ps
+restless_ask m level = kept_ask m level (is_restless (cell_on m) level) (others_stay m level)
 
 module _ (m : MapData) (level : Pos → ℕ) (exact : AreAllLevels m level) (keep : Pos → Bool)
     (settled : IsSettled m keep) (k : ℕ) (v : Sizes) (ps : List Pos) (sizes : v ≡ m.sizes)
@@ -37,3 +105,60 @@ module _ (m : MapData) (level : Pos → ℕ) (exact : AreAllLevels m level) (kee
       ∙ kept_ask m (dust_level (cell_on m)) keep
       (λ p away. others_stay m (dust_level (cell_on m)) p (settled p away).piston)
       (positions m.sizes k)
+
+  -- and those that would move are all of the sector that would
+  pub kept_restless : filter (is_restless (cell_on m) level) ps ≡ restless_in m k
+  kept_restless =
+      restless_exact m level ps exact
+      ∙ ap (filter (is_restless (cell_on m) (dust_level (cell_on m)))) these
+      ∙ kept_pass keep (is_restless (cell_on m) (dust_level (cell_on m)))
+      (λ p away. (settled p away).piston) (positions m.sizes k)
+
+-- a piston that would move stands in the world
+restless_inside : (m : MapData) (p : Pos)
+    → is_restless (cell_on m) (dust_level (cell_on m)) p ≡ true → is_inside m.sizes p ≡ true
+restless_inside m p restless = elim (cases_Bool (is_inside m.sizes p)) [
+  | inl inside ↦ inside
+  | inr outside ↦
+      let air = outside_is_air m p (λ inside. false≢true (sym outside ∙ inside)) in
+      absurd (false≢true
+      (sym (no_device_still (cell_on m) (dust_level (cell_on m)) p (ap is_device air)) ∙ restless))
+]
+
+-- it is found in its sector
+found_in : (m : MapData) (sizes : AreSizes m.sizes) (p : Pos) (k : ℕ) → sector_of m.sizes p ≡ Some k
+    → is_inside m.sizes p ≡ true
+    → is_restless (cell_on m) (dust_level (cell_on m)) p ≡ true → k < sector_count m.sizes
+    → has (restless_in m k) p ≡ true
+found_in m sizes p k held inside restless low =
+    let test = is_restless (cell_on m) (dust_level (cell_on m)) in
+    has_filter test (positions m.sizes k) p
+    ∙ and_from (test p) (has (positions m.sizes k) p) restless
+    (has_from (positions m.sizes k) p (is_listed m.sizes p k sizes inside held low))
+
+-- so it is found among those of all sectors up to behind its own
+found_up_to : (m : MapData) (sizes : AreSizes m.sizes) (p : Pos) (k : ℕ) → sector_of m.sizes p ≡ Some k
+    → is_inside m.sizes p ≡ true
+    → is_restless (cell_on m) (dust_level (cell_on m)) p ≡ true → (n : ℕ) → k < n
+    → n ≤ sector_count m.sizes → has (restless_up_to m n) p ≡ true
+found_up_to m sizes p k held inside restless zero less low = absurd (omega arith)
+found_up_to m sizes p k held inside restless (suc n) less low =
+    has_joined (restless_up_to m n) (restless_in m n) p
+    ∙ elim (cases_eq k n) [
+      | inl same ↦
+          or_right (has (restless_up_to m n) p) (has (restless_in m n) p)
+          (found_in m sizes p n (held ∙ ap Some same) inside restless (omega arith))
+      | inr other ↦
+          or_left (has (restless_up_to m n) p) (has (restless_in m n) p)
+          (found_up_to m sizes p k held inside restless n (omega (arith, less, other)) (omega arith))
+    ]
+
+-- all pistons that would move are found
+pub all_restless : (m : MapData) → AreSizes m.sizes → (p : Pos)
+    → is_restless (cell_on m) (dust_level (cell_on m)) p ≡ true
+    → has (restless_up_to m (sector_count m.sizes)) p ≡ true
+all_restless m sizes p restless =
+    let inside = restless_inside m p restless in
+    let below = number_below m.sizes p sizes inside in
+    found_up_to m sizes p (sector_number m.sizes p) (numbered m.sizes p inside) inside restless
+    (sector_count m.sizes) below (omega arith)

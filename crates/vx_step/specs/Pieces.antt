@@ -1,6 +1,7 @@
 -- A tick in pieces, one for each sector.
-use Rattle.std.specs.Prelude.{◌≡◌, ℕ, suc, ◌+◌, ◌*◌, ◌/◌, if◌then◌else◌, List, [], ◌∷◌, length}
+use Rattle.std.specs.Prelude.{◌≡◌, ℕ, zero, suc, ◌+◌, ◌*◌, ◌/◌, if◌then◌else◌, List, [], ◌∷◌, ◌++◌, length}
 use Rattle.std.specs.Bool.{⊤}
+use Rattle.std.specs.List.{filter}
 use Rattle.vx_block.specs.declared.cell.Cell.{Cell}
 use Rattle.vx_geom.specs.declared.pos.Pos.{Pos}
 use Rattle.vx_geom.specs.Places.{positions}
@@ -8,7 +9,7 @@ use Rattle.vx_cells.specs.Maps.{MapData, cell_on}
 use Rattle.vx_cells.specs.SectorCells.{SectorCells, holds, with_cell}
 use Rattle.vx_power.specs.Laws.{dust_level}
 use Rattle.vx_part.specs.Changes.{changes}
-use Rattle.vx_piston.specs.Moves.{Moving}
+use Rattle.vx_piston.specs.Moves.{Moving, is_restless}
 use Rattle.vx_step.specs.Ticks.{asked}
 
 -- where part i of k begins, where n are divided among them
@@ -42,3 +43,13 @@ changed_in m k = changes (cell_on m) (dust_level (cell_on m)) (positions m.sizes
 -- what pistons of the sector of number k ask for
 abbrev pub asked_in : MapData → ℕ → List Moving
 asked_in m k = asked m (dust_level (cell_on m)) (positions m.sizes k)
+
+-- the pistons of the sector of number k that would move
+abbrev pub restless_in : MapData → ℕ → List Pos
+restless_in m k =
+    filter (is_restless (cell_on m) (dust_level (cell_on m))) (positions m.sizes k)
+
+-- those of the first n sectors
+abbrev pub restless_up_to : MapData → ℕ → List Pos
+restless_up_to m zero = []
+restless_up_to m (suc n) = restless_up_to m n ++ restless_in m n

@@ -1,11 +1,6 @@
 //! What a tick leaves to be looked at by the next one.
-ghost use Rattle.std.specs.Prelude.{◌≡◌, ◌++◌, true, IfOk, OnOk};
-ghost use Rattle.std.specs.List.{filter};
+ghost use Rattle.std.specs.Prelude.{◌≡◌, ◌++◌, IfOk, OnOk};
 ghost use Rattle.vx_cells.specs.Maps.{cell_on};
-ghost use Rattle.vx_geom.specs.declared.pos.Pos.{Pos};
-ghost use Rattle.vx_piston.specs.Moves.{is_restless};
-ghost use Rattle.vx_places.specs.Places.{is_at};
-ghost use Rattle.vx_power.specs.Levels.{has};
 ghost use Rattle.vx_power.specs.Local.{shown};
 ghost use Rattle.vx_step.specs.Leaving.{shows_same, shown_changes, hidden_changes, places_of};
 
@@ -13,36 +8,27 @@ use std::alloc::{AllocError, Global};
 use vx_block::{Cell, Lamp, Level, Repeater};
 use vx_cells::{Frozen, is_same};
 use vx_geom::Pos;
-use vx_piston::is_restless;
-use vx_places::Places;
-use vx_power::Leveled;
 use vx_wake::Waking;
 
 /// Where the next tick has to look after these changes, and after what moves put down: all that
 /// shows other than before wakes what sees it; what else changed is looked at alone, and so is each
-/// piston of these places that would move.
-pub fn left<L: Leveled>(
+/// of these pistons, which would move.
+pub fn left(
     alloc: Global,
     map: &Frozen<'_>,
-    levels: &L,
-    places: &Places,
     changes: &[(Pos, Cell)],
     moved: &[(Pos, Cell)],
+    restless: &[Pos],
 ) -> Result<Waking, AllocError>
     ensures changed { IfOk result (λ waking. waking.changed
         ≡ shown_changes (cell_on map.now) changes.now ++ places_of moved.now) }
-    ensures hidden { IfOk result (λ waking. (p : Pos)
-        → has (hidden_changes (cell_on map.now) changes.now) p ≡ true
-        → has waking.besides p ≡ true) }
-    ensures restless { IfOk result (λ waking. (p : Pos) → is_at places.now p ≡ true
-        → is_restless (cell_on map.now) (L.level levels.now) p ≡ true
-        → has waking.besides p ≡ true) }
+    ensures besides { IfOk result (λ waking. waking.besides
+        ≡ hidden_changes (cell_on map.now) changes.now ++ restless.now) }
 {
     let mut changed = shown_changes(alloc, map, changes)?;
     add_places(&mut changed, moved)?;
     let mut besides = hidden_changes(alloc, map, changes)?;
-    let mut restless = restless_in(alloc, map, levels, places)?;
-    besides.append(&mut restless)?;
+    besides.extend_from_slice(restless)?;
     Ok(Waking { changed, besides })
 }
 
@@ -88,40 +74,6 @@ fn add_places(found: &mut Vec<Pos>, puts: &[(Pos, Cell)]) -> Result<(), AllocErr
         found.push(*p)?;
     }
     Ok(())
-}
-
-// The pistons of these places that would move.
-fn restless_in<L: Leveled>(
-    alloc: Global,
-    map: &Frozen<'_>,
-    levels: &L,
-    places: &Places,
-) -> Result<Vec<Pos>, AllocError>
-    ensures { IfOk result (λ found. (p : Pos) → is_at places.now p ≡ true
-        → is_restless (cell_on map.now) (L.level levels.now) p ≡ true
-        → has found.items p ≡ true) }
-{
-    let all = places.all(alloc)?;
-    restless_among(alloc, map, levels, all.as_slice())
-}
-
-// Those at these positions.
-fn restless_among<L: Leveled>(
-    alloc: Global,
-    map: &Frozen<'_>,
-    levels: &L,
-    positions: &[Pos],
-) -> Result<Vec<Pos>, AllocError>
-    ensures { IfOk result (λ found. found.items
-        ≡ filter (is_restless (cell_on map.now) (L.level levels.now)) positions.now) }
-{
-    let mut found = Vec::new(alloc);
-    for p in positions {
-        if is_restless(map, levels, *p) {
-            found.push(*p)?;
-        }
-    }
-    Ok(found)
 }
 
 // Whether two cells show the same.

@@ -111,7 +111,9 @@ fn parted(
     let mut all_changes = Vec::new(alloc);
     let mut all_moves = Vec::new(alloc);
     for piece in found {
-        let Found { changes, mut moves } = piece;
+        let Found {
+            changes, mut moves, ..
+        } = piece;
         all_changes.push(changes)?;
         all_moves.append(&mut moves)?;
     }

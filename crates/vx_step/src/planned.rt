@@ -1,4 +1,7 @@
+ghost use Rattle.std.specs.Prelude.{◌≡◌, []};
+
 use crate::fate::Fate;
+use std::alloc::Global;
 use vx_block::Cell;
 use vx_geom::Pos;
 
@@ -10,4 +13,17 @@ pub struct Plan {
     pub puts: Vec<(Pos, Cell)>,
     /// The fates of the moves, each beside the position of its piston, in the order of positions.
     pub fates: Vec<(Pos, Fate)>,
+}
+
+impl Plan {
+    /// A tick that does nothing. It takes no memory.
+    pub fn nothing(alloc: Global) -> Plan
+        ensures puts { result.puts.items ≡ [] }
+        ensures fates { result.fates.items ≡ [] }
+    {
+        Plan {
+            puts: Vec::new(alloc),
+            fates: Vec::new(alloc),
+        }
+    }
 }

@@ -5,10 +5,12 @@ ghost use Rattle.vx_cells.specs.SectorCells.{is_chest};
 ghost use Rattle.vx_cells.specs.Wholes.{with_cells_on};
 ghost use Rattle.vx_geom.specs.Sizes.{sector_count};
 ghost use Rattle.vx_power.specs.Levels.{AreAllLevels};
+ghost use Rattle.vx_places.specs.Places.{is_at};
 ghost use Rattle.vx_step.specs.Leaving.{IsWorked};
+ghost use Rattle.vx_step.specs.Pieces.{restless_up_to};
 ghost use Rattle.vx_step.specs.Ticks.{changed_up_to, fates_on, stepped, AreMoves};
 ghost use Rattle.vx_wake.specs.Laws.{with_changed};
-ghost use Rattle.vx_wake.specs.Waking.{RestsBut};
+ghost use Rattle.vx_wake.specs.Waking.{IsSettled, RestsBut};
 
 use crate::effects::put_down;
 use crate::ending::fates;
@@ -18,9 +20,12 @@ use crate::next_parts::NextParts;
 use crate::planned::Plan;
 use crate::worked::Worked;
 use std::alloc::{AllocError, Global};
+use vx_block::Cell;
 use vx_cells::Frozen;
 use vx_decide::Plain;
 use vx_geom::Pos;
+use vx_piston::Move;
+use vx_places::Places;
 use vx_policy::Version;
 use vx_power::{Leveled, all_levels};
 use vx_wake::{Settling, Waking, unsettled};
@@ -34,13 +39,13 @@ pub fn plan(alloc: Global, map: &Frozen<'_>, version: &Version) -> Result<Plan, 
     ensures chests { IfOk result (λ plan. All (λ put. is_chest put.1 ≡ false) plan.puts.items) }
 {
     let levels = all_levels(alloc, map)?;
-    let found = Found::on(alloc, map, &levels)?;
-    let done = worked(alloc, map, version, &levels, found)?;
+    let Found { changes, moves, .. } = Found::on(alloc, map, &levels)?;
+    let done = worked(alloc, map, version, &levels, changes, moves.as_slice())?;
     planned(done)
 }
 
 /// The same of a map that rests but for what is told and what was written since, and where the next
-/// tick has to look. It costs what has changed.
+/// tick has to look. It costs what has changed, and no more than a look at all components.
 pub fn plan_woken(
     alloc: Global,
     map: &Frozen<'_>,
@@ -59,34 +64,112 @@ pub fn plan_woken(
         RestsBut (stepped version.now.policy map.now) done.1) }
 {
     map.filling();
-    let places = unsettled(alloc, map, waking, written)?;
-    let levels = Settling::on(alloc, map, &places)?;
-    let found = Found::among(alloc, map, &levels, &places)?;
-    let done = worked(alloc, map, version, &levels, found)?;
-    let next = left(alloc, map, &levels, &places, &done.changes, &done.moved)?;
-    Ok((planned(done)?, next))
+    if waking.is_nothing() && written.is_empty() {
+        return Ok((Plan::nothing(alloc), Waking::nothing(alloc)));
+    }
+    match unsettled(alloc, map, waking, written)? {
+        Some(places) => plan_among(alloc, map, version, &places),
+        None => plan_all(alloc, map, version),
+    }
 }
 
-// What a tick does that found this.
-fn worked<L: Leveled>(
+// The same of a map that rests outside these places.
+fn plan_among(
+    alloc: Global,
+    map: &Frozen<'_>,
+    version: &Version,
+    places: &Places,
+) -> Result<(Plan, Waking), AllocError>
+    requires sizes { places.now.sizes ≡ map.now.sizes }
+    requires settled { IsSettled map.now (is_at places.now) }
+    ensures puts { IfOk result (λ done.
+        stepped version.now.policy map.now ≡ with_cells_on map.now done.0.puts.items) }
+    ensures fates { IfOk result (λ done.
+        done.0.fates.items ≡ fates_on version.now.policy map.now) }
+    ensures chests { IfOk result (λ done.
+        All (λ put. is_chest put.1 ≡ false) done.0.puts.items) }
+    ensures waking { IfOk result (λ done.
+        RestsBut (stepped version.now.policy map.now) done.1) }
+{
+    let levels = Settling::on(alloc, map, places)?;
+    let found = Found::among(alloc, map, &levels, places)?;
+    finished(alloc, map, version, &levels, found)
+}
+
+// The same of a map of which nothing is known.
+fn plan_all(
+    alloc: Global,
+    map: &Frozen<'_>,
+    version: &Version,
+) -> Result<(Plan, Waking), AllocError>
+    ensures puts { IfOk result (λ done.
+        stepped version.now.policy map.now ≡ with_cells_on map.now done.0.puts.items) }
+    ensures fates { IfOk result (λ done.
+        done.0.fates.items ≡ fates_on version.now.policy map.now) }
+    ensures chests { IfOk result (λ done.
+        All (λ put. is_chest put.1 ≡ false) done.0.puts.items) }
+    ensures waking { IfOk result (λ done.
+        RestsBut (stepped version.now.policy map.now) done.1) }
+{
+    let levels = all_levels(alloc, map)?;
+    let found = Found::on(alloc, map, &levels)?;
+    finished(alloc, map, version, &levels, found)
+}
+
+// What a tick does that found this, and where the next one has to look.
+fn finished<L: Leveled>(
     alloc: Global,
     map: &Frozen<'_>,
     version: &Version,
     levels: &L,
     found: Found,
-) -> Result<Worked, AllocError>
+) -> Result<(Plan, Waking), AllocError>
     requires levels { AreAllLevels map.now (L.level levels.now) }
     requires changes { found.changes.items ≡ changed_up_to map.now (sector_count map.now.sizes) }
+    requires restless { found.restless.items
+        ≡ restless_up_to map.now (sector_count map.now.sizes) }
     requires moves { AreMoves map.now found.moves.items }
+    ensures puts { IfOk result (λ done.
+        stepped version.now.policy map.now ≡ with_cells_on map.now done.0.puts.items) }
+    ensures fates { IfOk result (λ done.
+        done.0.fates.items ≡ fates_on version.now.policy map.now) }
+    ensures chests { IfOk result (λ done.
+        All (λ put. is_chest put.1 ≡ false) done.0.puts.items) }
+    ensures waking { IfOk result (λ done.
+        RestsBut (stepped version.now.policy map.now) done.1) }
+{
+    map.soundness();
+    map.filling();
+    let Found {
+        changes,
+        restless,
+        moves,
+    } = found;
+    let done = worked(alloc, map, version, levels, changes, moves.as_slice())?;
+    let next = left(alloc, map, &done.changes, &done.moved, restless.as_slice())?;
+    Ok((planned(done)?, next))
+}
+
+// What a tick does that found these changes, and that these moves are asked for.
+fn worked<L: Leveled>(
+    alloc: Global,
+    map: &Frozen<'_>,
+    version: &Version,
+    levels: &L,
+    changes: Vec<(Pos, Cell)>,
+    moves: &[Move],
+) -> Result<Worked, AllocError>
+    requires levels { AreAllLevels map.now (L.level levels.now) }
+    requires changes { changes.items ≡ changed_up_to map.now (sector_count map.now.sizes) }
+    requires moves { AreMoves map.now moves.now }
     ensures { IfOk result (λ done. IsWorked version.now.policy map.now done.changes.items
         done.moved.items done.fates.items) }
 {
     map.filling();
-    let Found { changes, moves } = found;
     let policy = Plain::new(version.policy.regions());
-    let fates = fates(alloc, &policy, moves.as_slice())?;
+    let fates = fates(alloc, &policy, moves)?;
     let next = NextParts { map, levels };
-    let moved = put_down(alloc, &next, moves.as_slice(), fates.as_slice())?;
+    let moved = put_down(alloc, &next, moves, fates.as_slice())?;
     Ok(Worked {
         changes,
         moved,

@@ -1,5 +1,5 @@
 //! The places of a map at which a tick has to look.
-ghost use Rattle.std.specs.Prelude.{◌≡◌, ◌≤◌, ◌&&◌, ◌||◌, ◌++◌, true, IfOk, OnOk};
+ghost use Rattle.std.specs.Prelude.{◌≡◌, ◌≤◌, ◌&&◌, ◌||◌, ◌++◌, true, IfOk, IfSome, OnOk};
 ghost use Rattle.std.specs.List.{list_any};
 ghost use Rattle.vx_cells.specs.Maps.{cell_on};
 ghost use Rattle.vx_geom.specs.declared.pos.Pos.{Pos};
@@ -30,15 +30,16 @@ pub fn unsettled(
     map: &Frozen<'_>,
     waking: &Waking,
     written: &[Pos],
-) -> Result<Places, AllocError>
+) -> Result<Option<Places>, AllocError>
     requires { RestsBut map.now (with_changed waking.now written.now) }
-    ensures sizes { IfOk result (λ places. places.sizes ≡ map.now.sizes) }
-    ensures settled { IfOk result (λ places. IsSettled map.now (is_at places)) }
+    ensures sizes { IfOk result (λ found. IfSome found (λ places. places.sizes ≡ map.now.sizes)) }
+    ensures settled { IfOk result (λ found.
+        IfSome found (λ places. IsSettled map.now (is_at places))) }
 {
     let changed = joined(alloc, &waking.changed, written)?;
     let mut places = woken(alloc, map, changed.as_slice())?;
     places.mark_all(alloc, waking.besides.as_slice())?;
-    Ok(places)
+    Ok(Some(places))
 }
 
 // The first of these positions, and then the others.

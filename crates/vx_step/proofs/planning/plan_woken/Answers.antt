@@ -1,33 +1,32 @@
-use Rattle.std.proofs.Common.{◌++◌, ap, ◌∙◌}
-use Rattle.vx_cells.specs.Maps.{cell_on}
-use Rattle.vx_piston.specs.Moves.{is_restless}
-use Rattle.vx_places.specs.Places.{is_at}
-use Rattle.vx_power.specs.Laws.{dust_level}
-use Rattle.vx_power.specs.Levels.{has}
-use Rattle.vx_step.specs.Leaving.{shown_changes, hidden_changes, places_of}
+use Rattle.std.proofs.Common.{◌≡◌, List, [], length, sym, ◌∙◌}
+use Rattle.std.proofs.lemmas.Bool.{eqb-true}
+use Rattle.vx_geom.specs.declared.pos.Pos.{Pos}
+use Rattle.vx_cells.specs.Maps.{MapData}
+use Rattle.vx_wake.specs.Waking.{Rests}
+use Rattle.vx_step.proofs.Nothing.{all_rests, none_listed, nothing_worked, rests_still}
 use Rattle.vx_step.proofs.Plans.{all_puts}
-use Rattle.vx_step.proofs.Remaining.{rests_after}
 use Rattle.vx_step.proofs.planning.plan_woken.Goals as goal
+use Rattle.vx_step.proofs.planning.plan_woken.Goals.{Then-is_empty}
 
-pub returns-clause-puts : goal.returns-clause-puts
-returns-clause-puts c =
-    let done = c.in_ok-done.done in
-    all_puts c.args.version.now.policy c.args.map.now done.changes.items done.moved.items
-    c.in_ok-planned.field-0.puts.items done.fates.items c.in_ok-done.ensures c.in_ok-planned.ensures.puts
+-- where nothing is told and nothing was written, everything rests
+rests : (c : Then-is_empty) → (p : Pos) → Rests c.args.map.now p
+rests c =
+    all_rests c.args.map.now c.args.waking.now c.args.written.now (c.is_nothing.ensures c.if-is_nothing.true)
+    (none_listed c.args.written.now (eqb-true _ 0 (sym c.is_empty.ensures ∙ c.if-is_empty.true))) c.requires
 
-pub returns-clause-waking : goal.returns-clause-waking
-returns-clause-waking c =
+pub returns-then-is_empty-clause-puts : goal.returns-then-is_empty-clause-puts
+returns-then-is_empty-clause-puts c =
     let m = c.args.map.now in
-    let w = cell_on m in
-    let done = c.in_ok-done.done in
-    let next = c.in_ok-next.next in
-    let changes = c.deref.ensures.value in
-    let moved = c.deref-2.ensures.value in
-    rests_after c.args.version.now.policy m done.changes.items done.moved.items done.fates.items
-    c.filling.ensures c.in_ok-done.ensures (is_at c.in_ok-places.places) c.in_ok-places.ensures.settled
-    next.changed next.besides
-    (c.in_ok-next.ensures.changed ∙ (λ i. shown_changes w (changes i) ++ places_of (moved i)))
-    (λ p is. c.in_ok-next.ensures.hidden p (ap (λ xs. has (hidden_changes w xs) p) changes ∙ is))
-    (λ p there restless.
-    c.in_ok-next.ensures.restless p there
-    (ap (λ n. is_restless w (dust_level (cell_on n)) p) c.in_ok-levels.ensures ∙ restless))
+    let rs = c.args.version.now.policy in
+    all_puts rs m [] [] c.nothing.result.puts.items [] (nothing_worked m (rests c) rs c.filling.ensures)
+    c.nothing.ensures.puts
+
+pub returns-then-is_empty-clause-fates : goal.returns-then-is_empty-clause-fates
+returns-then-is_empty-clause-fates c =
+    let m = c.args.map.now in
+    c.nothing.ensures.fates ∙ (nothing_worked m (rests c) c.args.version.now.policy c.filling.ensures).told
+
+pub returns-then-is_empty-clause-waking : goal.returns-then-is_empty-clause-waking
+returns-then-is_empty-clause-waking c =
+    rests_still c.args.map.now c.args.version.now.policy c.nothing-then-is_empty.result c.filling.ensures
+    c.nothing-then-is_empty.ensures (rests c)

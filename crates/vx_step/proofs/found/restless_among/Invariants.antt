@@ -2,7 +2,7 @@ use Rattle.std.proofs.Common.{◌≡◌, ◌++◌, drop}
 use Rattle.std.specs.List.{filter}
 use Rattle.vx_cells.specs.Maps.{cell_on}
 use Rattle.vx_piston.specs.Moves.{is_restless}
-use Rattle.vx_step.proofs.leaving.restless_among.Given as goal
+use Rattle.vx_step.proofs.found.restless_among.Given as goal
 
 -- those that were found, and those among what is left
 abbrev pub invariant-loop-p : goal.invariant-loop-p

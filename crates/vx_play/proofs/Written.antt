@@ -1,0 +1,88 @@
+-- What the commands of the windows leave as it was.
+use Rattle.std.proofs.Common.{◌≡◌, ◌≢◌, ◌⊎◌, ℕ, true, false, List, [], ◌∷◌, length, map, slice_get, Option, Some, None, option_map, refl, sym, ap, ◌∙◌, subst, inl, inr, arith}
+use Rattle.std.specs.List.{All}
+use Rattle.std.proofs.lemmas.Option.{slice_get-map}
+use Rattle.vx_geom.specs.declared.pos.Pos.{Pos}
+use Rattle.vx_geom.specs.Sizes.{Sizes, AreSizes, sector_of}
+use Rattle.vx_cells.specs.SectorCells.{SectorCells, holds, block_at, cell_at, with_block}
+use Rattle.vx_cells.specs.Maps.{AreSectors, MapData, cell_in, cell_on, sector_at}
+use Rattle.vx_cells.proofs.CellLaws.{other_blocks_stay}
+use Rattle.vx_cells.proofs.Copying.{held_too}
+use Rattle.vx_cells.proofs.MapLemmas.{placed_at}
+use Rattle.vx_cells.proofs.Placed.{holds_found}
+use Rattle.vx_sector.specs.Commands.{place_of}
+use Rattle.vx_sector.specs.SectorData.{SectorData, EntryData}
+use Rattle.vx_sector.specs.Windows.{cells_after, HoldsPlaces}
+use Rattle.vx_sector.proofs.Catching.{copied_at, caught_up, places_too, with_bounds, with_sector}
+use Rattle.vx_sector.proofs.Keeping.{cases_place}
+use Rattle.vx_play.specs.Games.{base_of}
+use Rattle.vx_play.specs.Plays.{cells_of}
+use Rattle.vx_play.specs.Writing.{IsSpared, AreSpared, map_before}
+use Rattle.vx_play.proofs.Playing.{of_found}
+
+-- p is the place of none of these entries
+abbrev AreElsewhere : Pos → List EntryData → Type 0
+AreElsewhere p [] = Unit {0}
+AreElsewhere p (entry ∷ entries) = (p ≢ place_of entry.cmd) × AreElsewhere p entries
+
+-- at p the cells are as the base is, or it is no place of an entry
+found_place : (p : Pos) (base cells : SectorCells) (entries : List EntryData) → AreSpared p base cells entries
+    → (cell_at cells p ≡ cell_at base p) ⊎ AreElsewhere p entries
+found_place p base cells [] spared = inr tt
+found_place p base cells (entry ∷ entries) spared = elim (cases_place p (place_of entry.cmd)) [
+  | inl same ↦ inl (spared.0 (sym same))
+  | inr other ↦ elim (found_place p base cells entries spared.1) [
+    | inl is ↦ inl is
+    | inr elsewhere ↦ inr (other, elsewhere)
+  ]
+]
+
+-- what is put down at the places of entries leaves other positions
+others_left : (p : Pos) (base cells : SectorCells) (entries : List EntryData) → AreSizes base.bounds
+    → holds base p ≡ true → HoldsPlaces base entries → AreElsewhere p entries
+    → block_at (copied_at base cells entries) p ≡ block_at base p
+others_left p base cells [] sizes at_p held elsewhere = refl
+others_left p base cells (entry ∷ entries) sizes at_p held elsewhere =
+    let q = place_of entry.cmd in
+    let next = with_block base q (block_at cells q) in
+    let bounds = with_bounds base q (block_at cells q) in
+    let sector = with_sector base q (block_at cells q) in
+    others_left p next cells entries (subst AreSizes (sym bounds) sizes)
+    (held_too base next p bounds sector at_p) (places_too base next entries bounds sector held.1) elsewhere.1
+    ∙ other_blocks_stay base q p (block_at cells q) sizes held.0 at_p elsewhere.0
+
+-- so where no entry has left another cell the cells of a window are as it began
+pub spared : (p : Pos) (base cells : SectorCells) (entries : List EntryData) → cells ≡ cells_after base entries
+    → AreSizes base.bounds → holds base p ≡ true → HoldsPlaces base entries → AreSpared p base cells entries
+    → cell_at cells p ≡ cell_at base p
+spared p base cells entries after sizes at_p held each = elim (found_place p base cells entries each) [
+  | inl is ↦ is
+  | inr elsewhere ↦
+      ap (λ (c : SectorCells). cell_at c p) (after ∙ sym (caught_up base entries))
+      ∙ ap (λ b. b.cell) (others_left p base (cells_after base entries) entries sizes at_p held elsewhere)
+]
+
+module _ (v : Sizes) (p : Pos) (sectors : List SectorData) (whole : AreSectors v (map cells_of sectors))
+    (all : All (IsSpared p) sectors) where
+  in_sector : (k : ℕ) → sector_of v p ≡ Some k → (o : Option SectorData) → slice_get sectors k ≡ o
+      → cell_in (option_map cells_of o) p ≡ cell_in (option_map base_of o) p
+  in_sector k at None found = refl
+  in_sector k at (Some s) found =
+      let cells = slice_get-map cells_of sectors k ∙ ap (option_map cells_of) found in
+      let placed = placed_at v 0 k (map cells_of sectors) s.cells whole.each cells in
+      of_found (IsSpared p) sectors k s all found
+      (holds_found s.cells p k (ap (λ w. sector_of w p) placed.0 ∙ at) (omega (arith, placed.1)))
+
+  by_number : (o : Option ℕ) → sector_of v p ≡ o
+      → cell_in (sector_at (map cells_of sectors) o) p ≡ cell_in (sector_at (map base_of sectors) o) p
+  by_number None at = refl
+  by_number (Some k) at =
+      ap (λ o. cell_in o p) (slice_get-map cells_of sectors k)
+      ∙ in_sector k at (slice_get sectors k) refl
+      ∙ sym (ap (λ o. cell_in o p) (slice_get-map base_of sectors k))
+
+  -- what no command has changed stands on the map as it did when the windows began
+  pub map_spared : cell_on (record { sizes = v; sectors = map cells_of sectors }) p
+      ≡ cell_on (map_before v sectors) p
+  unfolding cell_on
+  map_spared = by_number (sector_of v p) refl

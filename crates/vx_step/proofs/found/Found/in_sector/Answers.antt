@@ -1,0 +1,29 @@
+use Rattle.std.proofs.Common.{ap, ◌∙◌}
+use Rattle.std.specs.List.{filter}
+use Rattle.vx_block.specs.Components.{is_device}
+use Rattle.vx_cells.specs.Listed.{devices_on}
+use Rattle.vx_cells.specs.Maps.{cell_on}
+use Rattle.vx_geom.specs.Places.{positions}
+use Rattle.vx_piston.specs.Moves.{is_restless}
+use Rattle.vx_power.specs.Levels.{level_in}
+use Rattle.vx_step.specs.Ticks.{asked}
+use Rattle.vx_step.proofs.Asking.{all_asked, asked_exact}
+use Rattle.vx_step.proofs.Resting.{devices_restless, restless_ask}
+use Rattle.vx_step.proofs.found.Found.in_sector.Goals as goal
+
+pub returns-clause-restless : goal.returns-clause-restless
+returns-clause-restless c =
+    c.in_ok-restless.ensures
+    ∙ devices_restless c.args.map.now (level_in c.args.levels.now) c.args.sector _
+    c.requires.levels (c.as_slice.ensures.value ∙ c.in_ok-devices.ensures)
+
+pub returns-clause-moves : goal.returns-clause-moves
+returns-clause-moves c =
+    let m = c.args.map.now in
+    let level = level_in c.args.levels.now in
+    c.in_ok-moves.ensures
+    ∙ ap (asked m level) (c.as_slice-2.ensures.value ∙ c.in_ok-restless.ensures)
+    ∙ restless_ask m level c.as_slice.result.now
+    ∙ all_asked m level c.args.sector c.as_slice.result.now c.in_ok-devices.devices.items
+    c.as_slice.ensures.value c.in_ok-devices.ensures
+    ∙ asked_exact m level (positions m.sizes c.args.sector) c.requires.levels

@@ -1,10 +1,13 @@
 -- Positions that are added one group after another.
 use Rattle.std.proofs.Common.{◌≡◌, ℕ, ◌+◌, ◌<◌, ◌≤◌, Bool, true, false, ◌&&◌, ◌||◌, nat_eq, nat_lt, inl, inr, refl, ap, sym, ◌∙◌, arith}
-use Rattle.std.proofs.lemmas.Bool.{cases_Bool, cases_order, and_left, and_right, or_left, or_right, or_from, eq-eqb, ne_eqb, lt-ltb, le-ltb}
+use Rattle.std.proofs.lemmas.Bool.{cases_Bool, cases_order, and_from, and_left, and_right, or_left, or_right, or_from, eq-eqb, ne_eqb, lt-ltb, le-ltb}
 use Rattle.vx_geom.specs.declared.pos.Pos.{Pos}
 use Rattle.vx_geom.specs.Sizes.{is_inside}
-use Rattle.vx_places.specs.Around.{at_number, below_number, Adds}
-use Rattle.vx_places.specs.Places.{PlacesData, is_at}
+use Rattle.vx_block.specs.declared.cell.Cell.{Cell}
+use Rattle.vx_block.specs.Components.{is_component}
+use Rattle.vx_places.specs.Around.{is_component_at, at_number, below_number, Adds}
+use Rattle.vx_places.specs.Places.{PlacesData, is_at, steps_between}
+use Rattle.vx_places.proofs.Steps.{place_is}
 
 joined : (o i f g h : Bool) → (i ≡ true → (f || g) ≡ h) → ((o || (i && f)) || (i && g)) ≡ (o || (i && h))
 joined true i f g h both = refl
@@ -46,6 +49,28 @@ adds_none h a none = record {
   sizes = refl;
   marked = λ p. nothing (is_at a p) (is_inside a.sizes p) (h p) (none p);
 }
+
+-- a position that is added is added as one where a component stands
+pub component_added : (w : Pos → Cell) (p : Pos) (a b : PlacesData) → is_component (w p) ≡ true
+    → Adds (λ q. nat_eq (steps_between p q) 0) a b → Adds (is_component_at w p) a b
+component_added w p a b stands one =
+    adds_same (λ q. nat_eq (steps_between p q) 0) (is_component_at w p) a b one
+    (λ q _. elim (cases_Bool (nat_eq (steps_between p q) 0)) [
+      | inl is ↦
+          is ∙ sym (and_from _ _ is (ap (λ r. is_component (w r)) (sym (place_is p q is)) ∙ stands))
+      | inr apart ↦ apart ∙ sym (and_left _ (is_component (w q)) apart)
+    ])
+
+-- where none stands nothing is added
+pub others_left : (w : Pos → Cell) (p : Pos) (a : PlacesData) → is_component (w p) ≡ false
+    → Adds (is_component_at w p) a a
+others_left w p a none =
+    adds_none (is_component_at w p) a
+    (λ q _. elim (cases_Bool (nat_eq (steps_between p q) 0)) [
+      | inl is ↦
+          and_right _ _ (ap (λ r. is_component (w r)) (sym (place_is p q is)) ∙ none)
+      | inr apart ↦ and_left _ (is_component (w q)) apart
+    ])
 
 one_further : (t : Bool) (m n : ℕ) → ((t && nat_lt m n) || (t && nat_eq m n)) ≡ (t && nat_lt m (n + 1))
 one_further false m n = refl

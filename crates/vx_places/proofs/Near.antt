@@ -7,7 +7,9 @@ use Rattle.vx_geom.specs.declared.pos.Pos.{Pos}
 use Rattle.vx_geom.specs.Sizes.{Sizes, height, span, is_inside}
 use Rattle.vx_geom.proofs.Positions.{same_pos}
 use Rattle.vx_geom.proofs.SectorLemmas.{inside_at}
-use Rattle.vx_places.specs.Around.{is_around, layer_of, row_of, column_of, at_number, least_within, end_within}
+use Rattle.vx_block.specs.declared.cell.Cell.{Cell}
+use Rattle.vx_block.specs.Components.{is_component}
+use Rattle.vx_places.specs.Around.{is_around, is_component_around, is_component_at, layer_of, row_of, column_of, at_number, least_within, end_within}
 use Rattle.vx_places.specs.Places.{steps_between}
 use Rattle.vx_places.proofs.Steps.{is_place, place_is}
 
@@ -42,14 +44,14 @@ module _ (c : ℤ) (steps count n : ℕ) where
     | inr over ↦ omega (arith, ints, over, rw over at least, rw over at low)
   ]
 
--- the positions of the world around a position
-module _ (v : Sizes) (p : Pos) (steps : ℕ) (q : Pos) (inside : is_inside v q ≡ true) where
+-- the components of a world around a position
+module _ (w : Pos → Cell) (v : Sizes) (p : Pos) (steps : ℕ) (q : Pos) (inside : is_inside v q ≡ true) where
   -- lie in layers within so many steps
-  pub near_layer : is_around p steps q ≡ true
+  pub near_layer : is_component_around w p steps q ≡ true
       → (least_within p.y steps height ≤ layer_of q) × (layer_of q < end_within p.y steps height)
   near_layer around =
       let at = inside_at v q inside in
-      let all = leb-true (steps_between p q) steps around in
+      let all = leb-true (steps_between p q) steps (and_parts (is_around p steps q) _ around).0 in
       let in_y = ap (λ n. unsigned_abs (p.y -ℤ n)) at.y_is in
       let near : unsigned_abs (p.y -ℤ pos (layer_of q)) ≤ steps = omega (arith, all, in_y) in (
         least_near p.y steps height (layer_of q) at.y_below near,
@@ -59,12 +61,12 @@ module _ (v : Sizes) (p : Pos) (steps : ℕ) (q : Pos) (inside : is_inside v q �
   module _ (y : ℕ) where
     -- those of a layer in rows within the steps that are left
     pub near_row : (left count : ℕ) → left + unsigned_abs (p.y -ℤ pos y) ≡ steps → count ≡ v.sz * span v
-        → at_number layer_of (is_around p steps) y q ≡ true
+        → at_number layer_of (is_component_around w p steps) y q ≡ true
         → (least_within p.z left count ≤ row_of q) × (row_of q < end_within p.z left count)
     near_row left count rest many around =
         let at = inside_at v q inside in
         let parts = and_parts _ _ around in
-        let all = leb-true (steps_between p q) steps parts.0 in
+        let all = leb-true (steps_between p q) steps (and_parts (is_around p steps q) _ parts.0).0 in
         let in_y = ap (λ n. unsigned_abs (p.y -ℤ n)) (at.y_is ∙ ap pos (eqb-true (layer_of q) y parts.1)) in
         let in_z = ap (λ n. unsigned_abs (p.z -ℤ n)) at.z_is in
         let near : unsigned_abs (p.z -ℤ pos (row_of q)) ≤ left = omega (arith, all, in_y, in_z, rest) in
@@ -76,13 +78,13 @@ module _ (v : Sizes) (p : Pos) (steps : ℕ) (q : Pos) (inside : is_inside v q �
     module _ (z left : ℕ) (rest : left + (unsigned_abs (p.y -ℤ pos y) + unsigned_abs (p.z -ℤ pos z)) ≡ steps) where
       -- those of a row in columns within the steps that are left then
       pub near_column : (count : ℕ) → count ≡ v.sx * span v
-          → at_number row_of (at_number layer_of (is_around p steps) y) z q ≡ true
+          → at_number row_of (at_number layer_of (is_component_around w p steps) y) z q ≡ true
           → (least_within p.x left count ≤ column_of q) × (column_of q < end_within p.x left count)
       near_column count many around =
           let at = inside_at v q inside in
           let both = and_parts _ _ around in
           let parts = and_parts _ _ both.0 in
-          let all = leb-true (steps_between p q) steps parts.0 in
+          let all = leb-true (steps_between p q) steps (and_parts (is_around p steps q) _ parts.0).0 in
           let in_y = ap (λ n. unsigned_abs (p.y -ℤ n)) (at.y_is ∙ ap pos (eqb-true (layer_of q) y parts.1)) in
           let in_z = ap (λ n. unsigned_abs (p.z -ℤ n)) (at.z_is ∙ ap pos (eqb-true (row_of q) z both.1)) in
           let in_x = ap (λ n. unsigned_abs (p.x -ℤ n)) at.x_is in
@@ -94,30 +96,35 @@ module _ (v : Sizes) (p : Pos) (steps : ℕ) (q : Pos) (inside : is_inside v q �
 
       -- and in a column of them there is one
       pub one_column : (x : ℕ) → unsigned_abs (p.x -ℤ pos x) ≤ left
-          → nat_eq (steps_between (record { y = pos y; z = pos z; x = pos x }) q) 0
-          ≡ at_number column_of (at_number row_of (at_number layer_of (is_around p steps) y) z) x q
+          → is_component_at w (record { y = pos y; z = pos z; x = pos x }) q
+          ≡ at_number column_of (at_number row_of (at_number layer_of (is_component_around w p steps) y) z) x q
       one_column x near =
           let at = inside_at v q inside in
           let r : Pos = record { y = pos y; z = pos z; x = pos x } in
-          let row = at_number row_of (at_number layer_of (is_around p steps) y) z q in
-          let layer = at_number layer_of (is_around p steps) y q in
-          elim (cases_Bool (nat_eq (steps_between r q) 0)) [
+          let row = at_number row_of (at_number layer_of (is_component_around w p steps) y) z q in
+          let layer = at_number layer_of (is_component_around w p steps) y q in
+          let component = is_component (w q) in
+          elim (cases_Bool (is_component_at w r q)) [
             | inl is ↦
-                let same = place_is r q is in
+                let both = and_parts (nat_eq (steps_between r q) 0) component is in
+                let same = place_is r q both.0 in
                 let around : is_around p steps q ≡ true =
                 ap (is_around p steps) (sym same) ∙ le-leb (steps_between p r) steps (omega (arith, near, rest)) in
                 is ∙ sym (and_from row _
                 (and_from layer _
-                (and_from (is_around p steps q) _ around (eq-eqb (layer_of q) y (ap layer_of (sym same))))
+                (and_from (is_component_around w p steps q) _
+                (and_from (is_around p steps q) component around both.1)
+                (eq-eqb (layer_of q) y (ap layer_of (sym same))))
                 (eq-eqb (row_of q) z (ap row_of (sym same))))
                 (eq-eqb (column_of q) x (ap column_of (sym same))))
             | inr apart ↦ apart ∙ sym (false_from_ne_true _ (λ all.
                 let in_row = and_parts row _ all in
                 let in_layer = and_parts layer _ in_row.0 in
-                let around = and_parts (is_around p steps q) _ in_layer.0 in
+                let around = and_parts (is_component_around w p steps q) _ in_layer.0 in
                 let same = same_pos r q
                 (ap pos (sym (eqb-true (layer_of q) y around.1)) ∙ sym at.y_is)
                 (ap pos (sym (eqb-true (row_of q) z in_layer.1)) ∙ sym at.z_is)
                 (ap pos (sym (eqb-true (column_of q) x in_row.1)) ∙ sym at.x_is) in
-                true≢false (sym (is_place r q same) ∙ apart)))
+                let stands = (and_parts (is_around p steps q) component around.0).1 in
+                true≢false (sym (and_from _ component (is_place r q same) stands) ∙ apart)))
           ]

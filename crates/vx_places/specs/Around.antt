@@ -2,11 +2,21 @@
 use Rattle.std.specs.Prelude.{◌≡◌, ℕ, ◌+◌, ◌-◌, min, Bool, ◌&&◌, ◌||◌, nat_eq, nat_lt, nat_le, if◌then◌else◌, ℤ, pos, int_lt, unsigned_abs}
 use Rattle.vx_geom.specs.declared.pos.Pos.{Pos}
 use Rattle.vx_geom.specs.Sizes.{is_inside}
+use Rattle.vx_block.specs.declared.cell.Cell.{Cell}
+use Rattle.vx_block.specs.Components.{is_component}
 use Rattle.vx_places.specs.Places.{PlacesData, is_at, steps_between}
 
 -- at most so many steps lead from one position to the other
 abbrev pub is_around : Pos → ℕ → Pos → Bool
 is_around p steps q = nat_le (steps_between p q) steps
+
+-- and a component of machines stands there
+abbrev pub is_component_around : (Pos → Cell) → Pos → ℕ → Pos → Bool
+is_component_around w p steps q = is_around p steps q && is_component (w q)
+
+-- it is this position, and a component stands there
+abbrev pub is_component_at : (Pos → Cell) → Pos → Pos → Bool
+is_component_at w p q = nat_eq (steps_between p q) 0 && is_component (w q)
 
 -- the numbers of a position's layer, row and column
 abbrev pub layer_of : Pos → ℕ

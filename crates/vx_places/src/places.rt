@@ -3,13 +3,16 @@ ghost use Rattle.std.specs.List.{filter, list_any};
 ghost use Rattle.vx_geom.specs.declared.pos.Pos.{Pos};
 ghost use Rattle.vx_geom.specs.Places.{positions};
 ghost use Rattle.vx_geom.specs.Sizes.{AreSizes, height, span, sector_count, sector_cells, is_inside};
-ghost use Rattle.vx_places.specs.Around.{is_around, at_number, layer_of, row_of, Adds};
+ghost use Rattle.vx_block.specs.Components.{is_component};
+ghost use Rattle.vx_cells.specs.Maps.{cell_on};
+ghost use Rattle.vx_places.specs.Around.{is_component_around, is_component_at, at_number, layer_of, row_of, Adds};
 ghost use Rattle.vx_places.specs.Places.{marked_in, is_at, steps_between, marked_places, HasRoom};
 
 use crate::around::{columns, end_within, least_within, rows, steps_along};
 use std::alloc::{AllocError, Global};
 use std::marker::Model;
-use vx_cells::Marks;
+use vx_block::Cell;
+use vx_cells::{Frozen, Marks};
 use vx_geom::{Bounds, Pos};
 
 // A world is so high.
@@ -105,37 +108,51 @@ impl Places {
         Ok(())
     }
 
-    /// Adds each position of the world to which at most so many steps lead from this one, which may
-    /// lie anywhere.
-    pub fn mark_around(&mut self, alloc: Global, p: Pos, steps: u8) -> Result<(), AllocError>
+    /// Adds each position of a map to which at most so many steps lead from this one, which may lie
+    /// anywhere, and at which a component of machines stands.
+    pub fn mark_around(
+        &mut self,
+        alloc: Global,
+        map: &Frozen<'_>,
+        p: Pos,
+        steps: u8,
+    ) -> Result<(), AllocError>
         requires { steps ≤ 8 }
         ensures sizes { self.new.sizes ≡ self.old.sizes }
         ensures marked { OnOk result ((q : Pos) → is_at self.new q
-            ≡ (is_at self.old q
-            || (is_inside self.old.sizes q && nat_le (steps_between p q) steps))) }
+            ≡ (is_at self.old q || (is_inside self.old.sizes q
+            && is_component_around (cell_on map.now) p steps q))) }
     {
         let steps = u32::from(steps);
         let first = least_within(p.y, steps, HEIGHT);
         for y in first..end_within(p.y, steps, HEIGHT) {
-            self.mark_layer(alloc, p, steps, y)?;
+            self.mark_layer(alloc, map, p, steps, y)?;
         }
         Ok(())
     }
 
     // Adds those of one layer alone.
-    fn mark_layer(&mut self, alloc: Global, p: Pos, steps: u32, y: u32) -> Result<(), AllocError>
+    fn mark_layer(
+        &mut self,
+        alloc: Global,
+        map: &Frozen<'_>,
+        p: Pos,
+        steps: u32,
+        y: u32,
+    ) -> Result<(), AllocError>
         requires few { steps ≤ 8 }
         requires low { y < height }
         requires near { unsigned_abs (p.y -ℤ pos y) ≤ steps }
         ensures sizes { self.new.sizes ≡ self.old.sizes }
-        ensures marked { OnOk result (Adds (at_number layer_of (is_around p steps) y)
+        ensures marked { OnOk result (Adds
+            (at_number layer_of (is_component_around (cell_on map.now) p steps) y)
             self.old self.new) }
     {
         let count = rows(self.bounds());
         let left = steps - steps_along(p.y, y);
         let first = least_within(p.z, left, count);
         for z in first..end_within(p.z, left, count) {
-            self.mark_row(alloc, p, steps, y, z)?;
+            self.mark_row(alloc, map, p, steps, y, z)?;
         }
         Ok(())
     }
@@ -144,6 +161,7 @@ impl Places {
     fn mark_row(
         &mut self,
         alloc: Global,
+        map: &Frozen<'_>,
         p: Pos,
         steps: u32,
         y: u32,
@@ -154,16 +172,29 @@ impl Places {
         requires north { z < 256 }
         requires near { unsigned_abs (p.y -ℤ pos y) + unsigned_abs (p.z -ℤ pos z) ≤ steps }
         ensures sizes { self.new.sizes ≡ self.old.sizes }
-        ensures marked { OnOk result (Adds
-            (at_number row_of (at_number layer_of (is_around p steps) y) z) self.old self.new) }
+        ensures marked { OnOk result (Adds (at_number row_of
+            (at_number layer_of (is_component_around (cell_on map.now) p steps) y) z)
+            self.old self.new) }
     {
         let count = columns(self.bounds());
         let left = steps - steps_along(p.y, y) - steps_along(p.z, z);
         let first = least_within(p.x, left, count);
         for x in first..end_within(p.x, left, count) {
-            self.mark(alloc, Pos::new(x as i32, y as i32, z as i32))?;
+            self.mark_component(alloc, map, Pos::new(x as i32, y as i32, z as i32))?;
         }
         Ok(())
+    }
+
+    // Adds a position, if a component of machines stands there.
+    fn mark_component(&mut self, alloc: Global, map: &Frozen<'_>, p: Pos) -> Result<(), AllocError>
+        ensures sizes { self.new.sizes ≡ self.old.sizes }
+        ensures marked { OnOk result
+            (Adds (is_component_at (cell_on map.now) p) self.old self.new) }
+    {
+        if !is_component(&map.cell(p)) {
+            return Ok(());
+        }
+        self.mark(alloc, p)
     }
 
     /// The positions of a sector, in order. A sector without any costs a look.
@@ -206,6 +237,13 @@ impl Places {
             _ => None,
         }
     }
+}
+
+// Whether a cell is a component of machines.
+fn is_component(cell: &Cell) -> bool
+    ensures { result ≡ is_component cell.now }
+{
+    cell.is_dust() || cell.is_device()
 }
 
 // So many sectors in which nothing is marked.

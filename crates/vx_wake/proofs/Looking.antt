@@ -11,12 +11,13 @@ use Rattle.vx_geom.specs.Dirs.{all_dirs}
 use Rattle.vx_geom.specs.Neighbor.{neighbor}
 use Rattle.vx_geom.specs.Places.{positions}
 use Rattle.vx_geom.specs.Sizes.{AreSizes, is_inside, sector_count, sector_number, sector_of}
-use Rattle.vx_block.specs.Components.{is_component, is_dust}
+use Rattle.vx_block.specs.declared.cell.Cell.{Cell}
+use Rattle.vx_block.specs.Components.{is_component, is_device, is_dust}
 use Rattle.vx_cells.specs.Listed.{components_on}
 use Rattle.vx_cells.specs.Maps.{MapData, cell_on}
 use Rattle.vx_cells.proofs.Indices.{numbered, number_below}
 use Rattle.vx_cells.proofs.MapLemmas.{outside_is_air}
-use Rattle.vx_places.specs.Around.{is_around}
+use Rattle.vx_places.specs.Around.{is_around, is_component_around}
 use Rattle.vx_places.specs.Places.{PlacesData, is_at, steps_between}
 use Rattle.vx_places.proofs.Steps.{no_steps, is_place, place_is, one_step_is_one_more}
 use Rattle.vx_power.specs.Dust.{links}
@@ -97,9 +98,18 @@ within_wider some more links wider (suc n) p is =
           (within_wider some more links wider n found.0 found.2))
     ]
 
--- dust that sees a change is seen where all positions around changes are
+-- and where a component stands it is one around the change
+component_around : (w : Pos → Cell) (n : ℕ) (changed : List Pos) (p : Pos) → is_component (w p) ≡ true
+    → list_any (has changed) (within_steps n p) ≡ true
+    → list_any (λ c. is_component_around w c n p) changed ≡ true
+component_around w n changed p stands is =
+    let found = any_at (λ c. is_around c n p) changed (change_around n changed p is) in
+    any_from (λ c. is_component_around w c n p) changed found.0 found.1
+    (and_from (is_around found.0 n p) (is_component (w p)) found.2 stands)
+
+-- dust that sees a change is seen where all components around changes are
 pub near_seen : (m : MapData) (changed seen : List Pos)
-    → ((p : Pos) → has seen p ≡ (is_inside m.sizes p && list_any (λ c. is_around c 2 p) changed))
+    → ((p : Pos) → has seen p ≡ (is_inside m.sizes p && list_any (λ c. is_component_around (cell_on m) c 2 p) changed))
     → (p : Pos) → is_near (cell_on m) (is_touched (has changed)) p ≡ true
     → is_near (cell_on m) (has seen) p ≡ true
 unfolding is_near
@@ -112,29 +122,35 @@ near_seen m changed seen sight p is =
     wider q both =
         let parts = and_parts (is_dust (cell_on m q)) (is_touched (has changed) q) both in
         and_from (is_dust (cell_on m q)) (has seen q) parts.0
-        (sight q ∙ and_from (is_inside m.sizes q) (list_any (λ c. is_around c 2 q) changed)
-        (dust_inside m q parts.0) (change_around 2 changed q parts.1))
+        (sight q
+        ∙ and_from (is_inside m.sizes q) (list_any (λ c. is_component_around (cell_on m) c 2 q) changed)
+        (dust_inside m q parts.0)
+        (component_around (cell_on m) 2 changed q
+        (or_left (is_dust (cell_on m q)) (is_device (cell_on m q)) parts.0) parts.1))
 
--- what changes wake is around one, or around dust near one
+-- a component that changes wake is around one, or around dust near one
 pub woken_around : (m : MapData) (changed seen near : List Pos)
-    → ((p : Pos) → has seen p ≡ (is_inside m.sizes p && list_any (λ c. is_around c 2 p) changed))
+    → ((p : Pos) → has seen p ≡ (is_inside m.sizes p && list_any (λ c. is_component_around (cell_on m) c 2 p) changed))
     → ((p : Pos) → has near p ≡ is_near (cell_on m) (has seen) p)
-    → (p : Pos) → is_woken (cell_on m) (has changed) p ≡ true
-    → (list_any (λ c. is_around c 4 p) changed || list_any (λ c. is_around c 2 p) near) ≡ true
+    → (p : Pos) → is_component (cell_on m p) ≡ true → is_woken (cell_on m) (has changed) p ≡ true
+    → (list_any (λ c. is_component_around (cell_on m) c 4 p) changed
+    || list_any (λ c. is_component_around (cell_on m) c 2 p) near) ≡ true
 unfolding is_woken
-woken_around m changed seen near sight found p is =
+woken_around m changed seen near sight found p stands is =
     elim (or_cases (list_any (has changed) (reads p))
     (list_any (is_near (cell_on m) (is_touched (has changed))) (sees p)) is) [
       | inl change ↦
-          or_left (list_any (λ c. is_around c 4 p) changed) (list_any (λ c. is_around c 2 p) near)
-          (change_around 4 changed p change)
+          or_left (list_any (λ c. is_component_around (cell_on m) c 4 p) changed)
+          (list_any (λ c. is_component_around (cell_on m) c 2 p) near)
+          (component_around (cell_on m) 4 changed p stands change)
       | inr dust ↦
           let at = any_at (is_near (cell_on m) (is_touched (has changed))) (sees p) dust in
           let q = at.0 in
-          or_right (list_any (λ c. is_around c 4 p) changed) (list_any (λ c. is_around c 2 p) near)
-          (any_from (λ c. is_around c 2 p) near q
+          or_right (list_any (λ c. is_component_around (cell_on m) c 4 p) changed)
+          (list_any (λ c. is_component_around (cell_on m) c 2 p) near)
+          (any_from (λ c. is_component_around (cell_on m) c 2 p) near q
           (has_at near q (found q ∙ near_seen m changed seen sight q at.2))
-          (seen_around 2 p q at.1))
+          (and_from (is_around q 2 p) (is_component (cell_on m p)) (seen_around 2 p q at.1) stands))
     ]
 
 -- a component stands in the world
@@ -172,45 +188,46 @@ both_marked true a b is = refl
 both_marked false true b is = refl
 both_marked false false b is = is
 
--- so what changes wake is marked, once what is around the changes is, and around dust near them
+-- so the components that changes wake are marked, once those around the changes are, and around dust
+-- near them
 pub woken_marked : (m : MapData) (changed seen near : List Pos) (old mid new : PlacesData)
-    → ((p : Pos) → has seen p ≡ (is_inside m.sizes p && list_any (λ c. is_around c 2 p) changed))
+    → ((p : Pos) → has seen p ≡ (is_inside m.sizes p && list_any (λ c. is_component_around (cell_on m) c 2 p) changed))
     → ((p : Pos) → has near p ≡ is_near (cell_on m) (has seen) p)
     → old.sizes ≡ m.sizes → mid.sizes ≡ m.sizes
     → ((p : Pos) → is_at mid p
-    ≡ (is_at old p || (is_inside old.sizes p && list_any (λ c. is_around c 4 p) changed)))
+    ≡ (is_at old p || (is_inside old.sizes p && list_any (λ c. is_component_around (cell_on m) c 4 p) changed)))
     → ((p : Pos) → is_at new p
-    ≡ (is_at mid p || (is_inside mid.sizes p && list_any (λ c. is_around c 2 p) near)))
-    → (p : Pos) → is_inside m.sizes p ≡ true → is_woken (cell_on m) (has changed) p ≡ true
+    ≡ (is_at mid p || (is_inside mid.sizes p && list_any (λ c. is_component_around (cell_on m) c 2 p) near)))
+    → (p : Pos) → is_component (cell_on m p) ≡ true → is_woken (cell_on m) (has changed) p ≡ true
     → is_at new p ≡ true
-woken_marked m changed seen near old mid new sight found old_sizes mid_sizes first second p inside is =
-    let a = list_any (λ c. is_around c 4 p) changed in
-    let b = list_any (λ c. is_around c 2 p) near in
+woken_marked m changed seen near old mid new sight found old_sizes mid_sizes first second p stands is =
+    let a = list_any (λ c. is_component_around (cell_on m) c 4 p) changed in
+    let b = list_any (λ c. is_component_around (cell_on m) c 2 p) near in
+    let inside = component_inside m p stands in
     second p
     ∙ (λ i. first p i || (is_inside (mid_sizes i) p && b))
     ∙ (λ i. (is_at old p || (is_inside (old_sizes i) p && a)) || (is_inside m.sizes p && b))
     ∙ (λ i. (is_at old p || (inside i && a)) || (inside i && b))
-    ∙ both_marked (is_at old p) a b (woken_around m changed seen near sight found p is)
+    ∙ both_marked (is_at old p) a b (woken_around m changed seen near sight found p stands is)
 
--- where what is woken is marked, and what is to be looked at besides, all else rests
+-- where the components that are woken are marked, and what is to be looked at besides, all else rests
 pub all_settled : (m : MapData) (waking : WakingData) (written all : List Pos)
     (some places : PlacesData) → RestsBut m (with_changed waking written)
     → all ≡ waking.changed ++ written → some.sizes ≡ m.sizes
-    → ((p : Pos) → is_inside m.sizes p ≡ true → is_woken (cell_on m) (has all) p ≡ true
+    → ((p : Pos) → is_component (cell_on m p) ≡ true → is_woken (cell_on m) (has all) p ≡ true
     → is_at some p ≡ true)
     → ((p : Pos) → is_at places p ≡ (is_at some p || (is_inside some.sizes p
     && list_any (λ q. nat_eq (steps_between q p) 0) waking.besides)))
     → IsSettled m (is_at places)
 all_settled m waking written all some places rests is sizes woken marked p away =
-    elim (cases_Bool (is_inside m.sizes p)) [
-      | inl inside ↦
+    elim (cases_Bool (is_component (cell_on m p))) [
+      | inl stands ↦
           let parts = or_parts (is_at some p)
           (is_inside some.sizes p && list_any (λ q. nat_eq (steps_between q p) 0) waking.besides)
           (sym (marked p) ∙ away) in
           rests p (asleep_from (cell_on m) (with_changed waking written) p
-          (besides inside parts.1) (still inside parts.0))
-      | inr outside ↦
-          others_rest m p (ap is_component (outside_is_air m p (λ i. false≢true (sym outside ∙ i))))
+          (besides (component_inside m p stands) parts.1) (still stands parts.0))
+      | inr other ↦ others_rest m p other
     ]
   where
     besides : is_inside m.sizes p ≡ true
@@ -222,11 +239,11 @@ all_settled m waking written all some places rests is sizes woken marked p away 
         && list_any (λ q. nat_eq (steps_between q p) 0) waking.besides)
         ∙ none
 
-    still : is_inside m.sizes p ≡ true → is_at some p ≡ false
+    still : is_component (cell_on m p) ≡ true → is_at some p ≡ false
         → is_woken (cell_on m) (has (waking.changed ++ written)) p ≡ false
-    still inside none = elim (cases_Bool (is_woken (cell_on m) (has (waking.changed ++ written)) p)) [
+    still stands none = elim (cases_Bool (is_woken (cell_on m) (has (waking.changed ++ written)) p)) [
       | inl awake ↦
-          absurd (false≢true (sym none ∙ woken p inside
+          absurd (false≢true (sym none ∙ woken p stands
           (ap (λ ps. is_woken (cell_on m) (has ps) p) is ∙ awake)))
       | inr asleep ↦ asleep
     ]

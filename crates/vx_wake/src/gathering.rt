@@ -1,10 +1,11 @@
 //! The places of a map at which a tick has to look.
-ghost use Rattle.std.specs.Prelude.{◌≡◌, ◌≤◌, ◌&&◌, ◌||◌, ◌++◌, true, IfOk, IfSome, OnOk};
+ghost use Rattle.std.specs.Prelude.{◌≡◌, ◌≤◌, ◌&&◌, ◌||◌, ◌++◌, true, IfOk, OnOk, IfSome};
 ghost use Rattle.std.specs.List.{list_any};
+ghost use Rattle.vx_block.specs.Components.{is_component};
 ghost use Rattle.vx_cells.specs.Maps.{cell_on};
 ghost use Rattle.vx_geom.specs.declared.pos.Pos.{Pos};
 ghost use Rattle.vx_geom.specs.Sizes.{is_inside};
-ghost use Rattle.vx_places.specs.Around.{is_around};
+ghost use Rattle.vx_places.specs.Around.{is_component_around};
 ghost use Rattle.vx_places.specs.Places.{is_at};
 ghost use Rattle.vx_power.specs.Levels.{has};
 ghost use Rattle.vx_wake.specs.Laws.{with_changed};
@@ -13,7 +14,7 @@ ghost use Rattle.vx_wake.specs.Waking.{IsSettled, RestsBut, is_woken};
 use crate::waking::Waking;
 use std::alloc::{AllocError, Global};
 use vx_cells::Frozen;
-use vx_geom::{Bounds, Pos};
+use vx_geom::Pos;
 use vx_places::Places;
 use vx_power::dust_near;
 
@@ -23,8 +24,15 @@ const CELLS_OFF: u8 = 4;
 // It reads levels that at most so many lead to, and so far dust sees cells.
 const LEVELS_OFF: u8 = 2;
 
+// So many changes are few, whatever the map has.
+const FEW: usize = 256;
+
+// What one change wakes costs about as much as so many words of marks.
+const WORDS_EACH: usize = 16;
+
 /// The places of a map outside which all rests, where it rests but for what is told, and but for
-/// what was written since. It costs what was changed and what that wakes.
+/// what was written since; none where so much was changed that to look at all components costs
+/// less. It costs what was changed and the components that it wakes.
 pub fn unsettled(
     alloc: Global,
     map: &Frozen<'_>,
@@ -32,14 +40,24 @@ pub fn unsettled(
     written: &[Pos],
 ) -> Result<Option<Places>, AllocError>
     requires { RestsBut map.now (with_changed waking.now written.now) }
-    ensures sizes { IfOk result (λ found. IfSome found (λ places. places.sizes ≡ map.now.sizes)) }
-    ensures settled { IfOk result (λ found.
-        IfSome found (λ places. IsSettled map.now (is_at places))) }
+    ensures sizes { IfOk result (λ found. IfSome found (λ places.
+        places.sizes ≡ map.now.sizes)) }
+    ensures settled { IfOk result (λ found. IfSome found (λ places.
+        IsSettled map.now (is_at places))) }
 {
     let changed = joined(alloc, &waking.changed, written)?;
+    if is_much(map, changed.len()) {
+        return Ok(None);
+    }
     let mut places = woken(alloc, map, changed.as_slice())?;
     places.mark_all(alloc, waking.besides.as_slice())?;
     Ok(Some(places))
+}
+
+// Whether so much was changed that to look at all components costs less than at what is woken.
+// Only costs rest on it.
+fn is_much(map: &Frozen<'_>, changed: usize) -> bool {
+    FEW < changed && map.component_words() as usize <= changed.saturating_mul(WORDS_EACH)
 }
 
 // The first of these positions, and then the others.
@@ -51,34 +69,36 @@ fn joined(alloc: Global, first: &[Pos], others: &[Pos]) -> Result<Vec<Pos>, Allo
     Ok(all)
 }
 
-// The places that changes at these positions wake.
+// The components that changes at these positions wake, and some others near them.
 fn woken(alloc: Global, map: &Frozen<'_>, changed: &[Pos]) -> Result<Places, AllocError>
     ensures sizes { IfOk result (λ places. places.sizes ≡ map.now.sizes) }
-    ensures woken { IfOk result (λ places. (p : Pos) → is_inside map.now.sizes p ≡ true
+    ensures woken { IfOk result (λ places. (p : Pos)
+        → is_component (cell_on map.now p) ≡ true
         → is_woken (cell_on map.now) (has changed.now) p ≡ true → is_at places p ≡ true) }
 {
     map.soundness();
-    let seen = in_sight(alloc, map.bounds(), changed)?;
+    let seen = in_sight(alloc, map, changed)?;
     let near = dust_near(alloc, map, seen.as_slice())?;
     let mut places = Places::new(alloc, map.bounds())?;
-    mark_around_all(alloc, &mut places, changed, CELLS_OFF)?;
-    mark_around_all(alloc, &mut places, near.as_slice(), LEVELS_OFF)?;
+    mark_around_all(alloc, map, &mut places, changed, CELLS_OFF)?;
+    mark_around_all(alloc, map, &mut places, near.as_slice(), LEVELS_OFF)?;
     Ok(places)
 }
 
-// The positions of the world at which dust sees one of these.
-fn in_sight(alloc: Global, bounds: Bounds, changed: &[Pos]) -> Result<Vec<Pos>, AllocError>
-    ensures { IfOk result (λ seen. (p : Pos) → has seen.items p
-        ≡ (is_inside bounds p && list_any (λ c. is_around c 2 p) changed.now)) }
+// The components from which one of these positions can be seen as dust sees.
+fn in_sight(alloc: Global, map: &Frozen<'_>, changed: &[Pos]) -> Result<Vec<Pos>, AllocError>
+    ensures { IfOk result (λ seen. (p : Pos) → has seen.items p ≡ (is_inside map.now.sizes p
+        && list_any (λ c. is_component_around (cell_on map.now) c 2 p) changed.now)) }
 {
-    let mut places = Places::new(alloc, bounds)?;
-    mark_around_all(alloc, &mut places, changed, LEVELS_OFF)?;
+    let mut places = Places::new(alloc, map.bounds())?;
+    mark_around_all(alloc, map, &mut places, changed, LEVELS_OFF)?;
     places.all(alloc)
 }
 
-// Adds each position of the world to which at most so many steps lead from one of these.
+// Adds each component of a map to which at most so many steps lead from one of these positions.
 fn mark_around_all(
     alloc: Global,
+    map: &Frozen<'_>,
     places: &mut Places,
     centers: &[Pos],
     steps: u8,
@@ -87,10 +107,10 @@ fn mark_around_all(
     ensures sizes { places.new.sizes ≡ places.old.sizes }
     ensures marked { OnOk result ((p : Pos) → is_at places.new p
         ≡ (is_at places.old p || (is_inside places.old.sizes p
-        && list_any (λ c. is_around c steps p) centers.now))) }
+        && list_any (λ c. is_component_around (cell_on map.now) c steps p) centers.now))) }
 {
     for center in centers {
-        places.mark_around(alloc, *center, steps)?;
+        places.mark_around(alloc, map, *center, steps)?;
     }
     Ok(())
 }

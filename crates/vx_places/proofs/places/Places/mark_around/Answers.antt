@@ -2,7 +2,8 @@ use Rattle.std.proofs.Common.{◌≡◌, FitsSigned, subst, ◌∙◌, arith, ru
 use Rattle.std.specs.Int.{w32}
 use Rattle.std.proofs.lemmas.Int.{to_z-of_z}
 use Rattle.vx_geom.specs.Sizes.{height}
-use Rattle.vx_places.specs.Around.{is_around, at_number, layer_of, least_within, end_within, Adds}
+use Rattle.vx_cells.specs.Maps.{cell_on}
+use Rattle.vx_places.specs.Around.{is_component_around, at_number, layer_of, least_within, end_within, Adds}
 use Rattle.vx_places.proofs.Adding.{none_below, one_number, all_numbers}
 use Rattle.vx_places.proofs.Near.{near_layer, below_end, between_near}
 use Rattle.vx_places.proofs.places.Places.mark_around.Goals as goal
@@ -25,9 +26,9 @@ end c =
 pub loop-y-init : goal.loop-y-init
 loop-y-init c =
     let b = (goal.at.loop-y-init c).After-end_within-y-end in
-    none_below layer_of (is_around c.args.p c.args.steps) c.args.self.now c.least_within-first.result
+    none_below layer_of (is_component_around (cell_on c.args.map.now) c.args.p c.args.steps) c.args.self.now c.least_within-first.result
     (λ q inside near.
-    omega (arith, first b, (near_layer c.args.self.now.sizes c.args.p c.args.steps q inside near).0))
+    omega (arith, first b, (near_layer (cell_on c.args.map.now) c.args.self.now.sizes c.args.p c.args.steps q inside near).0))
 
 pub mark_layer-requires-clause-low : goal.mark_layer-requires-clause-low
 mark_layer-requires-clause-low c =
@@ -46,18 +47,18 @@ loop-y-preserved c =
     let y = c.loop-y.y in
     let old = c.loop-y.self in
     let new = c.mark_layer.new.self in
-    one_number layer_of (is_around c.args.p c.args.steps) c.args.self.now y old new c.loop-y.invariant
-    (subst (λ n. Adds (at_number layer_of (is_around c.args.p n) y) old new) c.from-steps.ensures
+    one_number layer_of (is_component_around (cell_on c.args.map.now) c.args.p c.args.steps) c.args.self.now y old new c.loop-y.invariant
+    (subst (λ n. Adds (at_number layer_of (is_component_around (cell_on c.args.map.now) c.args.p n) y) old new) c.from-steps.ensures
     c.in_ok-mark_layer.ensures.marked)
 
 pub returns-clause-marked : goal.returns-clause-marked
 returns-clause-marked c =
     let b = (goal.at.returns-clause-marked c).After-end_within-y-end in
-    (all_numbers layer_of (is_around c.args.p c.args.steps) c.args.self.now c.loop-y.y c.loop-y.self
+    (all_numbers layer_of (is_component_around (cell_on c.args.map.now) c.args.p c.args.steps) c.args.self.now c.loop-y.y c.loop-y.self
     c.loop-y.invariant
     (λ q inside near. omega (
       arith,
       end b,
       c.loop-y-test.false,
-      (near_layer c.args.self.now.sizes c.args.p c.args.steps q inside near).1,
+      (near_layer (cell_on c.args.map.now) c.args.self.now.sizes c.args.p c.args.steps q inside near).1,
     ))).marked

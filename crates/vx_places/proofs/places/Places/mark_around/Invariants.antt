@@ -1,6 +1,7 @@
-use Rattle.vx_places.specs.Around.{is_around, below_number, layer_of, Adds}
+use Rattle.vx_cells.specs.Maps.{cell_on}
+use Rattle.vx_places.specs.Around.{is_component_around, below_number, layer_of, Adds}
 use Rattle.vx_places.proofs.places.Places.mark_around.Given as goal
 
 -- those of the layers so far are added
 abbrev pub invariant-loop-y : goal.invariant-loop-y
-invariant-loop-y l = Adds (below_number layer_of (is_around l.fn.p l.fn.steps) l.y) l.fn.self l.self
+invariant-loop-y l = Adds (below_number layer_of (is_component_around (cell_on l.fn.map) l.fn.p l.fn.steps) l.y) l.fn.self l.self

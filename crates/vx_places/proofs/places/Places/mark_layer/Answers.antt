@@ -2,7 +2,8 @@ use Rattle.std.proofs.Common.{ℕ, ◌≡◌, ◌+◌, ◌-◌, ◌*◌, FitsSig
 use Rattle.std.specs.Int.{w32}
 use Rattle.std.proofs.lemmas.Int.{to_z-of_z}
 use Rattle.vx_geom.specs.Sizes.{Sizes, span}
-use Rattle.vx_places.specs.Around.{is_around, at_number, layer_of, row_of, least_within, end_within}
+use Rattle.vx_cells.specs.Maps.{cell_on}
+use Rattle.vx_places.specs.Around.{is_component_around, at_number, layer_of, row_of, least_within, end_within}
 use Rattle.vx_places.proofs.Adding.{none_below, one_number, all_numbers}
 use Rattle.vx_places.proofs.Near.{near_row, below_end, between_near}
 use Rattle.vx_places.proofs.places.Places.mark_layer.Goals as goal
@@ -39,12 +40,12 @@ end c =
 pub loop-z-init : goal.loop-z-init
 loop-z-init c =
     let b = (goal.at.loop-z-init c).After-end_within-z-end in
-    none_below row_of (at_number layer_of (is_around c.args.p c.args.steps) c.args.y) c.args.self.now
+    none_below row_of (at_number layer_of (is_component_around (cell_on c.args.map.now) c.args.p c.args.steps) c.args.y) c.args.self.now
     c.least_within-first.result
     (λ q inside near. omega (
       arith,
       first b,
-      (near_row c.args.self.now.sizes c.args.p c.args.steps q inside c.args.y
+      (near_row (cell_on c.args.map.now) c.args.self.now.sizes c.args.p c.args.steps q inside c.args.y
           (left b) c.rows-count.result (rest b) (many b) near).0,
     ))
 
@@ -64,18 +65,18 @@ mark_row-requires-clause-near c =
 
 pub loop-z-preserved : goal.loop-z-preserved
 loop-z-preserved c =
-    one_number row_of (at_number layer_of (is_around c.args.p c.args.steps) c.args.y) c.args.self.now c.loop-z.z
+    one_number row_of (at_number layer_of (is_component_around (cell_on c.args.map.now) c.args.p c.args.steps) c.args.y) c.args.self.now c.loop-z.z
     c.loop-z.self c.mark_row.new.self c.loop-z.invariant c.in_ok-mark_row.ensures.marked
 
 pub returns-clause-marked : goal.returns-clause-marked
 returns-clause-marked c =
     let b = (goal.at.returns-clause-marked c).After-end_within-z-end in
-    all_numbers row_of (at_number layer_of (is_around c.args.p c.args.steps) c.args.y) c.args.self.now c.loop-z.z
+    all_numbers row_of (at_number layer_of (is_component_around (cell_on c.args.map.now) c.args.p c.args.steps) c.args.y) c.args.self.now c.loop-z.z
     c.loop-z.self c.loop-z.invariant
     (λ q inside near. omega (
       arith,
       end b,
       c.loop-z-test.false,
-      (near_row c.args.self.now.sizes c.args.p c.args.steps
+      (near_row (cell_on c.args.map.now) c.args.self.now.sizes c.args.p c.args.steps
           q inside c.args.y (left b) c.rows-count.result (rest b) (many b) near).1,
     ))

@@ -1,11 +1,11 @@
-use Rattle.std.proofs.Common.{ℕ, ◌≡◌, ◌+◌, ◌-◌, ◌*◌, ◌<◌, ◌≤◌, FitsSigned, nat_eq, pos, ◌-ℤ◌, unsigned_abs, ap, ◌∙◌, arith, rules}
+use Rattle.std.proofs.Common.{ℕ, ◌≡◌, ◌+◌, ◌-◌, ◌*◌, ◌<◌, ◌≤◌, FitsSigned, pos, ◌-ℤ◌, unsigned_abs, ap, ◌∙◌, arith, rules}
 use Rattle.std.specs.Int.{w32}
 use Rattle.std.proofs.lemmas.Int.{ints, to_z-of_z}
 use Rattle.vx_geom.specs.Sizes.{Sizes, span}
 use Rattle.vx_geom.specs.declared.pos.Pos.{Pos}
 use Rattle.vx_geom.proofs.Positions.{same_pos}
-use Rattle.vx_places.specs.Around.{is_around, at_number, layer_of, row_of, column_of, least_within, end_within, Adds}
-use Rattle.vx_places.specs.Places.{steps_between}
+use Rattle.vx_cells.specs.Maps.{cell_on}
+use Rattle.vx_places.specs.Around.{is_component_around, is_component_at, at_number, layer_of, row_of, column_of, least_within, end_within}
 use Rattle.vx_places.proofs.Adding.{adds_same, none_below, one_number, all_numbers}
 use Rattle.vx_places.proofs.Near.{near_column, one_column, below_end, between_near}
 use Rattle.vx_places.proofs.places.Places.mark_row.Goals as goal
@@ -45,12 +45,12 @@ end c =
 pub loop-x-init : goal.loop-x-init
 loop-x-init c =
     let b = (goal.at.loop-x-init c).After-end_within-x-end in
-    none_below column_of (at_number row_of (at_number layer_of (is_around c.args.p c.args.steps) c.args.y) c.args.z)
+    none_below column_of (at_number row_of (at_number layer_of (is_component_around (cell_on c.args.map.now) c.args.p c.args.steps) c.args.y) c.args.z)
     c.args.self.now c.least_within-first.result
     (λ q inside near. omega (
       arith,
       first b,
-      (near_column c.args.self.now.sizes c.args.p c.args.steps q inside
+      (near_column (cell_on c.args.map.now) c.args.self.now.sizes c.args.p c.args.steps q inside
           c.args.y c.args.z (left b) (rest b) c.columns-count.result (many b) near).0,
     ))
 
@@ -70,7 +70,7 @@ loop-x-preserved c =
     let z = c.args.z in
     let count = c.columns-count.result in
     let old = c.loop-x.self in
-    let new = c.mark.new.self in
+    let new = c.mark_component.new.self in
     let least : least_within p.x (left b) count ≤ x = omega (arith, c.loop-x.auto.x, first b) in
     let less : x < end_within p.x (left b) count = omega (arith, c.loop-x-test.true, end b) in
     let near = between_near p.x (left b) count x least less in
@@ -79,23 +79,22 @@ loop-x-preserved c =
     c.new.ensures ∙ same_pos _ _
     (omega (arith, ints, c.requires.low)) (omega (arith, ints, c.requires.north))
     (omega (arith, ints, low, c.columns-count.ensures.most)) in
-    let row = at_number row_of (at_number layer_of (is_around p c.args.steps) y) z in
-    let one : Adds (λ q. nat_eq (steps_between c.new.result q) 0) old new =
-    record { sizes = c.mark.ensures.sizes; marked = c.in_ok-mark.ensures.marked } in
+    let row = at_number row_of (at_number layer_of (is_component_around (cell_on c.args.map.now) p c.args.steps) y) z in
+    let w = cell_on c.args.map.now in
     one_number column_of row c.args.self.now x old new c.loop-x.invariant
-    (adds_same _ (at_number column_of row x) old new one
-    (λ q inside. ap (λ (r : Pos). nat_eq (steps_between r q) 0) place
-    ∙ one_column old.sizes p c.args.steps q inside y z (left b) (rest b) x near))
+    (adds_same _ (at_number column_of row x) old new c.in_ok-mark_component.ensures.marked
+    (λ q inside. ap (λ (r : Pos). is_component_at w r q) place
+    ∙ one_column (cell_on c.args.map.now) old.sizes p c.args.steps q inside y z (left b) (rest b) x near))
 
 pub returns-clause-marked : goal.returns-clause-marked
 returns-clause-marked c =
     let b = (goal.at.returns-clause-marked c).After-end_within-x-end in
-    all_numbers column_of (at_number row_of (at_number layer_of (is_around c.args.p c.args.steps) c.args.y) c.args.z)
+    all_numbers column_of (at_number row_of (at_number layer_of (is_component_around (cell_on c.args.map.now) c.args.p c.args.steps) c.args.y) c.args.z)
     c.args.self.now c.loop-x.x c.loop-x.self c.loop-x.invariant
     (λ q inside near. omega (
       arith,
       end b,
       c.loop-x-test.false,
-      (near_column c.args.self.now.sizes c.args.p
+      (near_column (cell_on c.args.map.now) c.args.self.now.sizes c.args.p
           c.args.steps q inside c.args.y c.args.z (left b) (rest b) c.columns-count.result (many b) near).1,
     ))

@@ -6,3 +6,5 @@
 mod events;
 #[cfg(test)]
 mod ticks;
+#[cfg(test)]
+mod woken;

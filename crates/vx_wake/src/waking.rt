@@ -1,4 +1,4 @@
-ghost use Rattle.std.specs.Prelude.{◌≡◌, true, IfOk};
+ghost use Rattle.std.specs.Prelude.{◌≡◌, true, [], IfOk};
 ghost use Rattle.vx_block.specs.Components.{is_component};
 ghost use Rattle.vx_cells.specs.Maps.{cell_on};
 ghost use Rattle.vx_geom.specs.declared.pos.Pos.{Pos};
@@ -35,6 +35,23 @@ impl Waking {
             changed: Vec::new(alloc),
             besides: components(alloc, map)?,
         })
+    }
+
+    /// Nowhere. It takes no memory.
+    pub fn nothing(alloc: Global) -> Waking
+        ensures { result ≡ record { changed = []; besides = [] } }
+    {
+        Waking {
+            changed: Vec::new(alloc),
+            besides: Vec::new(alloc),
+        }
+    }
+
+    /// Whether it is nowhere, so that all rests.
+    pub fn is_nothing(&self) -> bool
+        ensures { result ≡ true → self.now ≡ record { changed = []; besides = [] } }
+    {
+        self.changed.is_empty() && self.besides.is_empty()
     }
 }
 

@@ -1,3 +1,4 @@
 pub mod Carrying
 pub mod Looking
+pub mod Nothing
 pub mod Storing

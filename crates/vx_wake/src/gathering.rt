@@ -31,8 +31,8 @@ const FEW: usize = 256;
 const WORDS_EACH: usize = 16;
 
 /// The places of a map outside which all rests, where it rests but for what is told, and but for
-/// what was written since; none where so much was changed that to look at all components costs
-/// less. It costs what was changed and the components that it wakes.
+/// what was written since; `None` where so much was changed that to look at all components costs
+/// less. It costs a look at each place near what was changed, and the components that this wakes.
 pub fn unsettled(
     alloc: Global,
     map: &Frozen<'_>,

@@ -53,6 +53,23 @@ impl Waking {
             besides: components(alloc, map)?,
         })
     }
+
+    /// Nowhere. It takes no memory.
+    pub fn nothing(alloc: Global) -> Waking
+        ensures { result ≡ record { changed = []; besides = [] } }
+    {
+        Waking {
+            changed: Vec::new(alloc),
+            besides: Vec::new(alloc),
+        }
+    }
+
+    /// Whether it is nowhere, so that all rests.
+    pub fn is_nothing(&self) -> bool
+        ensures { result ≡ true → self.now ≡ record { changed = []; besides = [] } }
+    {
+        self.changed.is_empty() && self.besides.is_empty()
+    }
 }
 
 // The positions of all components of a map.

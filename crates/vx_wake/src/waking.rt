@@ -27,23 +27,6 @@ impl Model for Waking {
 }
 
 impl Waking {
-    /// Nowhere. It takes no memory.
-    pub fn nothing(alloc: Global) -> Waking
-        ensures { result ≡ record { changed = []; besides = [] } }
-    {
-        Waking {
-            changed: Vec::new(alloc),
-            besides: Vec::new(alloc),
-        }
-    }
-
-    /// Whether it is nowhere.
-    pub fn is_nothing(&self) -> bool
-        ensures { result ≡ true → self.now ≡ record { changed = []; besides = [] } }
-    {
-        self.changed.is_empty() && self.besides.is_empty()
-    }
-
     /// At all components of a map, as for a map of which nothing is known yet.
     pub fn all(alloc: Global, map: &Frozen<'_>) -> Result<Waking, AllocError>
         ensures { IfOk result (λ waking. RestsBut map.now waking) }

@@ -6,10 +6,10 @@ use Rattle.vx_wake.specs.Waking.{Rests}
 use Rattle.vx_step.proofs.Nothing.{all_rests, none_listed, nothing_worked, rests_still}
 use Rattle.vx_step.proofs.Plans.{all_puts}
 use Rattle.vx_step.proofs.planning.plan_woken.Goals as goal
-use Rattle.vx_step.proofs.planning.plan_woken.Goals.{Then-is_empty}
+use Rattle.vx_step.proofs.planning.plan_woken.Goals.{After-nothing-then-is_empty}
 
 -- where nothing is told and nothing was written, everything rests
-rests : (c : Then-is_empty) → (p : Pos) → Rests c.args.map.now p
+rests : (c : After-nothing-then-is_empty) → (p : Pos) → Rests c.args.map.now p
 rests c =
     all_rests c.args.map.now c.args.waking.now c.args.written.now (c.is_nothing.ensures c.if-is_nothing.true)
     (none_listed c.args.written.now (eqb-true _ 0 (sym c.is_empty.ensures ∙ c.if-is_empty.true))) c.requires

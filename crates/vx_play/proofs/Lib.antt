@@ -3,4 +3,4 @@ pub mod Keeping
 pub mod Playing
 pub mod Renewals
 pub mod Whole
-pub mod Written
+pub mod Sparing

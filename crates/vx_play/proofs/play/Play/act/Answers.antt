@@ -7,7 +7,10 @@ use Rattle.vx_sector.specs.Commands.{place_of}
 use Rattle.vx_sector.specs.SectorData.{SectorData, seat_of}
 use Rattle.vx_sector.specs.Windows.{sector_after}
 use Rattle.vx_cells.specs.Maps.{AreSectors}
+use Rattle.vx_wake.specs.Waking.{RestsBut}
+use Rattle.vx_play.specs.Games.{base_of}
 use Rattle.vx_play.specs.Plays.{PlayData, cells_of}
+use Rattle.vx_play.proofs.Sparing.{base_stays, before_stays}
 use Rattle.vx_play.proofs.Whole.{answered_there, answer_keeps_world}
 use Rattle.vx_play.proofs.play.Play.act.Given.{Over}
 use Rattle.vx_play.proofs.play.Play.act.Goals as goal
@@ -36,6 +39,10 @@ invariant_of-self-2 g c =
       c.self.invariant.1,
       subst (λ s. AreSectors i.bounds (map cells_of (set i.sectors.items c.in-Some.number s))) (sym c.act.ensures.after)
           (answer_keeps_world (with_sectors g c i.sectors.items) (seat_of c.args.seat) c.args.cmd c.in-Some.number c.in-Some-get_mut.sector.now (found g c) (there g c) c.act.result c.self.invariant.2),
+      subst (λ m. RestsBut m i.waking)
+          (sym (before_stays i.bounds i.sectors.items c.in-Some.number c.in-Some-get_mut.sector.now c.act.new.self (there g c)
+          (ap base_of c.act.ensures.after ∙ base_stays c.in-Some-get_mut.sector.now (seat_of c.args.seat) c.args.cmd c.act.result)))
+          c.self.invariant.3,
     )
 
 pub returns-clause-answer : goal.returns-clause-answer

@@ -1,12 +1,33 @@
-use Rattle.std.proofs.Common.{◌+◌, List, length, map, ap, ◌∙◌, arith}
+use Rattle.std.proofs.Common.{◌+◌, List, length, map, sym, ap, subst, ◌∙◌, arith}
 use Rattle.std.proofs.lemmas.List.{with_items_is}
 use Rattle.vx_region.specs.Texts.{texts}
 use Rattle.vx_cells.specs.SectorCells.{SectorCells}
 use Rattle.vx_cells.specs.Wholes.{with_cells_on}
 use Rattle.vx_sector.specs.SectorData.{SectorData}
-use Rattle.vx_play.specs.Plays.{cells_of, all_renewed}
+use Rattle.vx_cells.specs.Maps.{AreSectors}
+use Rattle.vx_wake.specs.Waking.{RestsBut}
+use Rattle.vx_play.specs.Plays.{PlayData, cells_of, map_of, all_renewed}
+use Rattle.vx_play.specs.Writing.{map_before}
+use Rattle.vx_play.proofs.Sparing.{begun_over}
 use Rattle.vx_play.proofs.Going.{as_many_renewed}
 use Rattle.vx_play.proofs.play.Play.renew.Goals as goal
+
+pub invariant_of-self-2 : goal.invariant_of-self-2
+invariant_of-self-2 g c =
+    let i = c.self.inside in
+    let ss = i.sectors.items in
+    let v = c.in_ok-version.version in
+    let next_cells : List SectorData → List SectorCells =
+    λ ts. (with_cells_on (record { sizes = i.bounds; sectors = map cells_of ts }) c.args.puts.now).sectors in
+    let begun = c.in_ok-windows.ensures.renewed ∙ ap (λ ts. all_renewed v ts (next_cells ts)) c.deref_mut.ensures.value in
+    let written = with_items_is i.sectors c.renew_sectors.new.sectors (ap length begun ∙ as_many_renewed v ss (next_cells ss) ∙ omega (arith, i.sectors.ok.0)) in (
+      c.self.invariant.0,
+      omega (arith, c.requires.more, ap (λ (p : PlayData). p.ticks) c.self.view_is),
+      subst (λ ts. AreSectors i.bounds (map cells_of ts)) (sym written) c.in_ok-windows.ensures.placed,
+      subst (λ m. RestsBut m c.args.waking)
+          (sym (ap (map_before i.bounds) (written ∙ begun) ∙ begun_over v i.bounds ss c.args.puts.now c.self.invariant.2))
+          (subst (λ (p : PlayData). RestsBut (with_cells_on (map_of p) c.args.puts.now) c.args.waking) (sym c.self.view_is) c.requires.rests),
+    )
 
 pub returns-clause-ok : goal.returns-clause-ok
 returns-clause-ok g c =

@@ -1,24 +1,38 @@
 -- What the commands of the windows leave as it was.
-use Rattle.std.proofs.Common.{◌≡◌, ◌≢◌, ◌⊎◌, ℕ, true, false, List, [], ◌∷◌, length, map, slice_get, Option, Some, None, option_map, refl, sym, ap, ◌∙◌, subst, inl, inr, arith}
+use Rattle.std.proofs.Common.{◌≡◌, ◌≢◌, ◌⊎◌, ℕ, true, false, List, [], ◌∷◌, length, map, set, slice_get, Result, Option, Some, None, option_map, refl, sym, ap, ◌∙◌, subst, inl, inr, arith}
 use Rattle.std.specs.List.{All}
+use Rattle.std.proofs.lemmas.Bool.{cases_Bool, false≢true, or_left}
+use Rattle.std.proofs.Math.Seq.{map-set_same}
+use Rattle.std.proofs.lemmas.Option.{get_or_from_slice_get}
+use Rattle.std.proofs.lemmas.List.{length-map}
 use Rattle.std.proofs.lemmas.Option.{slice_get-map}
 use Rattle.vx_geom.specs.declared.pos.Pos.{Pos}
-use Rattle.vx_geom.specs.Sizes.{Sizes, AreSizes, sector_of}
+use Rattle.vx_geom.specs.Sizes.{Sizes, AreSizes, sector_count, sector_of}
+use Rattle.vx_block.specs.declared.cell.Cell.{Cell}
+use Rattle.vx_cells.specs.Wholes.{with_cells_on, IsMap}
 use Rattle.vx_cells.specs.SectorCells.{SectorCells, holds, block_at, cell_at, with_block}
 use Rattle.vx_cells.specs.Maps.{AreSectors, MapData, cell_in, cell_on, sector_at}
 use Rattle.vx_cells.proofs.CellLaws.{other_blocks_stay}
 use Rattle.vx_cells.proofs.Copying.{held_too}
 use Rattle.vx_cells.proofs.MapLemmas.{placed_at}
 use Rattle.vx_cells.proofs.Placed.{holds_found}
+use Rattle.vx_policy.specs.declared.version.Version.{Version}
+use Rattle.vx_step.proofs.Puts.{puts_whole}
+use Rattle.vx_power.specs.Levels.{has, same_place}
+use Rattle.vx_power.proofs.Having.{own_place}
 use Rattle.vx_sector.specs.Commands.{place_of}
-use Rattle.vx_sector.specs.SectorData.{SectorData, EntryData}
-use Rattle.vx_sector.specs.Windows.{cells_after, HoldsPlaces}
-use Rattle.vx_sector.proofs.Catching.{copied_at, caught_up, places_too, with_bounds, with_sector}
+use Rattle.vx_sector.specs.SectorData.{SectorData, EntryData, SeatData}
+use Rattle.vx_sector.specs.Windows.{cells_after, is_recorded, sector_after, HoldsPlaces, IsWindow}
+use Rattle.vx_sector.specs.declared.cmd.Cmd.{Cmd}
+use Rattle.vx_sector.specs.declared.refusal.Refusal.{Refusal}
+use Rattle.vx_sector.specs.declared.reply.Reply.{Reply}
+use Rattle.vx_sector.proofs.Catching.{after_bounds, after_sector, copied_at, caught_up, places_too, window_places, with_bounds, with_sector}
 use Rattle.vx_sector.proofs.Keeping.{cases_place}
 use Rattle.vx_play.specs.Games.{base_of}
-use Rattle.vx_play.specs.Plays.{cells_of}
+use Rattle.vx_play.specs.Plays.{all_renewed, cells_of, opened_by}
 use Rattle.vx_play.specs.Writing.{IsSpared, AreSpared, map_before}
 use Rattle.vx_play.proofs.Playing.{of_found}
+use Rattle.vx_play.proofs.Renewals.{bases_renewed}
 
 -- p is the place of none of these entries
 abbrev AreElsewhere : Pos → List EntryData → Type 0
@@ -86,3 +100,58 @@ module _ (v : Sizes) (p : Pos) (sectors : List SectorData) (whole : AreSectors v
       ≡ cell_on (map_before v sectors) p
   unfolding cell_on
   map_spared = by_number (sector_of v p) refl
+
+-- a sector more is spared
+pub spared_all : (p : Pos) (s : SectorData) (entries : List EntryData) → entries ≡ s.entries
+    → IsWindow s.version.policy s.base s.entries → s.cells ≡ cells_after s.base s.entries
+    → AreSizes s.cells.bounds → AreSpared p s.base s.cells entries → IsSpared p s
+spared_all p s entries same window cells sizes each at_p =
+    let bounds : s.cells.bounds ≡ s.base.bounds =
+    ap (λ (d : SectorCells). d.bounds) cells ∙ after_bounds s.base s.entries in
+    let number : s.cells.sector ≡ s.base.sector =
+    ap (λ (d : SectorCells). d.sector) cells ∙ after_sector s.base s.entries in
+    spared p s.base s.cells s.entries cells (subst AreSizes bounds sizes)
+    (held_too s.cells s.base p (sym bounds) (sym number) at_p)
+    (window_places _ _ _ window) (subst (AreSpared p s.base s.cells) same each)
+
+-- the next windows begin over the cells that were put down
+module _ (version : Version) (sizes : Sizes) (ss : List SectorData) (puts : List (Pos × Cell))
+    (whole : AreSectors sizes (map cells_of ss)) where
+  abbrev m : MapData
+  m = record { sizes = sizes; sectors = map cells_of ss }
+
+  kept : IsMap (with_cells_on m puts) × ((with_cells_on m puts).sizes ≡ sizes)
+  kept = puts_whole m puts whole
+
+  pub begun_over : map_before sizes (all_renewed version ss (with_cells_on m puts).sectors) ≡ with_cells_on m puts
+  begun_over =
+      let many : length ss ≡ length (with_cells_on m puts).sectors =
+      omega (arith, length-map ss cells_of, whole.all, kept.0.all, ap sector_count kept.1) in
+      λ i. record {
+        sizes = sym kept.1 i;
+        sectors = bases_renewed version ss (with_cells_on m puts).sectors many i;
+      }
+
+-- a place that was added is none that is not listed
+pub spared_not : (p q : Pos) → q ≡ p → (added : Pos) → added ≡ q → has (added ∷ []) p ≡ false → ⊥
+spared_not p q at added is none =
+    false≢true (sym none ∙ or_left (same_place p added) false (ap (same_place p) (is ∙ at) ∙ own_place p))
+
+-- a world begins with the cells of its terrain
+pub bases_begun : (v : Version) (cs : List SectorCells) → map base_of (map (opened_by v) cs) ≡ cs
+bases_begun v [] = refl
+bases_begun v (c ∷ cs) = ap (λ ds. c ∷ ds) (bases_begun v cs)
+
+-- a command leaves the base of its sector
+pub base_stays : (s : SectorData) (seat : SeatData) (cmd : Cmd) (answer : Result Reply Refusal)
+    → base_of (sector_after s seat cmd answer) ≡ base_of s
+unfolding sector_after
+base_stays s seat cmd answer = elim (cases_Bool (is_recorded answer)) [ inl traced ↦ rw traced refl | inr none ↦ rw none refl ]
+
+-- and so the map as the windows began
+pub before_stays : (sizes : Sizes) (sectors : List SectorData) (k : ℕ) (s next : SectorData)
+    → slice_get sectors k ≡ Some s → base_of next ≡ base_of s
+    → map_before sizes (set sectors k next) ≡ map_before sizes sectors
+before_stays sizes sectors k s next found same =
+    ap (λ cs. record { sizes = sizes; sectors = cs })
+    (map-set_same base_of sectors k next s (same ∙ ap base_of (sym (get_or_from_slice_get sectors k s s found))))

@@ -1,4 +1,4 @@
-ghost use Rattle.std.specs.Prelude.{◌≡◌, ◌+◌, ◌*◌, ◌<◌, ◌≤◌, true, SomeIff};
+ghost use Rattle.std.specs.Prelude.{◌≡◌, ◌+◌, ◌*◌, ◌/◌, ◌%◌, ◌<◌, ◌≤◌, true, SomeIff};
 ghost use Rattle.vx_geom.specs.Sizes.{height, is_below};
 
 use crate::pos::Pos;
@@ -93,8 +93,8 @@ impl Bounds {
             return None;
         }
         self.soundness();
-        let column = p.x.unsigned_abs() / self.span();
-        let row = p.z.unsigned_abs() / self.span();
+        let column = self.sides(p.x.unsigned_abs());
+        let row = self.sides(p.z.unsigned_abs());
         Some(column + u32::from(self.sx) * row)
     }
 
@@ -114,10 +114,9 @@ impl Bounds {
         ensures within { result < sector_cells self.now }
     {
         self.soundness();
-        let span = self.span();
-        let column = p.x.unsigned_abs() % span;
-        let row = p.z.unsigned_abs() % span;
-        cell_index(span, column, p.y.unsigned_abs(), row)
+        let column = self.past_sides(p.x.unsigned_abs());
+        let row = self.past_sides(p.z.unsigned_abs());
+        cell_index(self.span(), column, p.y.unsigned_abs(), row)
     }
 
     /// The first column of a sector, counted from the west.
@@ -148,12 +147,11 @@ impl Bounds {
         ensures { result ≡ position_in_sector self.now sector index }
     {
         self.soundness();
-        let span = self.span();
-        let row = index / span;
+        let row = self.sides(index);
         Pos {
-            y: (row / span) as i32,
-            z: (self.north(sector) + row % span) as i32,
-            x: (self.west(sector) + index % span) as i32,
+            y: self.sides(row) as i32,
+            z: (self.north(sector) + self.past_sides(row)) as i32,
+            x: (self.west(sector) + self.past_sides(index)) as i32,
         }
     }
 
@@ -175,6 +173,31 @@ impl Bounds {
     {
         self.soundness();
         (sector + 2 * (u32::from(self.sx) + 1) + 1).min(self.sectors())
+    }
+
+    // How many whole sides of a sector so many columns are. Each width stands as a number, so that
+    // the machine need not divide.
+    fn sides(&self, columns: u32) -> u32
+        ensures { result ≡ columns / span self.now }
+    {
+        self.soundness();
+        if self.s == 1 {
+            columns / 16
+        } else {
+            columns / 32
+        }
+    }
+
+    // How many columns are left over then.
+    fn past_sides(&self, columns: u32) -> u32
+        ensures { result ≡ columns % span self.now }
+    {
+        self.soundness();
+        if self.s == 1 {
+            columns % 16
+        } else {
+            columns % 32
+        }
     }
 }
 

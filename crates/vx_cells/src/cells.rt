@@ -201,9 +201,12 @@ impl Cells {
         self.listed(alloc, false)
     }
 
-    /// About what going over its components costs, in words of marks. No clause speaks of it.
+    /// How many words of marks have one, of dust and of devices: about what going over all
+    /// components costs. No clause tells the number, since nothing but costs rests on it.
     pub fn component_words(&self) -> u32 {
-        self.dust.filled_words().saturating_add(self.devices.filled_words())
+        self.dust
+            .filled_words()
+            .saturating_add(self.devices.filled_words())
     }
 
     /// Whether a device stands in this sector. Where none was ever placed it costs a look.

@@ -1,5 +1,5 @@
 -- What is listed of a sector, in the order of its positions.
-use Rattle.std.proofs.Common.{◌≡◌, ℕ, nat_lt, length, zero, suc, ◌+◌, ◌-◌, ◌<◌, ◌≤◌, Bool, true, false, List, [], ◌∷◌, ◌++◌, slice_get, cond, Option, Some, None, is_some, refl, ap, sym, ◌∙◌, arith, append_assoc, append-nil}
+use Rattle.std.proofs.Common.{◌≡◌, ℕ, nat_lt, length, zero, suc, ◌+◌, ◌-◌, ◌<◌, ◌≤◌, Bool, true, false, List, [], ◌∷◌, ◌++◌, slice_get, cond, Option, Some, None, is_some, refl, ap, sym, subst, ◌∙◌, arith, append_assoc, append-nil}
 use Rattle.std.proofs.lemmas.Bool.{lt-ltb}
 use Rattle.std.specs.List.{filter}
 use Rattle.vx_block.specs.declared.cell.Cell.{Cell}
@@ -8,10 +8,11 @@ use Rattle.vx_geom.specs.declared.pos.Pos.{Pos}
 use Rattle.vx_geom.specs.Places.{position_in_sector, positions_from, positions}
 use Rattle.vx_geom.specs.Sizes.{Sizes, AreSizes, sector_count, sector_cells, sector_of}
 use Rattle.vx_geom.proofs.Places.{position_held}
-use Rattle.vx_cells.specs.Listed.{is_listed, is_listed_at, listed_from, listed_of, components_of, devices_of, components_on, devices_on}
+use Rattle.vx_cells.specs.Listed.{is_listed, is_listed_at, is_dust_at, is_device_at, listed_from, listed_of, components_of, devices_of, components_on, devices_on}
 use Rattle.vx_cells.specs.Maps.{MapData, AreSectors, cell_on}
-use Rattle.vx_cells.specs.Marks.{IsFirst}
+use Rattle.vx_cells.specs.Marks.{IsFirst, lesser}
 use Rattle.vx_cells.specs.SectorCells.{SectorCells, cell_at}
+use Rattle.vx_cells.proofs.Marking.{first_of_two}
 use Rattle.vx_cells.proofs.MapLemmas.{placed_at, cell_found}
 
 -- what of a list of positions passes a test
@@ -54,6 +55,15 @@ module _ (with_dust : Bool) (c : SectorCells) where
   listed_first =
       let all : sector_cells c.bounds - 0 ≡ sector_cells c.bounds = omega arith in
       ap (λ n. filter asked (positions_from c.bounds c.sector 0 n)) all
+
+  -- the lesser of the first dust and the first device is the first that is asked for
+  pub first_listed : (from : ℕ) (dust device found : Option ℕ) → lesser dust device ≡ found
+      → IsFirst (is_dust_at with_dust c) (sector_cells c.bounds) from dust
+      → IsFirst (is_device_at c) (sector_cells c.bounds) from device
+      → IsFirst (is_listed_at with_dust c) (sector_cells c.bounds) from found
+  first_listed from dust device found is first second =
+      subst (IsFirst (is_listed_at with_dust c) (sector_cells c.bounds) from) is
+      (first_of_two (is_dust_at with_dust c) (is_device_at c) (sector_cells c.bounds) from dust device first second)
 
   module _ (from : ℕ) (found : List Pos) (low : from ≤ sector_cells c.bounds)
       (so_far : found ++ listed_from with_dust c from ≡ listed_of with_dust c) where

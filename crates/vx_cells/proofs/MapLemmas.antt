@@ -74,21 +74,6 @@ near_inside v p sizes inside =
     (and_from _ _ (is_low p.y _ _ at.y_is at.y_below (omega arith))
     (is_low p.z _ _ at.z_is at.z_below (narrow v.sz v.s sizes.sz_most sizes.s_most)))
 
-not_inside : (v : Sizes) (p : Pos) → AreSizes v → (is_near p ≡ true → ⊥) → is_inside v p ≡ false
-not_inside v p sizes away = by (is_inside v p) refl
-  where
-    by : (b : Bool) → is_inside v p ≡ b → is_inside v p ≡ false
-    by false outside = outside
-    by true inside = absurd (away (near_inside v p sizes inside))
-
--- at a position that no world has there is air
-pub far_is_air : (m : MapData) (p : Pos)
-    → AreSizes m.sizes → (is_near p ≡ true → ⊥) → Air ≡ cell_on m p
-unfolding cell_on sector_of
-far_is_air m p sizes away =
-    sym (ap (λ b. cell_in (sector_at m.sectors (if b then Some (sector_number m.sizes p) else None)) p)
-    (not_inside m.sizes p sizes away))
-
 -- outside the world there is air
 pub outside_is_air : (m : MapData) (p : Pos)
     → (is_inside m.sizes p ≡ true → ⊥) → cell_on m p ≡ Air

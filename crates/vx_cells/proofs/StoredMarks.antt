@@ -10,11 +10,11 @@ use Rattle.vx_geom.specs.Sizes.{Sizes, AreSizes, sector_cells}
 use Rattle.vx_geom.proofs.Places.{position_indexed}
 use Rattle.vx_cells.specs.Chests.{ChestData}
 use Rattle.vx_cells.specs.Codes.{cell_of}
-use Rattle.vx_cells.specs.Listed.{is_listed_at}
-use Rattle.vx_cells.specs.Marks.{is_marked, IsFirst, IsFirstMarked, lesser}
+use Rattle.vx_cells.specs.Listed.{is_dust_at, is_device_at}
+use Rattle.vx_cells.specs.Marks.{is_marked, IsFirst, IsFirstMarked}
 use Rattle.vx_cells.specs.SectorCells.{placed, block_at, cell_at}
 use Rattle.vx_cells.specs.Stored.{blocks_from, stored, AreMarks, IsKept}
-use Rattle.vx_cells.proofs.Marking.{as_first, first_of_two}
+use Rattle.vx_cells.proofs.Marking.{as_first}
 use Rattle.vx_cells.proofs.StoredBlocks.{block-at, length-blocks, zero_at}
 
 -- in a sector of air nothing is marked
@@ -84,13 +84,10 @@ module _ (bounds : Sizes) (sector : ℕ) (codes : List ℕ) (chests : ChestData)
 
   -- the first mark of a device is the first device
   pub next_device : (from : ℕ) (found : Option ℕ) → IsFirstMarked devices from found
-      → IsFirst (is_listed_at false (stored bounds sector codes chests)) (sector_cells bounds) from found
+      → IsFirst (is_device_at (stored bounds sector codes chests)) (sector_cells bounds) from found
   next_device from found first = first_cell is_device devices from found kept.devices first
 
-  -- the lesser of the first marks of dust and of a device is the first component
-  pub next_component : (from : ℕ) (a b : Option ℕ) → IsFirstMarked dust from a → IsFirstMarked devices from b
-      → IsFirst (is_listed_at true (stored bounds sector codes chests)) (sector_cells bounds) from (lesser a b)
-  next_component from a b first second =
-      first_of_two _ _ (sector_cells bounds) from a b
-      (first_cell is_dust dust from a kept.dust first)
-      (first_cell is_device devices from b kept.devices second)
+  -- and that of dust the first dust
+  pub next_dust : (from : ℕ) (found : Option ℕ) → IsFirstMarked dust from found
+      → IsFirst (is_dust_at true (stored bounds sector codes chests)) (sector_cells bounds) from found
+  next_dust from found first = first_cell is_dust dust from found kept.dust first

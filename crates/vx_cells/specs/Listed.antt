@@ -26,6 +26,15 @@ abbrev pub is_listed_at : Bool → SectorCells → ℕ → Bool
 is_listed_at with_dust c index =
     is_listed with_dust (cell_at c (position_in_sector c.bounds c.sector index))
 
+-- dust stands there, and is asked for
+abbrev pub is_dust_at : Bool → SectorCells → ℕ → Bool
+is_dust_at with_dust c index =
+    with_dust && is_dust (cell_at c (position_in_sector c.bounds c.sector index))
+
+-- a device stands there
+abbrev pub is_device_at : SectorCells → ℕ → Bool
+is_device_at c index = is_device (cell_at c (position_in_sector c.bounds c.sector index))
+
 -- the positions of a sector where what is asked for stands
 abbrev pub listed_of : Bool → SectorCells → List Pos
 listed_of with_dust c =

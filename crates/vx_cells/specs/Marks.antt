@@ -34,6 +34,11 @@ lesser None b = b
 lesser (Some a) None = Some a
 lesser (Some a) (Some b) = Some (min a b)
 
+-- a number is known that lies before another
+abbrev pub is_passed : Option ℕ → ℕ → Bool
+is_passed None from = false
+is_passed (Some index) from = nat_lt index from
+
 -- which words have a mark, one mark for each of them
 pub record AreFilled (words filled : List ℕ) : Type 0 where
   pub room : length words ≤ 64 * length filled

@@ -68,7 +68,7 @@ impl Bits {
         self.words[word] = with_bit(self.words[word], index % 64, marked);
     }
 
-    /// How many bits are set. No clause speaks of it, since only costs rest on it.
+    /// How many bits are set. No clause tells the number, since nothing but costs rests on it.
     pub fn count_ones(&self) -> u32 {
         let mut count = 0_u32;
         for word in &self.words {

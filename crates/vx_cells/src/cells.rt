@@ -1,8 +1,8 @@
-ghost use Rattle.std.specs.Prelude.{◌≡◌, ◌<◌, ◌↔◌, nat_lt, length, true, false, IsTrue, IfOk, OnOk, OnErr, IfSome, IsOk};
+ghost use Rattle.std.specs.Prelude.{◌≡◌, ◌<◌, ◌≤◌, ◌↔◌, nat_lt, length, true, false, IsTrue, IfOk, OnOk, OnErr, IfSome, IsOk};
 ghost use Rattle.std.specs.List.{All};
 ghost use Rattle.vx_geom.specs.Sizes.{sector_count, sector_cells};
-ghost use Rattle.vx_cells.specs.Listed.{components_of, devices_of, listed_of, is_listed_at};
-ghost use Rattle.vx_cells.specs.Marks.{IsFirst, lesser};
+ghost use Rattle.vx_cells.specs.Listed.{components_of, devices_of, listed_of, is_dust_at, is_device_at};
+ghost use Rattle.vx_cells.specs.Marks.{IsFirst, is_passed, lesser};
 
 use crate::chests::Chests;
 use crate::code::{AIR, decode, encode, is_chest, is_device, is_dust};
@@ -201,17 +201,19 @@ impl Cells {
         self.listed(alloc, false)
     }
 
-    /// About what going over its components costs, in words of marks. No clause speaks of it.
+    /// How many words of marks have one, of dust and of devices: about what going over all
+    /// components costs. No clause tells the number, since nothing but costs rests on it.
     pub fn component_words(&self) -> u32 {
-        self.dust.filled_words().saturating_add(self.devices.filled_words())
+        self.dust
+            .filled_words()
+            .saturating_add(self.devices.filled_words())
     }
 
     /// Whether a device stands in this sector. Where none was ever placed it costs a look.
     pub fn has_devices(&self) -> bool
         ensures { result ≡ nat_lt 0 (length (devices_of self.now)) }
     {
-        self.bounds.soundness();
-        self.devices.first_from(0).is_some()
+        self.first_device(0).is_some()
     }
 
     // The positions of devices, and of dust where that is asked for too, in order.
@@ -221,27 +223,77 @@ impl Cells {
         self.bounds.soundness();
         let mut found = Vec::new(alloc);
         let mut from = 0;
-        while let Some(index) = self.next_listed(with_dust, from) {
+        let mut dust = self.first_dust(with_dust, 0);
+        let mut device = self.first_device(0);
+        while let Some(index) = lesser(dust, device) {
             let Ok(()) = found.push(self.bounds.position_in_sector(self.sector, index)) else {
                 return Err(AllocError);
             };
+            dust = self.dust_from(with_dust, dust, from, index + 1);
+            device = self.device_from(device, from, index + 1);
             from = index + 1;
         }
         Ok(found)
     }
 
-    // The first index from one on of a device, or of dust where that is asked for too.
-    fn next_listed(&self, with_dust: bool, from: u32) -> Option<u32>
-        ensures { IsFirst (is_listed_at with_dust self.now) (sector_cells self.now.bounds) from
+    // The first index of dust from one on, where that is known from an earlier one on. It is looked
+    // for only where what is known lies before.
+    fn dust_from(&self, with_dust: bool, known: Option<u32>, was: u32, from: u32) -> Option<u32>
+        requires later { was ≤ from }
+        requires known { IsFirst (is_dust_at with_dust self.now) (sector_cells self.now.bounds) was
+            known }
+        ensures { IsFirst (is_dust_at with_dust self.now) (sector_cells self.now.bounds) from
+            result }
+    {
+        if is_passed(known, from) {
+            self.first_dust(with_dust, from)
+        } else {
+            known
+        }
+    }
+
+    // The same of devices.
+    fn device_from(&self, known: Option<u32>, was: u32, from: u32) -> Option<u32>
+        requires later { was ≤ from }
+        requires known { IsFirst (is_device_at self.now) (sector_cells self.now.bounds) was known }
+        ensures { IsFirst (is_device_at self.now) (sector_cells self.now.bounds) from result }
+    {
+        if is_passed(known, from) {
+            self.first_device(from)
+        } else {
+            known
+        }
+    }
+
+    // The first index of dust from one on, where dust is asked for.
+    fn first_dust(&self, with_dust: bool, from: u32) -> Option<u32>
+        ensures { IsFirst (is_dust_at with_dust self.now) (sector_cells self.now.bounds) from
             result }
     {
         self.bounds.soundness();
-        let device = self.devices.first_from(from);
         if with_dust {
-            lesser(self.dust.first_from(from), device)
+            self.dust.first_from(from)
         } else {
-            device
+            None
         }
+    }
+
+    // The first index of a device from one on.
+    fn first_device(&self, from: u32) -> Option<u32>
+        ensures { IsFirst (is_device_at self.now) (sector_cells self.now.bounds) from result }
+    {
+        self.bounds.soundness();
+        self.devices.first_from(from)
+    }
+}
+
+// Whether an index is known that lies before this one.
+fn is_passed(known: Option<u32>, from: u32) -> bool
+    ensures { result ≡ is_passed known from }
+{
+    match known {
+        Some(index) => index < from,
+        None => false,
     }
 }
 

@@ -1,21 +1,17 @@
 ghost use Rattle.std.specs.Prelude.{◌≡◌, ◌<◌, ◌≤◌, nat_lt, length, map, slice_get, true, None, Some, IfOk, IfSome, SomeIff};
 ghost use Rattle.vx_block.specs.declared.cell.Cell.TheVariants.{Air};
 ghost use Rattle.vx_geom.specs.Neighbor.{neighbor};
-ghost use Rattle.vx_geom.specs.Sizes.{is_below, is_inside, sector_count};
+ghost use Rattle.vx_geom.specs.Sizes.{is_inside, sector_count};
 ghost use Rattle.vx_geom.specs.declared.dir.Dir.TheVariants.{Up, Down};
 ghost use Rattle.vx_geom.specs.declared.pos.Pos.{Pos};
 ghost use Rattle.vx_cells.specs.Listed.{components_on, devices_on};
 ghost use Rattle.vx_cells.specs.MapLaws.{IsFilled};
-ghost use Rattle.vx_cells.specs.Maps.{far, is_near};
 
 use crate::cells::Cells;
 use std::alloc::{AllocError, Global};
 use std::marker::Model;
 use vx_block::Cell;
 use vx_geom::{Bounds, Dir, Pos};
-
-/// No world is as wide or as high.
-const FAR: i64 = 512;
 
 /// The map as a tick begins: what stands at each position of the world, and air outside. The
 /// sectors are lent to it, and nothing is copied.
@@ -85,17 +81,14 @@ impl<'a> Frozen<'a> {
     }
 
     /// The cell at a position; air outside the world.
-    #[tactic(auto, unfolding(crate::specs::Maps::cell_on))]
+    #[tactic(auto, unfolding(crate::specs::Maps::cell_on, vx_geom::specs::Sizes::sector_of))]
     pub fn cell(&self, p: Pos) -> Cell
         ensures { result ≡ cell_on self.now p }
     {
-        self.soundness();
-        let Some(number) = self.bounds().sector_of(p) else {
-            return Cell::Air;
-        };
-        match self.sector(number) {
-            Some(cells) => cells.get(p),
-            None => Cell::Air,
+        if self.bounds.inside(p) {
+            self.cell_inside(p)
+        } else {
+            Cell::Air
         }
     }
 
@@ -184,7 +177,8 @@ impl<'a> Frozen<'a> {
         self.sector_at(sector).devices(alloc)
     }
 
-    /// About what going over all components costs, in words of marks. No clause speaks of it.
+    /// About what going over all components of the map costs, in words of marks that have one.
+    /// No clause tells the number, since nothing but costs rests on it.
     pub fn component_words(&self) -> u32 {
         self.soundness();
         let mut words = 0_u32;
@@ -244,40 +238,25 @@ impl<'a> Frozen<'a> {
         ensures outside { result ≡ None
             → cell_on self.now (record { y = y; z = z; x = x }) ≡ Air }
     {
-        self.soundness();
-        let p = near(x, y, z)?;
-        if self.bounds.inside(p) { Some(p) } else { None }
+        self.bounds.position(x, y, z)
     }
 
     // The cell at these coordinates, which may lie past the ends of a position's.
     fn look(&self, x: i64, y: i64, z: i64) -> Cell
         ensures { result ≡ cell_on self.now (record { y = y; z = z; x = x }) }
     {
-        self.soundness();
-        match near(x, y, z) {
-            Some(p) => self.cell(p),
+        match self.place(x, y, z) {
+            Some(p) => self.cell_inside(p),
             None => Cell::Air,
         }
     }
-}
 
-// The position with these coordinates, where a world may have one.
-fn near(x: i64, y: i64, z: i64) -> Option<Pos>
-    ensures { let p : Pos = record { y = y; z = z; x = x } in SomeIff result (is_near p ≡ true) p }
-{
-    Some(Pos {
-        x: coordinate(x)?,
-        y: coordinate(y)?,
-        z: coordinate(z)?,
-    })
-}
-
-fn coordinate(c: i64) -> Option<i32>
-    ensures { SomeIff result (is_below c far ≡ true) c }
-{
-    if 0 <= c && c < FAR {
-        Some(c as i32)
-    } else {
-        None
+    // The cell at a position of the world.
+    fn cell_inside(&self, p: Pos) -> Cell
+        requires { is_inside self.now.sizes p ≡ true }
+        ensures { result ≡ cell_on self.now p }
+    {
+        self.soundness();
+        self.sector_at(self.bounds().sector_holding(p)).get(p)
     }
 }

@@ -78,7 +78,8 @@ impl Marks {
         Some(self.bits.first_of_word(word))
     }
 
-    /// How many words have a mark: what going over all marks costs, and no clause speaks of it.
+    /// How many words of 64 indices have a mark: about what going over all marks costs. No clause
+    /// tells the number, since nothing but costs rests on it.
     pub fn filled_words(&self) -> u32 {
         self.filled.count_ones()
     }

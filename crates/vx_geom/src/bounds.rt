@@ -1,5 +1,6 @@
-ghost use Rattle.std.specs.Prelude.{◌≡◌, ◌+◌, ◌*◌, ◌<◌, ◌≤◌, true, SomeIff};
+ghost use Rattle.std.specs.Prelude.{◌≡◌, ◌+◌, ◌*◌, ◌/◌, ◌%◌, ◌<◌, ◌≤◌, true, SomeIff};
 ghost use Rattle.vx_geom.specs.Sizes.{height, is_below};
+ghost use Rattle.vx_geom.specs.declared.pos.Pos.{Pos};
 
 use crate::pos::Pos;
 use std::marker::Model;
@@ -35,7 +36,7 @@ impl Model for Bounds {
 
 impl Bounds {
     ghost use Rattle.vx_geom.specs.Places.{west, north, first_near, end_near, position_in_sector};
-    ghost use Rattle.vx_geom.specs.Sizes.{Sizes, AreSizes, span, sector_count, is_inside, sector_of, sector_cells, index_in_sector};
+    ghost use Rattle.vx_geom.specs.Sizes.{Sizes, AreSizes, span, sector_count, is_inside, sector_number, sector_of, sector_cells, index_in_sector};
 
     /// A world of `sx` by `sz` sectors, 1 to 8 each, of `s` by `s` chunks, `s` being 1 or 2.
     pub fn new(sx: u8, sz: u8, s: u8) -> Option<Bounds>
@@ -83,19 +84,43 @@ impl Bounds {
         is_below(p.y, HEIGHT) && is_below(p.z, u32::from(self.sz) * self.span())
     }
 
+    /// The position with these coordinates, where the world has a cell there.
+    #[tactic(auto, using(vx_base::proofs::Signed::signed), unfolding(crate::specs::Sizes::is_inside))]
+    pub fn position(&self, x: i64, y: i64, z: i64) -> Option<Pos>
+        ensures { let p : Pos = record { y = y; z = z; x = x } in
+            SomeIff result (is_inside self.now p ≡ true) p }
+    {
+        self.soundness();
+        Some(Pos {
+            x: coordinate(x, u32::from(self.sx) * self.span())?,
+            y: coordinate(y, HEIGHT)?,
+            z: coordinate(z, u32::from(self.sz) * self.span())?,
+        })
+    }
+
     /// The number of the sector that holds the position, row by row from the north west; `None`
     /// outside the world.
-    #[tactic(auto, using(vx_base::proofs::Signed::signed), unfolding(crate::specs::Sizes::sector_of, crate::specs::Sizes::sector_number))]
+    #[tactic(auto, unfolding(crate::specs::Sizes::sector_of))]
     pub fn sector_of(&self, p: Pos) -> Option<u32>
         ensures { result ≡ sector_of self.now p }
     {
-        if !self.inside(p) {
-            return None;
+        if self.inside(p) {
+            Some(self.sector_holding(p))
+        } else {
+            None
         }
+    }
+
+    /// The number of the sector that holds a position of the world.
+    #[tactic(auto, using(vx_base::proofs::Signed::signed), unfolding(crate::specs::Sizes::sector_number))]
+    pub fn sector_holding(&self, p: Pos) -> u32
+        requires { is_inside self.now p ≡ true }
+        ensures { result ≡ sector_number self.now p }
+    {
         self.soundness();
-        let column = p.x.unsigned_abs() / self.span();
-        let row = p.z.unsigned_abs() / self.span();
-        Some(column + u32::from(self.sx) * row)
+        let column = self.sides(p.x.unsigned_abs());
+        let row = self.sides(p.z.unsigned_abs());
+        column + u32::from(self.sx) * row
     }
 
     /// How many cells a sector has: 16,384 or 65,536.
@@ -114,10 +139,9 @@ impl Bounds {
         ensures within { result < sector_cells self.now }
     {
         self.soundness();
-        let span = self.span();
-        let column = p.x.unsigned_abs() % span;
-        let row = p.z.unsigned_abs() % span;
-        cell_index(span, column, p.y.unsigned_abs(), row)
+        let column = self.past_sides(p.x.unsigned_abs());
+        let row = self.past_sides(p.z.unsigned_abs());
+        cell_index(self.span(), column, p.y.unsigned_abs(), row)
     }
 
     /// The first column of a sector, counted from the west.
@@ -148,12 +172,11 @@ impl Bounds {
         ensures { result ≡ position_in_sector self.now sector index }
     {
         self.soundness();
-        let span = self.span();
-        let row = index / span;
+        let row = self.sides(index);
         Pos {
-            y: (row / span) as i32,
-            z: (self.north(sector) + row % span) as i32,
-            x: (self.west(sector) + index % span) as i32,
+            y: self.sides(row) as i32,
+            z: (self.north(sector) + self.past_sides(row)) as i32,
+            x: (self.west(sector) + self.past_sides(index)) as i32,
         }
     }
 
@@ -176,6 +199,31 @@ impl Bounds {
         self.soundness();
         (sector + 2 * (u32::from(self.sx) + 1) + 1).min(self.sectors())
     }
+
+    // How many whole sides of a sector so many columns are. Each width stands as a number, so that
+    // the machine need not divide.
+    fn sides(&self, columns: u32) -> u32
+        ensures { result ≡ columns / span self.now }
+    {
+        self.soundness();
+        if self.s == 1 {
+            columns / 16
+        } else {
+            columns / 32
+        }
+    }
+
+    // How many columns are left over then.
+    fn past_sides(&self, columns: u32) -> u32
+        ensures { result ≡ columns % span self.now }
+    {
+        self.soundness();
+        if self.s == 1 {
+            columns % 16
+        } else {
+            columns % 32
+        }
+    }
 }
 
 // The index of the cell at `x`, `y`, `z` of a box that is `span` by `span` columns wide.
@@ -189,6 +237,18 @@ fn cell_index(span: u32, x: u32, y: u32, z: u32) -> u32
 {
     let row = z + span * y;
     x + span * row
+}
+
+// The coordinate c, where 0 <= c < n.
+fn coordinate(c: i64, n: u32) -> Option<i32>
+    requires { n ≤ 256 }
+    ensures { SomeIff result (is_below c n ≡ true) c }
+{
+    if 0 <= c && c < i64::from(n) {
+        Some(c as i32)
+    } else {
+        None
+    }
 }
 
 // Whether 0 <= c < n.

@@ -5,20 +5,24 @@ use vx_policy::Version;
 
 /// All that the next window of a sector takes beside its cells. It is made before the window
 /// begins, since making it takes memory and beginning does not.
+// A copy of the cells stands apart, since most sectors need none and each is handed on.
 #[derive(Drop)]
 pub struct Next {
-    pub(crate) base: Option<Cells>,
+    pub(crate) base: Option<Box<Cells>>,
     pub(crate) version: Version,
     pub(crate) entries: Vec<Entry>,
 }
 
 impl Model for Next {
-    ghost use Rattle.std.specs.Prelude.{◌≡◌, []};
+    ghost use Rattle.std.specs.Prelude.{◌≡◌, [], option_map};
     ghost use Rattle.vx_sector.specs.SectorData.{NextData};
 
     ghost Value = { NextData };
 
-    ghost view = { λ a. record { base = a.base; version = a.version } };
+    ghost view = { λ a. record {
+      base = option_map (λ b. b.value) a.base;
+      version = a.version;
+    } };
 
     ghost invariant = { λ a. a.entries.items ≡ [] };
 }

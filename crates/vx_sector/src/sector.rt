@@ -102,7 +102,7 @@ impl Sector {
         let base = if self.is_covered() {
             None
         } else {
-            Some(self.cells.try_clone()?)
+            Some(self.copied_cells()?)
         };
         Ok(Next {
             base,
@@ -126,7 +126,7 @@ impl Sector {
             entries: empty,
         } = next;
         match base {
-            Some(copy) => self.base = copy,
+            Some(copy) => self.base = Box::into_inner(copy),
             None => bring_up(&mut self.base, &self.entries, &self.cells),
         }
         self.version = judging;
@@ -251,6 +251,14 @@ impl Sector {
         }
         self.entries.push_reserved(entry);
         Ok(())
+    }
+
+    // A copy of the cells, in a place of its own.
+    fn copied_cells(&self) -> Result<Box<Cells>, AllocError>
+        ensures { IfOk result (λ copy. copy.value ≡ self.now.cells) }
+    {
+        let copy = self.cells.try_clone()?;
+        Ok(Box::new(*self.entries.allocator(), copy)?)
     }
 
     // Whether the base has a chest wherever the commands of the window left one.

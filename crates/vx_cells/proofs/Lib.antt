@@ -4,7 +4,6 @@ pub mod Copying
 pub mod Indices
 pub mod Listing
 pub mod MapLemmas
-pub mod Marking
 pub mod Placed
 pub mod Putting
 pub mod Setting
@@ -12,4 +11,3 @@ pub mod Stacks
 pub mod StoredBlocks
 pub mod StoredCells
 pub mod StoredMarks
-pub mod WordBits

@@ -8,11 +8,11 @@ use Rattle.vx_geom.specs.declared.pos.Pos.{Pos}
 use Rattle.vx_geom.specs.Places.{position_in_sector, positions_from, positions}
 use Rattle.vx_geom.specs.Sizes.{Sizes, AreSizes, sector_count, sector_cells, sector_of}
 use Rattle.vx_geom.proofs.Places.{position_held}
+use Rattle.vx_marks.specs.Marks.{IsFirst, lesser}
+use Rattle.vx_marks.proofs.Marking.{first_of_two}
 use Rattle.vx_cells.specs.Listed.{is_listed, is_listed_at, is_dust_at, is_device_at, listed_from, listed_of, components_of, devices_of, components_on, devices_on}
 use Rattle.vx_cells.specs.Maps.{MapData, AreSectors, cell_on}
-use Rattle.vx_cells.specs.Marks.{IsFirst, lesser}
 use Rattle.vx_cells.specs.SectorCells.{SectorCells, cell_at}
-use Rattle.vx_cells.proofs.Marking.{first_of_two}
 use Rattle.vx_cells.proofs.MapLemmas.{placed_at, cell_found}
 
 -- what of a list of positions passes a test

@@ -7,6 +7,7 @@ use Rattle.std.proofs.lemmas.Grind.{same_number_lists}
 use Rattle.std.proofs.lemmas.Map.{update_here, update_apart}
 use Rattle.vx_block.specs.declared.cell.Cell.TheVariants.{Air}
 use Rattle.vx_geom.specs.Sizes.{Sizes, sector_cells}
+use Rattle.vx_marks.proofs.Marking.{zero_at}
 use Rattle.vx_cells.specs.Chests.{Slots, ChestData, slots_of_chest, Changes}
 use Rattle.vx_cells.specs.Codes.{code_count, cell_of}
 use Rattle.vx_cells.specs.SectorCells.{Block, IsBlock, IsWhole, placed, only_air}
@@ -70,12 +71,6 @@ pub blocks-fresh : (index n : ℕ) → blocks_from index (replicate n 0) [] ≡ 
 unfolding cell_of
 blocks-fresh index zero = refl
 blocks-fresh index (suc n) = ap (λ bs. placed Air ∷ bs) (blocks-fresh (index + 1) n)
-
--- what a list of one number has at an index
-pub zero_at : (n k z : ℕ) → get_or (replicate n z) k z ≡ z
-zero_at zero k z = refl
-zero_at (suc n) zero z = refl
-zero_at (suc n) (suc k) z = zero_at n k z
 
 pub stored-fresh : (bounds : Sizes) (n : ℕ) (codes : List ℕ) (chests : ChestData) → codes ≡ replicate n 0 → chests ≡ [] → n ≡ sector_cells bounds → IsStored bounds codes chests
 unfolding cell_of

@@ -8,14 +8,14 @@ use Rattle.vx_block.specs.Components.{is_dust, is_device}
 use Rattle.vx_geom.specs.Places.{position_in_sector}
 use Rattle.vx_geom.specs.Sizes.{Sizes, AreSizes, sector_cells}
 use Rattle.vx_geom.proofs.Places.{position_indexed}
+use Rattle.vx_marks.specs.Marks.{is_marked, IsFirst, IsFirstMarked}
+use Rattle.vx_marks.proofs.Marking.{as_first, zero_at}
 use Rattle.vx_cells.specs.Chests.{ChestData}
 use Rattle.vx_cells.specs.Codes.{cell_of}
 use Rattle.vx_cells.specs.Listed.{is_dust_at, is_device_at}
-use Rattle.vx_cells.specs.Marks.{is_marked, IsFirst, IsFirstMarked}
 use Rattle.vx_cells.specs.SectorCells.{placed, block_at, cell_at}
 use Rattle.vx_cells.specs.Stored.{blocks_from, stored, AreMarks, IsKept}
-use Rattle.vx_cells.proofs.Marking.{as_first}
-use Rattle.vx_cells.proofs.StoredBlocks.{block-at, length-blocks, zero_at}
+use Rattle.vx_cells.proofs.StoredBlocks.{block-at, length-blocks}
 
 -- in a sector of air nothing is marked
 pub fresh_marks : (test : Cell → Bool) (n : ℕ) (codes marks : List ℕ) → test Air ≡ false

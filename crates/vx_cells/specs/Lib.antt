@@ -5,7 +5,6 @@ pub mod Laws
 pub mod Listed
 pub mod MapLaws
 pub mod Maps
-pub mod Marks
 pub mod SameCells
 pub mod SameSlots
 pub mod SectorCells

@@ -4,9 +4,9 @@ use Rattle.std.specs.Prelude.{◌≡◌, ℕ, ◌+◌, ◌*◌, ◌<◌, Bool, t
 use Rattle.vx_block.specs.declared.cell.Cell.{Cell}
 use Rattle.vx_block.specs.Components.{is_dust, is_device}
 use Rattle.vx_geom.specs.Sizes.{Sizes, sector_count, sector_cells}
+use Rattle.vx_marks.specs.Marks.{is_marked}
 use Rattle.vx_cells.specs.Chests.{Slots, ChestData, slots_of_chest}
 use Rattle.vx_cells.specs.Codes.{code_count, cell_of}
-use Rattle.vx_cells.specs.Marks.{is_marked}
 use Rattle.vx_cells.specs.SectorCells.{Block, SectorCells, is_chest, IsSlot}
 
 -- the block of a byte, with the slots that stand at its index

@@ -1,17 +1,17 @@
 ghost use Rattle.std.specs.Prelude.{◌≡◌, ◌<◌, ◌≤◌, ◌↔◌, nat_lt, length, true, false, IsTrue, IfOk, OnOk, OnErr, IfSome, IsOk};
 ghost use Rattle.std.specs.List.{All};
 ghost use Rattle.vx_geom.specs.Sizes.{sector_count, sector_cells};
+ghost use Rattle.vx_marks.specs.Marks.{IsFirst, is_passed, lesser};
 ghost use Rattle.vx_cells.specs.Listed.{components_of, devices_of, listed_of, is_dust_at, is_device_at};
-ghost use Rattle.vx_cells.specs.Marks.{IsFirst, is_passed, lesser};
 
 use crate::chests::Chests;
 use crate::code::{AIR, decode, encode, is_chest, is_device, is_dust};
-use crate::marks::Marks;
 use crate::stack::{SLOTS, Slot};
 use std::alloc::{AllocError, Global};
 use std::marker::Model;
 use vx_block::Cell;
 use vx_geom::{Bounds, Pos};
+use vx_marks::Marks;
 
 /// What stands in one sector of the world: a cell at each position, and the slots of each chest.
 // The cells are a byte each, in one block of memory; the chests stand beside it, by their indices,

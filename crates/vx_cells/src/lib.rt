@@ -1,13 +1,11 @@
 //! The cells of one sector of the world, and the chests in it; the map of all sectors.
 #![tactic(auto)]
 
-mod bits;
 mod cells;
 mod chests;
 mod code;
 mod frozen;
 mod laws;
-mod marks;
 mod stack;
 mod whole;
 
@@ -15,6 +13,5 @@ pub use cells::Cells;
 pub use code::is_same;
 pub use frozen::Frozen;
 pub use laws::{equal_is_the_same, other_blocks_stay, put_cell_is_read, set_block_is_read};
-pub use marks::Marks;
 pub use stack::{MAX_COUNT, SLOTS, Slot, Stack};
 pub use whole::Whole;

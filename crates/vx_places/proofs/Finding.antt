@@ -8,7 +8,7 @@ use Rattle.vx_geom.specs.declared.pos.Pos.{Pos}
 use Rattle.vx_geom.specs.Places.{position_in_sector, positions_from, positions}
 use Rattle.vx_geom.specs.Sizes.{Sizes, AreSizes, sector_count, sector_cells, sector_number, sector_of, index_in_sector}
 use Rattle.vx_geom.proofs.Places.{position_held, position_indexed, position_found}
-use Rattle.vx_cells.specs.Marks.{is_marked, IsFirstMarked}
+use Rattle.vx_marks.specs.Marks.{is_marked, IsFirstMarked}
 use Rattle.vx_cells.proofs.Indices.{index_below, numbered, number_below}
 use Rattle.vx_cells.proofs.Listing.{passed, taken, same_found}
 use Rattle.vx_places.specs.Places.{PlacesData, marked_in, marks_at, is_at, steps_between, marked_places}

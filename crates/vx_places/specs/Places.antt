@@ -4,7 +4,7 @@ use Rattle.std.specs.List.{filter}
 use Rattle.vx_geom.specs.declared.pos.Pos.{Pos}
 use Rattle.vx_geom.specs.Places.{positions}
 use Rattle.vx_geom.specs.Sizes.{Sizes, AreSizes, sector_count, sector_cells, sector_of, index_in_sector}
-use Rattle.vx_cells.specs.Marks.{is_marked}
+use Rattle.vx_marks.specs.Marks.{is_marked}
 
 -- positions of a world: its size, and the marks of each sector by the indices of its places; none
 -- where nothing was ever marked

@@ -12,8 +12,9 @@ use crate::around::{columns, end_within, least_within, rows, steps_along};
 use std::alloc::{AllocError, Global};
 use std::marker::Model;
 use vx_block::Cell;
-use vx_cells::{Frozen, Marks};
+use vx_cells::Frozen;
 use vx_geom::{Bounds, Pos};
+use vx_marks::Marks;
 
 // A world is so high.
 const HEIGHT: u32 = 64;

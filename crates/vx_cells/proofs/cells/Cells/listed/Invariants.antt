@@ -1,7 +1,7 @@
 use Rattle.std.proofs.Common.{◌≡◌, ◌-◌, ◌≤◌, ◌++◌}
 use Rattle.vx_geom.specs.Sizes.{sector_cells}
+use Rattle.vx_marks.specs.Marks.{IsFirst}
 use Rattle.vx_cells.specs.Listed.{is_dust_at, is_device_at, listed_from, listed_of}
-use Rattle.vx_cells.specs.Marks.{IsFirst}
 use Rattle.vx_cells.proofs.cells.Cells.listed.Given as goal
 
 -- what is found so far, what is listed from here on, and what comes next of each

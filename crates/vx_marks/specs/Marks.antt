@@ -1,4 +1,4 @@
--- Marks on the indices of a sector, a bit for each, in words of 64.
+-- Marks on indices, a bit for each, in words of 64.
 use Rattle.std.specs.Prelude.{◌≡◌, ℕ, ◌*◌, ◌/◌, ◌%◌, ◌<◌, ◌≤◌, min, Bool, true, false, nat_eq, nat_lt, List, length, slice_index_or, Option, Some, None}
 use Rattle.std.specs.Int.{bit_at}
 

@@ -5,7 +5,7 @@ use Rattle.std.proofs.lemmas.Bool.{cases_eq, cases_lt, eq-eqb, ne_eqb}
 use Rattle.std.proofs.lemmas.List.{get_or-set_same, get_or-set_other}
 use Rattle.std.proofs.lemmas.Nat.{shr-shr, shr_le}
 use Rattle.std.proofs.lemmas.Nat.Bits.{bit_at-zero, bit_at_above, bit_at-trailing_zeros}
-use Rattle.vx_cells.specs.Marks.{is_set, is_marked, IsFirst}
+use Rattle.vx_marks.specs.Marks.{is_set, is_marked, IsFirst}
 
 -- no bit of 0 is set
 pub unset : (i : ℕ) → is_set 0 i ≡ false

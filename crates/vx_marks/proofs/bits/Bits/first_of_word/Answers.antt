@@ -1,8 +1,8 @@
 use Rattle.std.proofs.Common.{◌*◌, Some, subst, arith}
 use Rattle.std.proofs.lemmas.List.{get_or_read}
-use Rattle.vx_cells.specs.Marks.{is_set, IsFirst}
-use Rattle.vx_cells.proofs.WordBits.{first_in_word}
-use Rattle.vx_cells.proofs.bits.Bits.first_of_word.Goals as goal
+use Rattle.vx_marks.specs.Marks.{is_set, IsFirst}
+use Rattle.vx_marks.proofs.WordBits.{first_in_word}
+use Rattle.vx_marks.proofs.bits.Bits.first_of_word.Goals as goal
 
 pub returns : goal.returns
 returns c =

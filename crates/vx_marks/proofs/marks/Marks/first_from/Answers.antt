@@ -1,7 +1,7 @@
 use Rattle.std.proofs.Common.{subst, sym}
-use Rattle.vx_cells.specs.Marks.{IsFirstMarked}
-use Rattle.vx_cells.proofs.Marking.{none_later, first_later}
-use Rattle.vx_cells.proofs.marks.Marks.first_from.Goals as goal
+use Rattle.vx_marks.specs.Marks.{IsFirstMarked}
+use Rattle.vx_marks.proofs.Marking.{none_later, first_later}
+use Rattle.vx_marks.proofs.marks.Marks.first_from.Goals as goal
 
 pub returns-in_err-word : goal.returns-in_err-word
 returns-in_err-word c =

@@ -1,8 +1,8 @@
 use Rattle.std.proofs.Common.{◌∙◌, ap, arith}
 use Rattle.std.proofs.lemmas.List.{get_or_read}
-use Rattle.vx_cells.specs.Marks.{is_set}
-use Rattle.vx_cells.proofs.WordBits.{mark_set}
-use Rattle.vx_cells.proofs.bits.Bits.set.Goals as goal
+use Rattle.vx_marks.specs.Marks.{is_set}
+use Rattle.vx_marks.proofs.WordBits.{mark_set}
+use Rattle.vx_marks.proofs.bits.Bits.set.Goals as goal
 
 pub returns-clause-marks : goal.returns-clause-marks
 returns-clause-marks c =

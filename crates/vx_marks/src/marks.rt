@@ -1,11 +1,11 @@
 ghost use Rattle.std.specs.Prelude.{◌≡◌, ◌*◌, ◌%◌, ◌<◌, ℕ, false, nat_eq, length, if◌then◌else◌, IfOk};
-ghost use Rattle.vx_cells.specs.Marks.{is_marked, IsFirstMarked};
+ghost use Rattle.vx_marks.specs.Marks.{is_marked, IsFirstMarked};
 
 use crate::bits::Bits;
 use std::alloc::{AllocError, Global};
 use std::marker::Model;
 
-/// Which indices of a sector are marked. The marked ones are found in order, and what is not marked
+/// Which indices below a bound are marked. The marked ones are found in order, and what is not marked
 /// is passed 4,096 indices at a time, or all at once where none was ever marked.
 // The second level has a bit for each word of the first that has any.
 #[derive(Drop)]
@@ -17,7 +17,7 @@ pub struct Marks {
 
 impl Model for Marks {
     ghost use Rattle.std.specs.Prelude.{ℕ, List};
-    ghost use Rattle.vx_cells.specs.Marks.{AreNoted};
+    ghost use Rattle.vx_marks.specs.Marks.{AreNoted};
 
     ghost Value = { List ℕ };
 

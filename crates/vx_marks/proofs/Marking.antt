@@ -1,10 +1,15 @@
 -- Marks and the words that have any.
-use Rattle.std.proofs.Common.{◌≡◌, ℕ, ◌+◌, ◌*◌, ◌/◌, ◌%◌, ◌<◌, ◌≤◌, Bool, true, false, ◌||◌, min, List, length, get_or, replicate, Option, Some, None, nat_lt, inl, inr, ap, sym, ◌∙◌, arith}
+use Rattle.std.proofs.Common.{◌≡◌, ℕ, zero, suc, ◌+◌, ◌*◌, ◌/◌, ◌%◌, ◌<◌, ◌≤◌, Bool, true, false, ◌||◌, min, List, length, get_or, replicate, Option, Some, None, nat_lt, inl, inr, refl, ap, sym, ◌∙◌, arith}
 use Rattle.std.proofs.lemmas.Bool.{cases_lt, ltb-true, ltb-false, or_from, or_left, or_right}
 use Rattle.std.proofs.lemmas.List.{length-replicate, get_or_past}
-use Rattle.vx_cells.specs.Marks.{is_set, is_marked, IsFirst, IsFirstMarked, AreFilled, lesser}
-use Rattle.vx_cells.proofs.StoredBlocks.{zero_at}
-use Rattle.vx_cells.proofs.WordBits.{unset}
+use Rattle.vx_marks.specs.Marks.{is_set, is_marked, IsFirst, IsFirstMarked, AreFilled, lesser}
+use Rattle.vx_marks.proofs.WordBits.{unset}
+
+-- what a list of one number has at an index
+pub zero_at : (n k z : ℕ) → get_or (replicate n z) k z ≡ z
+zero_at zero k z = refl
+zero_at (suc n) zero z = refl
+zero_at (suc n) (suc k) z = zero_at n k z
 
 -- an index of a word that is 0 is not marked
 unmarked : (words : List ℕ) (i : ℕ) → get_or words (i / 64) 0 ≡ 0 → is_marked words i ≡ false

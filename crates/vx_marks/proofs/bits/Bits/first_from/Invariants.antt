@@ -1,6 +1,6 @@
 use Rattle.std.proofs.Common.{◌-◌, ◌*◌, ◌≤◌, length}
-use Rattle.vx_cells.specs.Marks.{AreUnmarked}
-use Rattle.vx_cells.proofs.bits.Bits.first_from.Given as goal
+use Rattle.vx_marks.specs.Marks.{AreUnmarked}
+use Rattle.vx_marks.proofs.bits.Bits.first_from.Given as goal
 
 -- no index so far is marked
 abbrev pub invariant-loop-next : goal.invariant-loop-next

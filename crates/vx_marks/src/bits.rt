@@ -1,5 +1,5 @@
 ghost use Rattle.std.specs.Prelude.{◌≡◌, ◌≢◌, ◌+◌, ◌*◌, ◌/◌, ◌^◌, ◌<◌, ℕ, nat_eq, nat_lt, List, Some, length, replicate, slice_index_or, if◌then◌else◌, IfOk};
-ghost use Rattle.vx_cells.specs.Marks.{is_set, is_marked, IsFirst, IsFirstMarked};
+ghost use Rattle.vx_marks.specs.Marks.{is_set, is_marked, IsFirst, IsFirstMarked};
 
 use std::alloc::{AllocError, Global};
 use std::marker::Model;

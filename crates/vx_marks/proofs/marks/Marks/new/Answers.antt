@@ -1,7 +1,7 @@
 use Rattle.std.proofs.Common.{ℕ, ◌/◌, arith}
 use Rattle.std.proofs.lemmas.List.{length-replicate}
-use Rattle.vx_cells.proofs.Marking.{none_marked, none_filled}
-use Rattle.vx_cells.proofs.marks.Marks.new.Goals as goal
+use Rattle.vx_marks.proofs.Marking.{none_marked, none_filled}
+use Rattle.vx_marks.proofs.marks.Marks.new.Goals as goal
 
 pub invariant_of-result : goal.invariant_of-result
 invariant_of-result c =

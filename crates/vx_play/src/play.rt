@@ -192,13 +192,7 @@ impl<J: Naming> Play<J> {
         let cells = cells_of(alloc, &self.sectors)?;
         let written = written(alloc, &self.sectors)?;
         let map = Frozen::apart(self.bounds, &cells);
-        plan_woken(
-            alloc,
-            &map,
-            &self.version,
-            &self.waking,
-            written.as_slice(),
-        )
+        plan_woken(alloc, &map, &self.version, &self.waking, written.as_slice())
     }
 
     // Begins the next window of each sector over its cells with these put down, judged by the

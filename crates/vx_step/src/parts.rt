@@ -112,7 +112,9 @@ fn parted(
     let mut all_moves = Vec::new(alloc);
     for piece in found {
         let Found {
-            changes, mut moves, ..
+            changes,
+            mut moves,
+            ..
         } = piece;
         all_changes.push(changes)?;
         all_moves.append(&mut moves)?;

@@ -1,14 +1,13 @@
-use Rattle.std.proofs.Common.{◌≡◌, ◌+◌, true, false, ◌∷◌, ◌++◌, [], drop, length, map, refl, sym, ap, subst, ◌∙◌, rules}
+use Rattle.std.proofs.Common.{◌≡◌, ◌+◌, true, ◌∷◌, [], drop, length, map, refl, sym, ap, subst, ◌∙◌, rules}
 use Rattle.std.proofs.lemmas.Bool.{or_parts}
 use Rattle.std.proofs.lemmas.Option.{slice_get_read}
 use Rattle.vx_base.proofs.Lists.{drop_at}
-use Rattle.vx_geom.specs.declared.pos.Pos.{Pos}
 use Rattle.vx_cells.specs.CellsLaws.{cell_decided}
 use Rattle.vx_cells.specs.SectorCells.{cell_at}
 use Rattle.vx_power.specs.Levels.{has}
-use Rattle.vx_power.proofs.Having.{has_joined, own_place}
+use Rattle.vx_power.proofs.Having.{has_joined}
 use Rattle.vx_sector.specs.Commands.{place_of}
-use Rattle.vx_sector.specs.SectorData.{EntryData, entry_of}
+use Rattle.vx_sector.specs.SectorData.{entry_of}
 use Rattle.vx_sector.specs.Windows.{HoldsPlaces}
 use Rattle.vx_play.specs.Writing.{AreSpared}
 use Rattle.vx_play.proofs.Sparing.{spared_not}

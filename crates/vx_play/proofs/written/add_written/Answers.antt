@@ -1,13 +1,11 @@
-use Rattle.std.proofs.Common.{◌≡◌, false, map, sym, ap, subst, ◌∙◌}
+use Rattle.std.proofs.Common.{map, sym, ap, subst, ◌∙◌}
 use Rattle.std.proofs.lemmas.Result.{on_ok_weaker}
-use Rattle.vx_geom.specs.declared.pos.Pos.{Pos}
 use Rattle.vx_geom.specs.Sizes.{AreSizes}
 use Rattle.vx_cells.specs.SectorCells.{SectorCells}
-use Rattle.vx_power.specs.Levels.{has}
 use Rattle.vx_sector.specs.SectorData.{entry_of}
 use Rattle.vx_sector.specs.Windows.{HoldsPlaces}
 use Rattle.vx_sector.proofs.Catching.{after_bounds, after_sector, places_too, window_places}
-use Rattle.vx_play.specs.Writing.{IsSpared, AreSpared}
+use Rattle.vx_play.specs.Writing.{AreSpared}
 use Rattle.vx_play.proofs.Sparing.{spared_all}
 use Rattle.vx_play.proofs.written.add_written.Goals as goal
 

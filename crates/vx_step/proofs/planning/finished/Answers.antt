@@ -1,9 +1,8 @@
-use Rattle.std.proofs.Common.{◌++◌, sym, ap, ◌∙◌, subst}
-use Rattle.vx_geom.specs.Sizes.{sector_count}
+use Rattle.std.proofs.Common.{◌++◌, ap, ◌∙◌}
 use Rattle.vx_cells.specs.Maps.{cell_on}
 use Rattle.vx_power.specs.Levels.{has}
 use Rattle.vx_step.specs.Leaving.{shown_changes, hidden_changes, places_of}
-use Rattle.vx_step.proofs.Plans.{all_puts, no_chests}
+use Rattle.vx_step.proofs.Plans.{all_puts}
 use Rattle.vx_step.proofs.Remaining.{rests_after}
 use Rattle.vx_step.proofs.Resting.{all_restless}
 use Rattle.vx_step.proofs.planning.finished.Goals as goal

@@ -1,7 +1,6 @@
-use Rattle.std.proofs.Common.{◌≡◌, List, [], length, sym, ◌∙◌}
+use Rattle.std.proofs.Common.{[], sym, ◌∙◌}
 use Rattle.std.proofs.lemmas.Bool.{eqb-true}
 use Rattle.vx_geom.specs.declared.pos.Pos.{Pos}
-use Rattle.vx_cells.specs.Maps.{MapData}
 use Rattle.vx_wake.specs.Waking.{Rests}
 use Rattle.vx_step.proofs.Nothing.{all_rests, none_listed, nothing_worked, rests_still}
 use Rattle.vx_step.proofs.Plans.{all_puts}

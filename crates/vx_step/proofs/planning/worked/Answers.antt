@@ -1,4 +1,4 @@
-use Rattle.std.proofs.Common.{◌≡◌, length, ap, ◌∙◌, sym, subst}
+use Rattle.std.proofs.Common.{◌≡◌, length, ap, ◌∙◌, subst}
 use Rattle.vx_step.specs.Fates.{AreFates}
 use Rattle.vx_step.specs.Ticks.{put_down}
 use Rattle.vx_step.proofs.Plans.{is_worked}

@@ -1,7 +1,4 @@
 use Rattle.std.proofs.Common.{ap, ◌∙◌}
-use Rattle.std.specs.List.{filter}
-use Rattle.vx_cells.specs.Maps.{cell_on}
-use Rattle.vx_piston.specs.Moves.{is_restless}
 use Rattle.vx_places.specs.Places.{is_at}
 use Rattle.vx_step.specs.Ticks.{asked}
 use Rattle.vx_step.proofs.Resting.{kept_changes, kept_asked, kept_restless, restless_ask}

@@ -1,10 +1,5 @@
 use Rattle.std.proofs.Common.{ap, ◌∙◌}
-use Rattle.std.specs.List.{filter}
-use Rattle.vx_block.specs.Components.{is_device}
-use Rattle.vx_cells.specs.Listed.{devices_on}
-use Rattle.vx_cells.specs.Maps.{cell_on}
 use Rattle.vx_geom.specs.Places.{positions}
-use Rattle.vx_piston.specs.Moves.{is_restless}
 use Rattle.vx_power.specs.Levels.{level_in}
 use Rattle.vx_step.specs.Ticks.{asked}
 use Rattle.vx_step.proofs.Asking.{all_asked, asked_exact}

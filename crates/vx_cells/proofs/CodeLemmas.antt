@@ -1,5 +1,5 @@
 -- Each code below 165 is of another cell.
-use Rattle.std.proofs.Common.{◌≡◌, ℕ, ◌+◌, ◌-◌, ◌*◌, ◌/◌, ◌<◌, Bool, true, false, cond, nat_eq, get_or, refl, sym, ap, ◌∙◌, arith, true≢false, nat_lt, nat_le, ◌&&◌, ◌≤◌, if◌then◌else◌}
+use Rattle.std.proofs.Common.{◌≡◌, ℕ, ◌+◌, ◌-◌, ◌*◌, ◌/◌, ◌<◌, Bool, true, false, cond, nat_eq, get_or, refl, sym, ap, ◌∙◌, arith, true≢false, nat_lt, nat_le, ◌&&◌, ◌||◌, ◌≤◌, if◌then◌else◌}
 use Rattle.std.proofs.lemmas.Bool.{eqb-true}
 use Rattle.std.proofs.lemmas.List.FromFn.{get_or-range_with_len, length-range_with_len}
 use Rattle.std.proofs.lemmas.List.Folds.{list_all_at}
@@ -18,7 +18,8 @@ use Rattle.vx_block.specs.declared.cell.Cell.{Cell}
 use Rattle.vx_block.specs.declared.cell.Cell.TheVariants as cell
 use Rattle.std.specs.Cmp.{booleans_Decides}
 use Rattle.std.specs.Bool.{beq}
-use Rattle.vx_block.specs.Components.{is_dust, is_device}
+use Rattle.vx_block.specs.Components.{is_dust, is_device, is_component}
+use Rattle.vx_block.specs.Conductors.{conducts}
 use Rattle.vx_cells.specs.SectorCells.{is_chest}
 use Rattle.vx_cells.specs.Codes.{code_count, is_odd, dir_at, lamp_at, repeater_at, cell_with_state, cell_of}
 
@@ -179,3 +180,31 @@ each_device = refl
 pub device_code : (n : ℕ) → n < code_count → is_device (cell_of n) ≡ (nat_le 24 n && nat_lt n 153)
 unfolding told_device
 device_code n small = (booleans_Decides _ _).0 (passes told_device each_device n small)
+
+told_component : ℕ → Bool
+told_component n = beq (is_component (cell_of n)) (nat_le 8 n && nat_lt n 153)
+
+each_component : list_all told_component (range_with_len 0 code_count) ≡ true
+unfolding cell_of cell_with_state told_component
+each_component = refl
+
+-- 8 to 152 are the codes of components
+pub component_code : (n : ℕ) → n < code_count → is_component (cell_of n) ≡ (nat_le 8 n && nat_lt n 153)
+unfolding told_component
+component_code n small = (booleans_Decides _ _).0 (passes told_component each_component n small)
+
+abbrev between : ℕ → ℕ → ℕ → Bool
+between n low high = nat_lt low n && nat_lt n high
+
+told_conductor : ℕ → Bool
+told_conductor n = beq (conducts (cell_of n)) (between n 0 4 || (between n 4 7 || (nat_le 126 n && nat_lt n 129)))
+
+each_conductor : list_all told_conductor (range_with_len 0 code_count) ≡ true
+unfolding cell_of cell_with_state told_conductor
+each_conductor = refl
+
+-- 1 to 3, 5, 6 and 126 to 128 are the codes of conductors
+pub conductor_code : (n : ℕ) → n < code_count
+    → conducts (cell_of n) ≡ (between n 0 4 || (between n 4 7 || (nat_le 126 n && nat_lt n 129)))
+unfolding told_conductor
+conductor_code n small = (booleans_Decides _ _).0 (passes told_conductor each_conductor n small)

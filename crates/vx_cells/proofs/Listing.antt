@@ -1,16 +1,15 @@
 -- What is listed of a sector, in the order of its positions.
-use Rattle.std.proofs.Common.{◌≡◌, ℕ, nat_lt, length, zero, suc, ◌+◌, ◌-◌, ◌<◌, ◌≤◌, Bool, true, false, List, [], ◌∷◌, ◌++◌, slice_get, cond, Option, Some, None, is_some, refl, ap, sym, subst, ◌∙◌, arith, append_assoc, append-nil}
+use Rattle.std.proofs.Common.{◌≡◌, ℕ, nat_lt, length, zero, suc, ◌+◌, ◌-◌, ◌*◌, ◌<◌, ◌≤◌, Bool, true, false, List, [], ◌∷◌, ◌++◌, slice_get, cond, Option, Some, None, is_some, refl, ap, sym, ◌∙◌, arith, append_assoc, append-nil}
 use Rattle.std.proofs.lemmas.Bool.{lt-ltb}
 use Rattle.std.specs.List.{filter}
 use Rattle.vx_block.specs.declared.cell.Cell.{Cell}
 use Rattle.vx_block.specs.Components.{is_device, is_component}
 use Rattle.vx_geom.specs.declared.pos.Pos.{Pos}
 use Rattle.vx_geom.specs.Places.{position_in_sector, positions_from, positions}
-use Rattle.vx_geom.specs.Sizes.{Sizes, AreSizes, sector_count, sector_cells, sector_of}
-use Rattle.vx_geom.proofs.Places.{position_held}
-use Rattle.vx_marks.specs.Marks.{IsFirst, lesser}
-use Rattle.vx_marks.proofs.Marking.{first_of_two}
-use Rattle.vx_cells.specs.Listed.{is_listed, is_listed_at, is_dust_at, is_device_at, listed_from, listed_of, components_of, devices_of, components_on, devices_on}
+use Rattle.vx_geom.specs.Sizes.{Sizes, AreSizes, sector_count, sector_cells, sector_of, index_in_sector}
+use Rattle.vx_geom.proofs.Places.{position_held, position_indexed}
+use Rattle.vx_marks.specs.Marks.{is_marked, IsFirstMarked}
+use Rattle.vx_cells.specs.Listed.{components_of, devices_of, components_on, devices_on, marked_places}
 use Rattle.vx_cells.specs.Maps.{MapData, AreSectors, cell_on}
 use Rattle.vx_cells.specs.SectorCells.{SectorCells, cell_at}
 use Rattle.vx_cells.proofs.MapLemmas.{placed_at, cell_found}
@@ -45,65 +44,68 @@ module _ (v : Sizes) (k : ℕ) (f : Pos → Bool) where
       ∙ ap (λ b. cond b (position_in_sector v k i ∷ rest (suc i) n) (rest (suc i) n)) pass
       ∙ ap (λ j. position_in_sector v k i ∷ rest j n) next
 
-module _ (with_dust : Bool) (c : SectorCells) where
-  abbrev asked : Pos → Bool
-  asked p = is_listed with_dust (cell_at c p)
-
-  -- from index 0 on all is listed
-  pub listed_first : listed_from with_dust c 0 ≡ listed_of with_dust c
-  unfolding positions
-  listed_first =
-      let all : sector_cells c.bounds - 0 ≡ sector_cells c.bounds = omega arith in
-      ap (λ n. filter asked (positions_from c.bounds c.sector 0 n)) all
-
-  -- the lesser of the first dust and the first device is the first that is asked for
-  pub first_listed : (from : ℕ) (dust device found : Option ℕ) → lesser dust device ≡ found
-      → IsFirst (is_dust_at with_dust c) (sector_cells c.bounds) from dust
-      → IsFirst (is_device_at c) (sector_cells c.bounds) from device
-      → IsFirst (is_listed_at with_dust c) (sector_cells c.bounds) from found
-  first_listed from dust device found is first second =
-      subst (IsFirst (is_listed_at with_dust c) (sector_cells c.bounds) from) is
-      (first_of_two (is_dust_at with_dust c) (is_device_at c) (sector_cells c.bounds) from dust device first second)
-
-  module _ (from : ℕ) (found : List Pos) (low : from ≤ sector_cells c.bounds)
-      (so_far : found ++ listed_from with_dust c from ≡ listed_of with_dust c) where
-    -- with the next that is asked for all are found up to behind it
-    pub listed_on : (i : ℕ) (p : Pos) → p ≡ position_in_sector c.bounds c.sector i
-        → IsFirst (is_listed_at with_dust c) (sector_cells c.bounds) from (Some i)
-        → (found ++ p ∷ []) ++ listed_from with_dust c (i + 1) ≡ listed_of with_dust c
-    listed_on i p place first =
-        let to = sector_cells c.bounds in
-        let gap : to - from ≡ i - from + (to - i) = omega (arith, first.0, first.1) in
-        let at : i ≡ from + (i - from) = omega (arith, first.0) in
-        let here = passed c.bounds c.sector asked (i - from) (to - i) (to - from) from i gap at first.3 in
-        append_assoc found (p ∷ []) _
-        ∙ ap (λ q. found ++ q ∷ listed_from with_dust c (i + 1)) place
-        ∙ ap (λ ps. found ++ ps) (sym (here ∙ taken c.bounds c.sector asked i to first.1 first.2))
-        ∙ so_far
-
-    -- where none is asked for any more all are found
-    pub listed_all : IsFirst (is_listed_at with_dust c) (sector_cells c.bounds) from None
-        → found ≡ listed_of with_dust c
-    listed_all none =
-        let to = sector_cells c.bounds in
-        let gap = to - from in
-        let here = passed c.bounds c.sector asked gap 0 gap from to (omega arith) (omega arith) none in
-        sym (append-nil found) ∙ ap (λ ps. found ++ ps) (sym here) ∙ so_far
+-- the marked positions of a sector from an index on
+abbrev pub left_from : Sizes → ℕ → List ℕ → ℕ → List Pos
+left_from v k words from =
+    filter (λ p. is_marked words (index_in_sector v p)) (positions_from v k from (sector_cells v - from))
 
 one_or_more : (p : Pos) (ps : List Pos) → nat_lt 0 (length (p ∷ ps)) ≡ true
 one_or_more p ps = lt-ltb 0 (length (p ∷ ps)) (omega arith)
 
--- an index of a device is found exactly where one stands in the sector
-pub some_device : (c : SectorCells) (found : Option ℕ)
-    → IsFirst (is_listed_at false c) (sector_cells c.bounds) 0 found
-    → is_some found ≡ nat_lt 0 (length (devices_of c))
-unfolding devices_of
-some_device c None none = ap (λ ps. nat_lt 0 (length ps))
-    (listed_all false c 0 [] (omega arith) (listed_first false c) none)
-some_device c (Some i) first =
-    sym (one_or_more (position_in_sector c.bounds c.sector i) (listed_from false c (i + 1)))
-    ∙ ap (λ ps. nat_lt 0 (length ps))
-    (listed_on false c 0 [] (omega arith) (listed_first false c) i _ refl first)
+-- the marks of a sector, in the order of its positions
+module _ (v : Sizes) (k : ℕ) (words : List ℕ) (sizes : AreSizes v) (low : k < sector_count v)
+    (room : 64 * length words ≡ sector_cells v) where
+  abbrev marked : Pos → Bool
+  marked p = is_marked words (index_in_sector v p)
+
+  abbrev left : ℕ → List Pos
+  left from = left_from v k words from
+
+  marked_there : (i : ℕ) (b : Bool) → is_marked words i ≡ b → marked (position_in_sector v k i) ≡ b
+  marked_there i b is = ap (is_marked words) (position_indexed v k sizes low i) ∙ is
+
+  -- from index 0 on all are found
+  pub found_first : left 0 ≡ marked_places v k words
+  unfolding positions
+  found_first =
+      let all : sector_cells v - 0 ≡ sector_cells v = omega arith in
+      ap (λ n. filter marked (positions_from v k 0 n)) all
+
+  -- with the next that is marked all are found up to behind it
+  pub found_on : (from : ℕ) (found : List Pos) (i : ℕ) (p : Pos)
+      → found ++ left from ≡ marked_places v k words → p ≡ position_in_sector v k i
+      → IsFirstMarked words from (Some i)
+      → (found ++ p ∷ []) ++ left (i + 1) ≡ marked_places v k words
+  found_on from found i p so_far place first =
+      let to = sector_cells v in
+      let near : i < to = omega (arith, first.1, room) in
+      let gap : to - from ≡ i - from + (to - i) = omega (arith, first.0, near) in
+      let at : i ≡ from + (i - from) = omega (arith, first.0) in
+      let here = passed v k marked (i - from) (to - i) (to - from) from i gap at
+      (λ j least less. marked_there j false (first.3 j least less)) in
+      append_assoc found (p ∷ []) _
+      ∙ ap (λ q. found ++ q ∷ left (i + 1)) place
+      ∙ ap (λ ps. found ++ ps) (sym (here ∙ taken v k marked i to near (marked_there i true first.2)))
+      ∙ so_far
+
+  -- where none is marked any more all are found
+  pub found_all : (from : ℕ) (found : List Pos) → from ≤ sector_cells v
+      → found ++ left from ≡ marked_places v k words
+      → IsFirstMarked words from None → found ≡ marked_places v k words
+  found_all from found within so_far none =
+      let to = sector_cells v in
+      let gap = to - from in
+      let here = passed v k marked gap 0 gap from to (omega arith) (omega arith)
+      (λ j least less. marked_there j false (none j least (omega (arith, room)))) in
+      sym (append-nil found) ∙ ap (λ ps. found ++ ps) (sym here) ∙ so_far
+
+  -- an index is marked exactly where a position is found
+  pub some_marked : (found : Option ℕ) → IsFirstMarked words 0 found
+      → is_some found ≡ nat_lt 0 (length (marked_places v k words))
+  some_marked None none = ap (λ ps. nat_lt 0 (length ps)) (found_all 0 [] (omega arith) found_first none)
+  some_marked (Some i) first =
+      sym (one_or_more (position_in_sector v k i) (left (i + 1)))
+      ∙ ap (λ ps. nat_lt 0 (length ps)) (found_on 0 [] i _ found_first refl first)
 
 -- two tests that agree on the positions of a sector find the same
 module _ (f g : Pos → Bool) (v : Sizes) (k : ℕ) (sizes : AreSizes v) (low : k < sector_count v)

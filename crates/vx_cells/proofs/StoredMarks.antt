@@ -1,20 +1,20 @@
 -- Marks beside the store: which cells they tell.
-use Rattle.std.proofs.Common.{◌≡◌, ℕ, ◌*◌, ◌<◌, ◌≤◌, Bool, true, false, if◌then◌else◌, List, length, get_or, set, replicate, Option, nat_eq, inl, inr, ap, sym, subst, ◌∙◌, arith}
+use Rattle.std.proofs.Common.{◌≡◌, ℕ, ◌*◌, ◌<◌, ◌≤◌, Bool, false, if◌then◌else◌, List, length, get_or, set, replicate, nat_eq, inl, inr, ap, sym, ◌∙◌, arith}
 use Rattle.std.proofs.lemmas.Bool.{cases_lt, cases_eq, eq-eqb, ne_eqb}
 use Rattle.std.proofs.lemmas.List.{get_or_past, get_or-set_same, get_or-set_other, length-set, length-replicate}
+use Rattle.std.specs.List.{filter}
 use Rattle.vx_block.specs.declared.cell.Cell.{Cell}
 use Rattle.vx_block.specs.declared.cell.Cell.TheVariants.{Air}
-use Rattle.vx_block.specs.Components.{is_dust, is_device}
-use Rattle.vx_geom.specs.Places.{position_in_sector}
-use Rattle.vx_geom.specs.Sizes.{Sizes, AreSizes, sector_cells}
-use Rattle.vx_geom.proofs.Places.{position_indexed}
-use Rattle.vx_marks.specs.Marks.{is_marked, IsFirst, IsFirstMarked}
-use Rattle.vx_marks.proofs.Marking.{as_first, zero_at}
+use Rattle.vx_geom.specs.Places.{positions}
+use Rattle.vx_geom.specs.Sizes.{Sizes, AreSizes, sector_count, sector_cells, index_in_sector}
+use Rattle.vx_marks.specs.Marks.{is_marked}
+use Rattle.vx_marks.proofs.Marking.{zero_at}
 use Rattle.vx_cells.specs.Chests.{ChestData}
 use Rattle.vx_cells.specs.Codes.{cell_of}
-use Rattle.vx_cells.specs.Listed.{is_dust_at, is_device_at}
+use Rattle.vx_cells.specs.Listed.{marked_places}
 use Rattle.vx_cells.specs.SectorCells.{placed, block_at, cell_at}
-use Rattle.vx_cells.specs.Stored.{blocks_from, stored, AreMarks, IsKept}
+use Rattle.vx_cells.specs.Stored.{blocks_from, stored, AreMarks}
+use Rattle.vx_cells.proofs.Listing.{same_found}
 use Rattle.vx_cells.proofs.StoredBlocks.{block-at, length-blocks}
 
 -- in a sector of air nothing is marked
@@ -61,33 +61,15 @@ cell_here codes chests k = elim (cases_lt k (length codes)) [
       ∙ ap (λ b. b.cell) (sym (get_or_past blocks k (placed Air) no_block))
 ]
 
--- marks tell the indices at whose positions something stands
-module _ (bounds : Sizes) (sector : ℕ) (codes : List ℕ) (chests : ChestData) (dust devices : List ℕ)
-    (sizes : AreSizes bounds) (kept : IsKept bounds sector codes chests dust devices) where
-  cell_there : (i : ℕ) → cell_of (get_or codes i 0)
-      ≡ cell_at (stored bounds sector codes chests) (position_in_sector bounds sector i)
-  unfolding block_at
-  cell_there i =
-      let index = position_indexed bounds sector sizes kept.sector_low i in
-      cell_here codes chests i
-      ∙ ap (λ j. (get_or (blocks_from 0 codes chests) j (placed Air)).cell) (sym index)
-
-  first_cell : (test : Cell → Bool) (marks : List ℕ) (from : ℕ) (found : Option ℕ)
-      → AreMarks test codes marks → IsFirstMarked marks from found
-      → IsFirst (λ i. test (cell_at (stored bounds sector codes chests) (position_in_sector bounds sector i)))
-      (sector_cells bounds) from found
-  first_cell test marks from found are first =
-      let count = are.long ∙ kept.stored.whole in
-      subst (λ (f : ℕ → Bool). IsFirst f (sector_cells bounds) from found)
-      (λ t i. (are.each i ∙ ap test (cell_there i)) t)
-      (subst (λ n. IsFirst (is_marked marks) n from found) count (as_first marks from found first))
-
-  -- the first mark of a device is the first device
-  pub next_device : (from : ℕ) (found : Option ℕ) → IsFirstMarked devices from found
-      → IsFirst (is_device_at (stored bounds sector codes chests)) (sector_cells bounds) from found
-  next_device from found first = first_cell is_device devices from found kept.devices first
-
-  -- and that of dust the first dust
-  pub next_dust : (from : ℕ) (found : Option ℕ) → IsFirstMarked dust from found
-      → IsFirst (is_dust_at true (stored bounds sector codes chests)) (sector_cells bounds) from found
-  next_dust from found first = first_cell is_dust dust from found kept.dust first
+-- marks tell the positions at which something stands
+module _ (bounds : Sizes) (sector : ℕ) (codes : List ℕ) (chests : ChestData) (sizes : AreSizes bounds)
+    (low : sector < sector_count bounds) where
+  pub marked_are : (test : Cell → Bool) (marks : List ℕ) → AreMarks test codes marks
+      → marked_places bounds sector marks
+      ≡ filter (λ p. test (cell_at (stored bounds sector codes chests) p)) (positions bounds sector)
+  unfolding block_at positions
+  marked_are test marks are =
+      same_found (λ p. is_marked marks (index_in_sector bounds p))
+      (λ p. test (cell_at (stored bounds sector codes chests) p)) bounds sector sizes low
+      (λ p held. are.each (index_in_sector bounds p) ∙ ap test (cell_here codes chests (index_in_sector bounds p)))
+      (sector_cells bounds) 0 (omega arith)

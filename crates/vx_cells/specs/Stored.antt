@@ -2,7 +2,7 @@
 -- where components stand.
 use Rattle.std.specs.Prelude.{◌≡◌, ℕ, ◌+◌, ◌*◌, ◌<◌, Bool, true, false, List, [], ◌∷◌, length, slice_index_or, All, Option, Some, None, unwrap_or}
 use Rattle.vx_block.specs.declared.cell.Cell.{Cell}
-use Rattle.vx_block.specs.Components.{is_dust, is_device}
+use Rattle.vx_block.specs.Components.{is_device, is_component}
 use Rattle.vx_geom.specs.Sizes.{Sizes, sector_count, sector_cells}
 use Rattle.vx_marks.specs.Marks.{is_marked}
 use Rattle.vx_cells.specs.Chests.{Slots, ChestData, slots_of_chest}
@@ -48,10 +48,10 @@ pub record AreMarks (test : Cell → Bool) (store marks : List ℕ) : Type 0 whe
   pub each : (index : ℕ)
       → is_marked marks index ≡ test (cell_of (slice_index_or store index 0))
 
--- a sector of a world is stored, with marks where dust stands and where devices do
+-- a sector of a world is stored, with marks where components stand and where devices do
 pub record IsKept (bounds : Sizes) (sector : ℕ) (store : List ℕ) (slots : ChestData)
-    (dust_marks device_marks : List ℕ) : Type 0 where
+    (component_marks device_marks : List ℕ) : Type 0 where
   pub sector_low : sector < sector_count bounds
   pub stored : IsStored bounds store slots
-  pub dust : AreMarks is_dust store dust_marks
+  pub components : AreMarks is_component store component_marks
   pub devices : AreMarks is_device store device_marks

@@ -1,11 +1,13 @@
-ghost use Rattle.std.specs.Prelude.{◌≡◌, ◌<◌, ◌≤◌, ◌↔◌, nat_lt, length, true, false, IsTrue, IfOk, OnOk, OnErr, IfSome, IsOk};
+ghost use Rattle.std.specs.Prelude.{◌≡◌, ◌<◌, ◌↔◌, nat_lt, length, true, false, IsTrue, IfOk, OnOk, OnErr, IfSome, IsOk};
 ghost use Rattle.std.specs.List.{All};
 ghost use Rattle.vx_geom.specs.Sizes.{sector_count, sector_cells};
-ghost use Rattle.vx_marks.specs.Marks.{IsFirst, is_passed, lesser};
-ghost use Rattle.vx_cells.specs.Listed.{components_of, devices_of, listed_of, is_dust_at, is_device_at};
+ghost use Rattle.vx_block.specs.Components.{is_dust};
+ghost use Rattle.vx_block.specs.Conductors.{conducts};
+ghost use Rattle.vx_cells.specs.Listed.{components_of, devices_of};
 
 use crate::chests::Chests;
-use crate::code::{AIR, decode, encode, is_chest, is_device, is_dust};
+use crate::code::{AIR, conducts, decode, encode, is_chest, is_component, is_device, is_dust};
+use crate::marked::marked_places;
 use crate::stack::{SLOTS, Slot};
 use std::alloc::{AllocError, Global};
 use std::marker::Model;
@@ -15,14 +17,14 @@ use vx_marks::Marks;
 
 /// What stands in one sector of the world: a cell at each position, and the slots of each chest.
 // The cells are a byte each, in one block of memory; the chests stand beside it, by their indices,
-// and marks where dust and devices stand.
+// and marks where components of machines stand, and which of them are devices.
 #[derive(Drop)]
 pub struct Cells {
     bounds: Bounds,
     sector: u32,
     store: Vec<u8>,
     chests: Chests,
-    dust: Marks,
+    components: Marks,
     devices: Marks,
 }
 
@@ -34,7 +36,7 @@ impl Model for Cells {
 
     ghost view = { λ a. stored a.bounds a.sector a.store.items a.chests };
 
-    ghost invariant = { λ a. IsKept a.bounds a.sector a.store.items a.chests a.dust a.devices };
+    ghost invariant = { λ a. IsKept a.bounds a.sector a.store.items a.chests a.components a.devices };
 }
 
 impl Cells {
@@ -47,14 +49,14 @@ impl Cells {
         ensures { IfOk result (λ cells. cells ≡ only_air bounds sector) }
     {
         let store = vec![in alloc; AIR; bounds.sector_cells() as usize]?;
-        let dust = Marks::new(alloc, bounds.sector_cells())?;
+        let components = Marks::new(alloc, bounds.sector_cells())?;
         let devices = Marks::new(alloc, bounds.sector_cells())?;
         Ok(Cells {
             bounds,
             sector,
             store,
             chests: Chests::new(alloc),
-            dust,
+            components,
             devices,
         })
     }
@@ -100,6 +102,22 @@ impl Cells {
         decode(self.store[self.bounds.index_in_sector(p) as usize])
     }
 
+    /// Whether dust lies at a position of this sector.
+    pub fn has_dust(&self, p: Pos) -> bool
+        requires { holds self.now p ≡ true }
+        ensures { result ≡ is_dust (cell_at self.now p) }
+    {
+        is_dust(self.store[self.bounds.index_in_sector(p) as usize])
+    }
+
+    /// Whether a conductor stands at a position of this sector.
+    pub fn has_conductor(&self, p: Pos) -> bool
+        requires { holds self.now p ≡ true }
+        ensures { result ≡ conducts (cell_at self.now p) }
+    {
+        conducts(self.store[self.bounds.index_in_sector(p) as usize])
+    }
+
     /// Puts a cell down at a position of this sector, in place of what was there. A chest begins
     /// empty; it alone takes memory.
     pub fn set(&mut self, p: Pos, cell: Cell) -> Result<(), AllocError>
@@ -113,7 +131,7 @@ impl Cells {
         let code = encode(cell);
         self.chests.replace(index, is_chest(was), is_chest(code))?;
         self.store[index as usize] = code;
-        self.dust.set(index, is_dust(code));
+        self.components.set(index, is_component(code));
         self.devices.set(index, is_device(code));
         Ok(())
     }
@@ -180,131 +198,39 @@ impl Cells {
             sector: self.sector,
             store: Vec::from_slice(*self.store.allocator(), &self.store)?,
             chests: self.chests.try_clone()?,
-            dust: self.dust.try_clone()?,
+            components: self.components.try_clone()?,
             devices: self.devices.try_clone()?,
         })
     }
 
     /// The positions where a component of machines stands, in order. It costs what stands there.
-    #[tactic(auto, unfolding(crate::specs::Listed::components_of))]
     pub fn components(&self, alloc: Global) -> Result<Vec<Pos>, AllocError>
         ensures { IfOk result (λ found. found.items ≡ components_of self.now) }
     {
-        self.listed(alloc, true)
+        self.bounds.soundness();
+        marked_places(alloc, self.bounds, self.sector, &self.components)
     }
 
     /// The positions where a device stands, in order. It costs what stands there.
-    #[tactic(auto, unfolding(crate::specs::Listed::devices_of))]
     pub fn devices(&self, alloc: Global) -> Result<Vec<Pos>, AllocError>
         ensures { IfOk result (λ found. found.items ≡ devices_of self.now) }
     {
-        self.listed(alloc, false)
+        self.bounds.soundness();
+        marked_places(alloc, self.bounds, self.sector, &self.devices)
     }
 
-    /// How many words of marks have one, of dust and of devices: about what going over all
-    /// components costs. No clause tells the number, since nothing but costs rests on it.
+    /// How many words of marks have one of a component: about what going over all components
+    /// costs. No clause tells the number, since nothing but costs rests on it.
     pub fn component_words(&self) -> u32 {
-        self.dust
-            .filled_words()
-            .saturating_add(self.devices.filled_words())
+        self.components.filled_words()
     }
 
     /// Whether a device stands in this sector. Where none was ever placed it costs a look.
     pub fn has_devices(&self) -> bool
         ensures { result ≡ nat_lt 0 (length (devices_of self.now)) }
     {
-        self.first_device(0).is_some()
-    }
-
-    // The positions of devices, and of dust where that is asked for too, in order.
-    fn listed(&self, alloc: Global, with_dust: bool) -> Result<Vec<Pos>, AllocError>
-        ensures { IfOk result (λ found. found.items ≡ listed_of with_dust self.now) }
-    {
         self.bounds.soundness();
-        let mut found = Vec::new(alloc);
-        let mut from = 0;
-        let mut dust = self.first_dust(with_dust, 0);
-        let mut device = self.first_device(0);
-        while let Some(index) = lesser(dust, device) {
-            let Ok(()) = found.push(self.bounds.position_in_sector(self.sector, index)) else {
-                return Err(AllocError);
-            };
-            dust = self.dust_from(with_dust, dust, from, index + 1);
-            device = self.device_from(device, from, index + 1);
-            from = index + 1;
-        }
-        Ok(found)
-    }
-
-    // The first index of dust from one on, where that is known from an earlier one on. It is looked
-    // for only where what is known lies before.
-    fn dust_from(&self, with_dust: bool, known: Option<u32>, was: u32, from: u32) -> Option<u32>
-        requires later { was ≤ from }
-        requires known { IsFirst (is_dust_at with_dust self.now) (sector_cells self.now.bounds) was
-            known }
-        ensures { IsFirst (is_dust_at with_dust self.now) (sector_cells self.now.bounds) from
-            result }
-    {
-        if is_passed(known, from) {
-            self.first_dust(with_dust, from)
-        } else {
-            known
-        }
-    }
-
-    // The same of devices.
-    fn device_from(&self, known: Option<u32>, was: u32, from: u32) -> Option<u32>
-        requires later { was ≤ from }
-        requires known { IsFirst (is_device_at self.now) (sector_cells self.now.bounds) was known }
-        ensures { IsFirst (is_device_at self.now) (sector_cells self.now.bounds) from result }
-    {
-        if is_passed(known, from) {
-            self.first_device(from)
-        } else {
-            known
-        }
-    }
-
-    // The first index of dust from one on, where dust is asked for.
-    fn first_dust(&self, with_dust: bool, from: u32) -> Option<u32>
-        ensures { IsFirst (is_dust_at with_dust self.now) (sector_cells self.now.bounds) from
-            result }
-    {
-        self.bounds.soundness();
-        if with_dust {
-            self.dust.first_from(from)
-        } else {
-            None
-        }
-    }
-
-    // The first index of a device from one on.
-    fn first_device(&self, from: u32) -> Option<u32>
-        ensures { IsFirst (is_device_at self.now) (sector_cells self.now.bounds) from result }
-    {
-        self.bounds.soundness();
-        self.devices.first_from(from)
-    }
-}
-
-// Whether an index is known that lies before this one.
-fn is_passed(known: Option<u32>, from: u32) -> bool
-    ensures { result ≡ is_passed known from }
-{
-    match known {
-        Some(index) => index < from,
-        None => false,
-    }
-}
-
-// The lesser of two indices, where there are any.
-fn lesser(a: Option<u32>, b: Option<u32>) -> Option<u32>
-    ensures { result ≡ lesser a b }
-{
-    match (a, b) {
-        (Some(a), Some(b)) => Some(a.min(b)),
-        (Some(a), None) => Some(a),
-        (None, b) => b,
+        self.devices.first_from(0).is_some()
     }
 }
 

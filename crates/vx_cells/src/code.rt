@@ -1,6 +1,7 @@
 //! The bytes that stand for cells: each of the 165 cells has one, below 165.
 ghost use Rattle.std.specs.Prelude.{◌≡◌, ◌+◌, ◌*◌, ◌/◌, ◌<◌, ◌≤◌};
-ghost use Rattle.vx_block.specs.Components.{is_dust, is_device};
+ghost use Rattle.vx_block.specs.Components.{is_dust, is_device, is_component};
+ghost use Rattle.vx_block.specs.Conductors.{conducts};
 ghost use Rattle.vx_block.specs.declared.cell.Cell.TheVariants.{Torch, Lever, Piston, Head};
 ghost use Rattle.vx_cells.specs.Codes.{code_count, is_odd, plain_at, side_at, mount_at, dir_at, delay_at, wait_at, repeater_at, lamp_at, cell_with_state, cell_of};
 ghost use Rattle.vx_cells.specs.SameCells.{same_cell};
@@ -50,6 +51,24 @@ pub fn is_device(code: u8) -> bool
     ensures { result ≡ is_device (cell_of code) }
 {
     24 <= code && code < 153
+}
+
+/// Whether that byte is a component's: dust's or a device's.
+#[tactic(auto, using(crate::proofs::CodeLemmas::component_code))]
+pub fn is_component(code: u8) -> bool
+    requires { code < code_count }
+    ensures { result ≡ is_component (cell_of code) }
+{
+    8 <= code && code < 153
+}
+
+/// Whether that byte is a conductor's.
+#[tactic(auto, using(crate::proofs::CodeLemmas::conductor_code))]
+pub fn conducts(code: u8) -> bool
+    requires { code < code_count }
+    ensures { result ≡ conducts (cell_of code) }
+{
+    0 < code && code < 4 || 4 < code && code < 7 || 126 <= code && code < 129
 }
 
 fn plain(code: u8) -> Cell

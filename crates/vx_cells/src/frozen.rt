@@ -1,4 +1,6 @@
 ghost use Rattle.std.specs.Prelude.{◌≡◌, ◌<◌, ◌≤◌, nat_lt, length, map, slice_get, true, None, Some, IfOk, IfSome, SomeIff};
+ghost use Rattle.vx_block.specs.Components.{is_dust};
+ghost use Rattle.vx_block.specs.Conductors.{conducts};
 ghost use Rattle.vx_block.specs.declared.cell.Cell.TheVariants.{Air};
 ghost use Rattle.vx_geom.specs.Neighbor.{neighbor};
 ghost use Rattle.vx_geom.specs.Sizes.{is_inside, sector_count};
@@ -6,6 +8,7 @@ ghost use Rattle.vx_geom.specs.declared.dir.Dir.TheVariants.{Up, Down};
 ghost use Rattle.vx_geom.specs.declared.pos.Pos.{Pos};
 ghost use Rattle.vx_cells.specs.Listed.{components_on, devices_on};
 ghost use Rattle.vx_cells.specs.MapLaws.{IsFilled};
+ghost use Rattle.vx_cells.specs.SectorCells.{holds, cell_at};
 
 use crate::cells::Cells;
 use std::alloc::{AllocError, Global};
@@ -92,51 +95,29 @@ impl<'a> Frozen<'a> {
         }
     }
 
+    /// Whether dust lies at a position.
+    #[tactic(auto, unfolding(crate::specs::Maps::cell_on, vx_geom::specs::Sizes::sector_of))]
+    pub fn has_dust(&self, p: Pos) -> bool
+        ensures { result ≡ is_dust (cell_on self.now p) }
+    {
+        self.bounds.inside(p) && self.holding(p).has_dust(p)
+    }
+
+    /// Whether a conductor stands at a position.
+    #[tactic(auto, unfolding(crate::specs::Maps::cell_on, vx_geom::specs::Sizes::sector_of))]
+    pub fn has_conductor(&self, p: Pos) -> bool
+        ensures { result ≡ conducts (cell_on self.now p) }
+    {
+        self.bounds.inside(p) && self.holding(p).has_conductor(p)
+    }
+
     /// The cell at the next position on that side.
-    #[tactic(auto, using(vx_base::proofs::Signed::signed))]
     pub fn beside(&self, p: Pos, dir: Dir) -> Cell
         ensures { result ≡ cell_on self.now (neighbor p dir) }
     {
-        let (x, y, z) = (i64::from(p.x), i64::from(p.y), i64::from(p.z));
-        match dir {
-            Dir::East => self.look(x + 1, y, z),
-            Dir::West => self.look(x - 1, y, z),
-            Dir::Up => self.look(x, y + 1, z),
-            Dir::Down => self.look(x, y - 1, z),
-            Dir::South => self.look(x, y, z + 1),
-            Dir::North => self.look(x, y, z - 1),
-        }
-    }
-
-    /// The cell over the next position on that side.
-    #[tactic(auto, using(vx_base::proofs::Signed::signed))]
-    pub fn above(&self, p: Pos, dir: Dir) -> Cell
-        ensures { result ≡ cell_on self.now (neighbor (neighbor p dir) Up) }
-    {
-        let (x, y, z) = (i64::from(p.x), i64::from(p.y), i64::from(p.z));
-        match dir {
-            Dir::East => self.look(x + 1, y + 1, z),
-            Dir::West => self.look(x - 1, y + 1, z),
-            Dir::Up => self.look(x, y + 1 + 1, z),
-            Dir::Down => self.look(x, y - 1 + 1, z),
-            Dir::South => self.look(x, y + 1, z + 1),
-            Dir::North => self.look(x, y + 1, z - 1),
-        }
-    }
-
-    /// The cell under the next position on that side.
-    #[tactic(auto, using(vx_base::proofs::Signed::signed))]
-    pub fn below(&self, p: Pos, dir: Dir) -> Cell
-        ensures { result ≡ cell_on self.now (neighbor (neighbor p dir) Down) }
-    {
-        let (x, y, z) = (i64::from(p.x), i64::from(p.y), i64::from(p.z));
-        match dir {
-            Dir::East => self.look(x + 1, y - 1, z),
-            Dir::West => self.look(x - 1, y - 1, z),
-            Dir::Up => self.look(x, y + 1 - 1, z),
-            Dir::Down => self.look(x, y - 1 - 1, z),
-            Dir::South => self.look(x, y - 1, z + 1),
-            Dir::North => self.look(x, y - 1, z - 1),
+        match self.next(p, dir) {
+            Some(next) => self.cell_inside(next),
+            None => Cell::Air,
         }
     }
 
@@ -155,6 +136,42 @@ impl<'a> Frozen<'a> {
             Dir::Down => self.place(x, y - 1, z),
             Dir::South => self.place(x, y, z + 1),
             Dir::North => self.place(x, y, z - 1),
+        }
+    }
+
+    /// The position over the next one on that side, where the world has one.
+    #[tactic(auto, using(vx_base::proofs::Signed::signed))]
+    pub fn next_above(&self, p: Pos, dir: Dir) -> Option<Pos>
+        ensures value { let over = neighbor (neighbor p dir) Up in
+            SomeIff result (is_inside self.now.sizes over ≡ true) over }
+        ensures outside { result ≡ None → cell_on self.now (neighbor (neighbor p dir) Up) ≡ Air }
+    {
+        let (x, y, z) = (i64::from(p.x), i64::from(p.y), i64::from(p.z));
+        match dir {
+            Dir::East => self.place(x + 1, y + 1, z),
+            Dir::West => self.place(x - 1, y + 1, z),
+            Dir::Up => self.place(x, y + 1 + 1, z),
+            Dir::Down => self.place(x, y - 1 + 1, z),
+            Dir::South => self.place(x, y + 1, z + 1),
+            Dir::North => self.place(x, y + 1, z - 1),
+        }
+    }
+
+    /// The position under the next one on that side, where the world has one.
+    #[tactic(auto, using(vx_base::proofs::Signed::signed))]
+    pub fn next_below(&self, p: Pos, dir: Dir) -> Option<Pos>
+        ensures value { let under = neighbor (neighbor p dir) Down in
+            SomeIff result (is_inside self.now.sizes under ≡ true) under }
+        ensures outside { result ≡ None → cell_on self.now (neighbor (neighbor p dir) Down) ≡ Air }
+    {
+        let (x, y, z) = (i64::from(p.x), i64::from(p.y), i64::from(p.z));
+        match dir {
+            Dir::East => self.place(x + 1, y - 1, z),
+            Dir::West => self.place(x - 1, y - 1, z),
+            Dir::Up => self.place(x, y + 1 - 1, z),
+            Dir::Down => self.place(x, y - 1 - 1, z),
+            Dir::South => self.place(x, y - 1, z + 1),
+            Dir::North => self.place(x, y - 1, z - 1),
         }
     }
 
@@ -241,22 +258,21 @@ impl<'a> Frozen<'a> {
         self.bounds.position(x, y, z)
     }
 
-    // The cell at these coordinates, which may lie past the ends of a position's.
-    fn look(&self, x: i64, y: i64, z: i64) -> Cell
-        ensures { result ≡ cell_on self.now (record { y = y; z = z; x = x }) }
-    {
-        match self.place(x, y, z) {
-            Some(p) => self.cell_inside(p),
-            None => Cell::Air,
-        }
-    }
-
     // The cell at a position of the world.
     fn cell_inside(&self, p: Pos) -> Cell
         requires { is_inside self.now.sizes p ≡ true }
         ensures { result ≡ cell_on self.now p }
     {
+        self.holding(p).get(p)
+    }
+
+    // The sector that holds a position of the world.
+    fn holding(&self, p: Pos) -> &Cells
+        requires { is_inside self.now.sizes p ≡ true }
+        ensures holds { holds result.now p ≡ true }
+        ensures cell { cell_at result.now p ≡ cell_on self.now p }
+    {
         self.soundness();
-        self.sector_at(self.bounds().sector_holding(p)).get(p)
+        self.sector_at(self.bounds().sector_holding(p))
     }
 }

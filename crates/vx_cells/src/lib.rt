@@ -6,6 +6,7 @@ mod chests;
 mod code;
 mod frozen;
 mod laws;
+mod marked;
 mod stack;
 mod whole;
 
@@ -13,5 +14,6 @@ pub use cells::Cells;
 pub use code::is_same;
 pub use frozen::Frozen;
 pub use laws::{equal_is_the_same, other_blocks_stay, put_cell_is_read, set_block_is_read};
+pub use marked::marked_places;
 pub use stack::{MAX_COUNT, SLOTS, Slot, Stack};
 pub use whole::Whole;

@@ -5,8 +5,8 @@ use crate::bits::Bits;
 use std::alloc::{AllocError, Global};
 use std::marker::Model;
 
-/// Which indices below a bound are marked. The marked ones are found in order, and what is not marked
-/// is passed 4,096 indices at a time, or all at once where none was ever marked.
+/// Which indices below a bound are marked. The marked ones are found in order, and what is not
+/// marked is passed 4,096 indices at a time, or all at once where none was ever marked.
 // The second level has a bit for each word of the first that has any.
 #[derive(Drop)]
 pub struct Marks {
@@ -48,6 +48,9 @@ impl Marks {
         ensures marks { (i : ℕ) → is_marked self.new i
             ≡ (if nat_eq i index then marked else is_marked self.old i) }
     {
+        if self.bits.has(index) == marked {
+            return;
+        }
         self.bits.set(index, marked);
         self.has_any = self.has_any || marked;
         let word = index / 64;

@@ -8,63 +8,11 @@ use Rattle.vx_geom.specs.declared.pos.Pos.{Pos}
 use Rattle.vx_geom.specs.Places.{position_in_sector, positions_from, positions}
 use Rattle.vx_geom.specs.Sizes.{Sizes, AreSizes, sector_count, sector_cells, sector_number, sector_of, index_in_sector}
 use Rattle.vx_geom.proofs.Places.{position_held, position_indexed, position_found}
-use Rattle.vx_marks.specs.Marks.{is_marked, IsFirstMarked}
 use Rattle.vx_cells.proofs.Indices.{index_below, numbered, number_below}
-use Rattle.vx_cells.proofs.Listing.{passed, taken, same_found}
+use Rattle.vx_cells.proofs.Listing.{same_found}
 use Rattle.vx_places.specs.Places.{PlacesData, marked_in, marks_at, is_at, steps_between, marked_places}
 use Rattle.vx_places.proofs.Marked.{inside_of}
 use Rattle.vx_places.proofs.Steps.{is_place, place_is}
-
--- the marked positions of a sector from an index on
-abbrev pub left_from : Sizes → ℕ → List ℕ → ℕ → List Pos
-left_from v k words from =
-    filter (λ p. is_marked words (index_in_sector v p)) (positions_from v k from (sector_cells v - from))
-
--- the marks of a sector, in the order of its positions
-module _ (v : Sizes) (k : ℕ) (words : List ℕ) (sizes : AreSizes v) (low : k < sector_count v)
-    (room : 64 * length words ≡ sector_cells v) where
-  abbrev marked : Pos → Bool
-  marked p = is_marked words (index_in_sector v p)
-
-  abbrev left : ℕ → List Pos
-  left from = left_from v k words from
-
-  there : (i : ℕ) (b : Bool) → is_marked words i ≡ b → marked (position_in_sector v k i) ≡ b
-  there i b is = ap (is_marked words) (position_indexed v k sizes low i) ∙ is
-
-  pub found_first : left 0 ≡ marked_places v k (Some words)
-  unfolding positions
-  found_first =
-      let all : sector_cells v - 0 ≡ sector_cells v = omega arith in
-      ap (λ n. filter marked (positions_from v k 0 n)) all
-
-  -- with the next that is marked all are found up to behind it
-  pub found_on : (from : ℕ) (found : List Pos) (i : ℕ) (p : Pos)
-      → found ++ left from ≡ marked_places v k (Some words) → p ≡ position_in_sector v k i
-      → IsFirstMarked words from (Some i)
-      → (found ++ p ∷ []) ++ left (i + 1) ≡ marked_places v k (Some words)
-  found_on from found i p so_far place first =
-      let to = sector_cells v in
-      let near : i < to = omega (arith, first.1, room) in
-      let gap : to - from ≡ i - from + (to - i) = omega (arith, first.0, near) in
-      let at : i ≡ from + (i - from) = omega (arith, first.0) in
-      let here = passed v k marked (i - from) (to - i) (to - from) from i gap at
-      (λ j least less. there j false (first.3 j least less)) in
-      append_assoc found (p ∷ []) _
-      ∙ ap (λ q. found ++ q ∷ left (i + 1)) place
-      ∙ ap (λ ps. found ++ ps) (sym (here ∙ taken v k marked i to near (there i true first.2)))
-      ∙ so_far
-
-  -- where none is marked any more all are found
-  pub found_all : (from : ℕ) (found : List Pos) → from ≤ sector_cells v
-      → found ++ left from ≡ marked_places v k (Some words)
-      → IsFirstMarked words from None → found ≡ marked_places v k (Some words)
-  found_all from found within so_far none =
-      let to = sector_cells v in
-      let gap = to - from in
-      let here = passed v k marked gap 0 gap from to (omega arith) (omega arith)
-      (λ j least less. there j false (none j least (omega (arith, room)))) in
-      sym (append-nil found) ∙ ap (λ ps. found ++ ps) (sym here) ∙ so_far
 
 -- what is not marked is not found
 none_kept : (ps : List Pos) → filter (λ p. false) ps ≡ []

@@ -6,13 +6,13 @@ ghost use Rattle.vx_geom.specs.Sizes.{AreSizes, height, span, sector_count, sect
 ghost use Rattle.vx_block.specs.Components.{is_component};
 ghost use Rattle.vx_cells.specs.Maps.{cell_on};
 ghost use Rattle.vx_places.specs.Around.{is_component_around, is_component_at, at_number, layer_of, row_of, Adds};
-ghost use Rattle.vx_places.specs.Places.{marked_in, is_at, steps_between, marked_places, HasRoom};
+ghost use Rattle.vx_places.specs.Places.{marked_in, is_at, steps_between, HasRoom};
 
 use crate::around::{columns, end_within, least_within, rows, steps_along};
 use std::alloc::{AllocError, Global};
 use std::marker::Model;
 use vx_block::Cell;
-use vx_cells::Frozen;
+use vx_cells::{Frozen, marked_places};
 use vx_geom::{Bounds, Pos};
 use vx_marks::Marks;
 
@@ -206,7 +206,7 @@ impl Places {
     {
         self.soundness();
         match self.marks_of(sector) {
-            Some(marks) => listed(alloc, self.bounds, sector, marks),
+            Some(marks) => marked_places(alloc, self.bounds, sector, marks),
             None => Ok(Vec::new(alloc)),
         }
     }
@@ -284,23 +284,4 @@ fn mark_in(
             Ok(())
         }
     }
-}
-
-// The marked positions of a sector, in order. It costs what is marked.
-fn listed(alloc: Global, bounds: Bounds, sector: u32, marks: &Marks) -> Result<Vec<Pos>, AllocError>
-    requires sector { sector < sector_count bounds }
-    requires room { 64 * length marks.now ≡ sector_cells bounds }
-    ensures { IfOk result (λ found.
-        found.items ≡ marked_places bounds sector (Some marks.now)) }
-{
-    bounds.soundness();
-    let mut found = Vec::new(alloc);
-    let mut from = 0;
-    while let Some(index) = marks.first_from(from) {
-        let Ok(()) = found.push(bounds.position_in_sector(sector, index)) else {
-            return Err(AllocError);
-        };
-        from = index + 1;
-    }
-    Ok(found)
 }

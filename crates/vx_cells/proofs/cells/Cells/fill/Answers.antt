@@ -31,6 +31,6 @@ invariant_of-self c =
       sector_low = kept.sector_low;
       stored = filled-held s.bounds s.sector s.store.items s.chests kept.stored c.args.p _ c.index_in_sector-index.ensures.value within
           _ _ chest c.fill.ensures block;
-      dust = kept.dust;
+      components = kept.components;
       devices = kept.devices;
     }

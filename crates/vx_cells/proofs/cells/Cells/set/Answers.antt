@@ -1,5 +1,5 @@
 use Rattle.std.proofs.Common.{◌<◌, length, arith}
-use Rattle.vx_block.specs.Components.{is_dust, is_device}
+use Rattle.vx_block.specs.Components.{is_device, is_component}
 use Rattle.vx_cells.proofs.Indices.{inside_from_holds}
 use Rattle.vx_cells.proofs.StoredCells.{put-held, put-stored}
 use Rattle.vx_cells.proofs.StoredMarks.{marks_set}
@@ -22,8 +22,8 @@ invariant_of-self-2 c =
       stored = put-held s.bounds s.sector s.store.items s.chests kept.stored c.args.p index
           c.index_in_sector-index.ensures.value within
           _ _ _ c.is_chest-2.ensures c.in_ok-replace.ensures.ok c.encode-code.ensures.within;
-      dust = marks_set is_dust s.store.items s.dust c.set.new.self index code c.is_dust.result kept.dust
-          near c.is_dust.ensures c.set.ensures.length c.set.ensures.marks;
+      components = marks_set is_component s.store.items s.components c.set.new.self index code c.is_component.result
+          kept.components near c.is_component.ensures c.set.ensures.length c.set.ensures.marks;
       devices = marks_set is_device s.store.items s.devices c.set-2.new.self index code c.is_device.result
           kept.devices near c.is_device.ensures c.set-2.ensures.length c.set-2.ensures.marks;
     }

@@ -6,10 +6,10 @@ use Rattle.vx_places.proofs.places.Places.in_sector.Goals as goal
 pub returns-in-Some : goal.returns-in-Some
 returns-in-Some c =
     let words = c.in-Some.marks.now in
-    subst (λ all. IfOk c.listed.result (λ found. found.items ≡ all))
+    subst (λ all. IfOk c.marked_places.result (λ found. found.items ≡ all))
     (ap (λ d. marked_places d.sizes c.args.sector (Some words)) c.self.view_is
     ∙ sector_found c.args.self.now c.args.sector (Some words) c.soundness.ensures c.requires c.in-Some.ensures.some)
-    c.listed.ensures
+    c.marked_places.ensures
 
 pub returns-in-None : goal.returns-in-None
 returns-in-None c =

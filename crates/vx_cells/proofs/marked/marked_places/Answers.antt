@@ -1,6 +1,6 @@
 use Rattle.std.proofs.Common.{◌+◌, ◌++◌, ap, ◌∙◌, arith}
-use Rattle.vx_places.proofs.Finding.{left_from, found_first, found_on, found_all}
-use Rattle.vx_places.proofs.places.listed.Goals as goal
+use Rattle.vx_cells.proofs.Listing.{left_from, found_first, found_on, found_all}
+use Rattle.vx_cells.proofs.marked.marked_places.Goals as goal
 
 pub loop-index-init : goal.loop-index-init
 loop-index-init c =

@@ -1,14 +1,14 @@
-use Rattle.std.proofs.Common.{◌≡◌, ◌-◌, ◌≤◌, ◌++◌, Some}
+use Rattle.std.proofs.Common.{◌≡◌, ◌-◌, ◌≤◌, ◌++◌}
 use Rattle.vx_geom.specs.Sizes.{sector_cells}
-use Rattle.vx_places.specs.Places.{marked_places}
-use Rattle.vx_places.proofs.Finding.{left_from}
-use Rattle.vx_places.proofs.places.listed.Given as goal
+use Rattle.vx_cells.specs.Listed.{marked_places}
+use Rattle.vx_cells.proofs.Listing.{left_from}
+use Rattle.vx_cells.proofs.marked.marked_places.Given as goal
 
 -- what is found so far, and what is marked from here on
 abbrev pub invariant-loop-index : goal.invariant-loop-index
 invariant-loop-index l = record {
   within : l.from ≤ sector_cells l.bounds;
-  all : l.found.items ++ left_from l.bounds l.sector l.marks l.from ≡ marked_places l.bounds l.sector (Some l.marks);
+  all : l.found.items ++ left_from l.bounds l.sector l.marks l.from ≡ marked_places l.bounds l.sector l.marks;
 }
 
 abbrev pub decreases-loop-index : goal.decreases-loop-index

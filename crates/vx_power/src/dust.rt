@@ -12,7 +12,10 @@ use vx_geom::{Dir, Pos};
 pub fn links_beside(map: &Frozen<'_>, p: Pos, side: Side) -> bool
     ensures { result ≡ links_beside (cell_on map.now) p side }
 {
-    map.beside(p, side.dir()).is_dust()
+    match map.next(p, side.dir()) {
+        Some(next) => map.has_dust(next),
+        None => false,
+    }
 }
 
 /// Whether dust at a position climbs to dust one higher on that side.
@@ -20,7 +23,10 @@ pub fn links_beside(map: &Frozen<'_>, p: Pos, side: Side) -> bool
 pub fn links_up(map: &Frozen<'_>, p: Pos, side: Side) -> bool
     ensures { result ≡ links_up (cell_on map.now) p side }
 {
-    map.above(p, side.dir()).is_dust() && !map.beside(p, Dir::Up).conducts()
+    match map.next_above(p, side.dir()) {
+        Some(over) => map.has_dust(over) && !map.beside(p, Dir::Up).conducts(),
+        None => false,
+    }
 }
 
 /// Whether dust at a position runs down to dust one lower on that side.
@@ -28,7 +34,10 @@ pub fn links_up(map: &Frozen<'_>, p: Pos, side: Side) -> bool
 pub fn links_down(map: &Frozen<'_>, p: Pos, side: Side) -> bool
     ensures { result ≡ links_down (cell_on map.now) p side }
 {
-    map.below(p, side.dir()).is_dust() && !map.beside(p, side.dir()).conducts()
+    match map.next_below(p, side.dir()) {
+        Some(under) => map.has_dust(under) && !map.beside(p, side.dir()).conducts(),
+        None => false,
+    }
 }
 
 // Whether dust joins this cell, which stands on that side of it, and is no dust.

@@ -9,7 +9,6 @@ ghost use Rattle.vx_power.specs.Dust.{beside, over, under, links_up, links_down}
 ghost use Rattle.vx_power.specs.Signals.{gives, drives, is_fed};
 ghost use Rattle.vx_power.specs.Spreading.{dust_at};
 
-use crate::dust::{links_down, links_up};
 use crate::signals::{drives, gives, is_fed};
 use vx_block::{Cell, Side};
 use vx_cells::Frozen;
@@ -19,7 +18,7 @@ use vx_geom::{Dir, Pos};
 pub fn dust_here(map: &Frozen<'_>, p: Pos) -> Option<Pos>
     ensures { option_to_list result ≡ (if is_dust (cell_on map.now p) then p ∷ [] else []) }
 {
-    if map.cell(p).is_dust() { Some(p) } else { None }
+    if map.has_dust(p) { Some(p) } else { None }
 }
 
 /// The dust at a position, if it is fed.
@@ -35,33 +34,33 @@ pub fn dust_at(map: &Frozen<'_>, p: Pos, dir: Dir) -> Option<Pos>
     ensures { option_to_list result ≡ dust_at (cell_on map.now) p dir }
 {
     match map.next(p, dir) {
-        Some(next) if map.cell(next).is_dust() => Some(next),
+        Some(next) if map.has_dust(next) => Some(next),
         _ => None,
     }
 }
 
 /// The dust to which dust at a position climbs on that side.
+#[tactic(auto, unfolding(crate::specs::Dust::links_up))]
 pub fn dust_over(map: &Frozen<'_>, p: Pos, side: Side) -> Option<Pos>
     ensures { option_to_list result
         ≡ (if links_up (cell_on map.now) p side then over (beside p side) ∷ [] else []) }
 {
-    map.soundness();
-    if !links_up(map, p, side) {
-        return None;
+    match map.next_above(p, side.dir()) {
+        Some(over) if map.has_dust(over) && !map.beside(p, Dir::Up).conducts() => Some(over),
+        _ => None,
     }
-    p.step(side.dir())?.step(Dir::Up)
 }
 
 /// The dust to which dust at a position runs down on that side.
+#[tactic(auto, unfolding(crate::specs::Dust::links_down))]
 pub fn dust_under(map: &Frozen<'_>, p: Pos, side: Side) -> Option<Pos>
     ensures { option_to_list result
         ≡ (if links_down (cell_on map.now) p side then under (beside p side) ∷ [] else []) }
 {
-    map.soundness();
-    if !links_down(map, p, side) {
-        return None;
+    match map.next_below(p, side.dir()) {
+        Some(under) if map.has_dust(under) && !map.beside(p, side.dir()).conducts() => Some(under),
+        _ => None,
     }
-    p.step(side.dir())?.step(Dir::Down)
 }
 
 /// The dust in that direction to which a cell at a position gives power.
@@ -86,7 +85,7 @@ pub fn driven(map: &Frozen<'_>, cell: &Cell, p: Pos, dir: Dir) -> Option<Pos>
         return None;
     }
     match map.next(p, dir) {
-        Some(next) if map.cell(next).conducts() => Some(next),
+        Some(next) if map.has_conductor(next) => Some(next),
         _ => None,
     }
 }

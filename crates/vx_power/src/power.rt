@@ -30,7 +30,7 @@ fn dust_powers<L: Leveled>(map: &Frozen<'_>, levels: &L, p: Pos, dir: Dir) -> bo
     ensures { result ≡ dust_powers (cell_on map.now) (L.level levels.now) p dir }
 {
     match map.next(p, dir) {
-        Some(next) => { map.cell(next).is_dust() && 0 < levels.at(next) && reaches(map, next, dir) }
+        Some(next) => map.has_dust(next) && 0 < levels.at(next) && reaches(map, next, dir),
         None => false,
     }
 }
@@ -47,7 +47,7 @@ fn is_dust_powered<L: Leveled>(map: &Frozen<'_>, levels: &L, p: Pos) -> bool
 pub fn powered<L: Leveled>(map: &Frozen<'_>, levels: &L, p: Pos) -> bool
     ensures { result ≡ is_powered (cell_on map.now) (L.level levels.now) p }
 {
-    map.cell(p).conducts() && (is_driven(map, p) || is_dust_powered(map, levels, p))
+    map.has_conductor(p) && (is_driven(map, p) || is_dust_powered(map, levels, p))
 }
 
 /// Whether what stands in that direction from a position makes a lamp, a piston or a repeater there

@@ -51,7 +51,7 @@ pub fn is_driven(map: &Frozen<'_>, p: Pos) -> bool
 pub fn is_strong(map: &Frozen<'_>, p: Pos) -> bool
     ensures { result ≡ is_strong (cell_on map.now) p }
 {
-    map.cell(p).conducts() && is_driven(map, p)
+    map.has_conductor(p) && is_driven(map, p)
 }
 
 #[tactic(auto, unfolding(crate::specs::Signals::feeds_from, crate::specs::Signals::is_strong))]
@@ -77,5 +77,5 @@ fn has_feeder(map: &Frozen<'_>, p: Pos) -> bool
 pub fn is_fed(map: &Frozen<'_>, p: Pos) -> bool
     ensures { result ≡ is_fed (cell_on map.now) p }
 {
-    map.cell(p).is_dust() && has_feeder(map, p)
+    map.has_dust(p) && has_feeder(map, p)
 }

@@ -315,7 +315,7 @@ impl Spread {
         ensures { OnOk result (Reaches (R.holds region.now) level self.old self.new
             (links (cell_on map.now) p)) }
     {
-        if !map.cell(p).is_dust() {
+        if !map.has_dust(p) {
             return Ok(());
         }
         for side in Side::ALL {

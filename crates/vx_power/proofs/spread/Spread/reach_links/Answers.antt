@@ -6,8 +6,8 @@ use Rattle.vx_power.specs.Dust.{links_on}
 use Rattle.vx_power.proofs.Reaching.{reaches_none, reaches_nothing, reaches_more, reaches_all, all_sides_give, no_links}
 use Rattle.vx_power.proofs.spread.Spread.reach_links.Goals as goal
 
-pub returns-then-not-is_dust : goal.returns-then-not-is_dust
-returns-then-not-is_dust g c =
+pub returns-then-not-has_dust : goal.returns-then-not-has_dust
+returns-then-not-has_dust g c =
     let none : is_dust (cell_on c.args.map.now c.args.p) ≡ false = cc in
     reaches_nothing (no_links (cell_on c.args.map.now) c.args.p none)
 

@@ -7,7 +7,7 @@ ghost use Rattle.vx_part.specs.Changes.{change_at, changes};
 ghost use Rattle.vx_power.specs.Laws.{dust_level};
 ghost use Rattle.vx_power.specs.Levels.{AreLevels};
 
-use crate::parts::next_part;
+use crate::parts::next_of;
 use std::alloc::{AllocError, Global};
 use vx_block::Cell;
 use vx_cells::{Frozen, is_same};
@@ -60,7 +60,7 @@ fn change<L: Leveled>(map: &Frozen<'_>, levels: &L, p: Pos) -> Option<Cell>
     ensures { result ≡ change_at (cell_on map.now) (L.level levels.now) p }
 {
     let now = map.cell(p);
-    let next = next_part(map, levels, p);
+    let next = next_of(map, levels, p, now);
     if is_same(&next, &now) {
         return None;
     }

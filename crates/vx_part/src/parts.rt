@@ -20,8 +20,9 @@ pub fn next_part<L: Leveled>(map: &Frozen<'_>, levels: &L, p: Pos) -> Cell
     next_of(map, levels, p, map.cell(p))
 }
 
+/// The same where this cell stands there.
 #[tactic(auto, unfolding(crate::specs::Parts::next_of))]
-fn next_of<L: Leveled>(map: &Frozen<'_>, levels: &L, p: Pos, cell: Cell) -> Cell
+pub fn next_of<L: Leveled>(map: &Frozen<'_>, levels: &L, p: Pos, cell: Cell) -> Cell
     ensures { result ≡ next_of (cell_on map.now) (L.level levels.now) p cell }
 {
     match cell {

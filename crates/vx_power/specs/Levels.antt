@@ -1,11 +1,10 @@
 -- Levels of dust, as a table has them, near a sector.
-use Rattle.std.specs.Prelude.{◌≡◌, ℕ, ◌+◌, ◌≤◌, Bool, true, ◌&&◌, List, pos, ◌-ℤ◌, int_le, int_lt, unwrap_or}
+use Rattle.std.specs.Prelude.{◌≡◌, ℕ, ◌+◌, ◌*◌, ◌<◌, ◌≤◌, Bool, true, ◌&&◌, if◌then◌else◌, List, length, slice_index_or, Option, Some, None, pos, ◌-ℤ◌, unsigned_abs, int_le, int_lt}
 use Rattle.std.specs.List.{list_any}
-use Rattle.std.specs.Map.{lookup}
 use Rattle.std.specs.Ordering.{int_eq}
 use Rattle.vx_geom.specs.declared.pos.Pos.{Pos}
 use Rattle.vx_geom.specs.Places.{west, north}
-use Rattle.vx_geom.specs.Sizes.{Sizes, span}
+use Rattle.vx_geom.specs.Sizes.{Sizes, span, is_below}
 use Rattle.vx_block.specs.declared.cell.Cell.{Cell}
 use Rattle.vx_block.specs.declared.cell.Cell.TheVariants.{Dust}
 use Rattle.vx_cells.specs.Maps.{MapData, cell_on, far}
@@ -20,17 +19,40 @@ same_place a b = int_eq a.y b.y && (int_eq a.z b.z && int_eq a.x b.x)
 abbrev pub has : List Pos → Pos → Bool
 has ps p = list_any (same_place p) ps
 
--- positions, each beside its level
+-- the widest world has a cell there
+abbrev pub is_place : Pos → Bool
+is_place p = is_below p.x 256 && (is_below p.y 64 && is_below p.z 256)
+
+-- how many columns the widest world has
+abbrev pub columns : ℕ
+columns = 65536
+
+-- the number of the column of a position there, row by row from the north west
+abbrev pub column : Pos → ℕ
+column p = unsigned_abs p.x + 256 * unsigned_abs p.z
+
+-- layers from the bottom up, each with a level for each column, where any was put
 abbrev pub LevelTable : Type 0
-LevelTable = List (Pos × ℕ)
+LevelTable = List (Option (List ℕ))
+
+-- the level that a layer has for a position in it; 0 where it has none
+abbrev pub level_of : Option (List ℕ) → Pos → ℕ
+level_of None p = 0
+level_of (Some layer) p = if is_place p then slice_index_or layer (column p) 0 else 0
 
 -- the level that a table has for a position; 0 where it has none
 abbrev pub level_in : LevelTable → Pos → ℕ
-level_in table p = unwrap_or (lookup (same_place p) table) 0
+level_in table p = level_of (slice_index_or table (unsigned_abs p.y) None) p
 
--- no level is over 15
-abbrev pub AreMost : LevelTable → Type 0
-AreMost table = (p : Pos) → level_in table p ≤ 15
+-- a layer has a level for each column, and none is over 15
+pub record IsLayer (layer : List ℕ) : Type 0 where
+  pub whole : length layer ≡ columns
+  pub most : (i : ℕ) → slice_index_or layer i 0 ≤ 15
+
+-- a table has more layers, up to that one, and the same levels
+pub record ReachesLayer (number : ℕ) (old new : LevelTable) : Type 0 where
+  pub there : number < length new
+  pub same : (p : Pos) → level_in new p ≡ level_in old p
 
 -- the position is in one of these columns
 abbrev pub is_in : Columns → Pos → Bool

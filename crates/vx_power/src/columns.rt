@@ -57,8 +57,8 @@ impl Region for Columns {
     }
 }
 
-// Whether least <= c < end.
-fn is_between(least: i32, c: i32, end: i32) -> bool
+/// Whether least <= c < end.
+pub fn is_between(least: i32, c: i32, end: i32) -> bool
     ensures { result ≡ (int_le least c && int_lt c end) }
 {
     least <= c && c < end

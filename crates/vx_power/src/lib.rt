@@ -5,6 +5,7 @@ mod among;
 mod columns;
 mod dust;
 mod laws;
+mod layer;
 mod level_table;
 mod leveled;
 mod near;

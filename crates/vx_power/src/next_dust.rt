@@ -1,11 +1,12 @@
 //! Where dust lies that dust links to or a device feeds.
-ghost use Rattle.std.specs.Prelude.{◌≡◌, ◌&&◌, true, [], ◌∷◌, if◌then◌else◌, SomeIff};
+ghost use Rattle.std.specs.Prelude.{◌≡◌, ◌&&◌, true, [], ◌∷◌, if◌then◌else◌, IfSome, SomeIff};
 ghost use Rattle.std.specs.Option.{option_to_list};
 ghost use Rattle.vx_block.specs.Components.{is_dust};
 ghost use Rattle.vx_block.specs.Conductors.{conducts};
 ghost use Rattle.vx_cells.specs.Maps.{cell_on};
 ghost use Rattle.vx_geom.specs.Neighbor.{neighbor};
 ghost use Rattle.vx_power.specs.Dust.{beside, over, under, links_up, links_down};
+ghost use Rattle.vx_power.specs.Levels.{is_place};
 ghost use Rattle.vx_power.specs.Signals.{gives, drives, is_fed};
 ghost use Rattle.vx_power.specs.Spreading.{dust_at};
 
@@ -15,24 +16,32 @@ use vx_cells::Frozen;
 use vx_geom::{Dir, Pos};
 
 /// The dust at a position.
+#[tactic(auto, using(crate::proofs::Stepping::dust_place))]
 pub fn dust_here(map: &Frozen<'_>, p: Pos) -> Option<Pos>
-    ensures { option_to_list result ≡ (if is_dust (cell_on map.now p) then p ∷ [] else []) }
+    ensures found { option_to_list result ≡ (if is_dust (cell_on map.now p) then p ∷ [] else []) }
+    ensures there { IfSome result (λ q. is_place q ≡ true) }
 {
+    map.soundness();
     if map.has_dust(p) { Some(p) } else { None }
 }
 
 /// The dust at a position, if it is fed.
+#[tactic(auto, using(crate::proofs::Stepping::dust_place))]
 pub fn fed_here(map: &Frozen<'_>, p: Pos) -> Option<Pos>
-    ensures { option_to_list result ≡ (if is_fed (cell_on map.now) p then p ∷ [] else []) }
+    ensures found { option_to_list result ≡ (if is_fed (cell_on map.now) p then p ∷ [] else []) }
+    ensures there { IfSome result (λ q. is_place q ≡ true) }
 {
+    map.soundness();
     if is_fed(map, p) { Some(p) } else { None }
 }
 
 /// The dust at the next position in that direction.
-#[tactic(auto, unfolding(crate::specs::Spreading::dust_at))]
+#[tactic(auto, unfolding(crate::specs::Spreading::dust_at), using(crate::proofs::Stepping::dust_place))]
 pub fn dust_at(map: &Frozen<'_>, p: Pos, dir: Dir) -> Option<Pos>
-    ensures { option_to_list result ≡ dust_at (cell_on map.now) p dir }
+    ensures found { option_to_list result ≡ dust_at (cell_on map.now) p dir }
+    ensures there { IfSome result (λ q. is_place q ≡ true) }
 {
+    map.soundness();
     match map.next(p, dir) {
         Some(next) if map.has_dust(next) => Some(next),
         _ => None,
@@ -40,11 +49,13 @@ pub fn dust_at(map: &Frozen<'_>, p: Pos, dir: Dir) -> Option<Pos>
 }
 
 /// The dust to which dust at a position climbs on that side.
-#[tactic(auto, unfolding(crate::specs::Dust::links_up))]
+#[tactic(auto, unfolding(crate::specs::Dust::links_up), using(crate::proofs::Stepping::dust_place))]
 pub fn dust_over(map: &Frozen<'_>, p: Pos, side: Side) -> Option<Pos>
-    ensures { option_to_list result
+    ensures found { option_to_list result
         ≡ (if links_up (cell_on map.now) p side then over (beside p side) ∷ [] else []) }
+    ensures there { IfSome result (λ q. is_place q ≡ true) }
 {
+    map.soundness();
     match map.next_above(p, side.dir()) {
         Some(over) if map.has_dust(over) && !map.beside(p, Dir::Up).conducts() => Some(over),
         _ => None,
@@ -52,11 +63,13 @@ pub fn dust_over(map: &Frozen<'_>, p: Pos, side: Side) -> Option<Pos>
 }
 
 /// The dust to which dust at a position runs down on that side.
-#[tactic(auto, unfolding(crate::specs::Dust::links_down))]
+#[tactic(auto, unfolding(crate::specs::Dust::links_down), using(crate::proofs::Stepping::dust_place))]
 pub fn dust_under(map: &Frozen<'_>, p: Pos, side: Side) -> Option<Pos>
-    ensures { option_to_list result
+    ensures found { option_to_list result
         ≡ (if links_down (cell_on map.now) p side then under (beside p side) ∷ [] else []) }
+    ensures there { IfSome result (λ q. is_place q ≡ true) }
 {
+    map.soundness();
     match map.next_below(p, side.dir()) {
         Some(under) if map.has_dust(under) && !map.beside(p, side.dir()).conducts() => Some(under),
         _ => None,
@@ -64,10 +77,13 @@ pub fn dust_under(map: &Frozen<'_>, p: Pos, side: Side) -> Option<Pos>
 }
 
 /// The dust in that direction to which a cell at a position gives power.
+#[tactic(auto, using(crate::proofs::Stepping::dust_place))]
 pub fn dust_given(map: &Frozen<'_>, cell: &Cell, p: Pos, dir: Dir) -> Option<Pos>
-    ensures { option_to_list result
+    ensures found { option_to_list result
         ≡ (if gives cell.now dir then dust_at (cell_on map.now) p dir else []) }
+    ensures there { IfSome result (λ q. is_place q ≡ true) }
 {
+    map.soundness();
     if gives(*cell, dir) {
         dust_at(map, p, dir)
     } else {

@@ -1,5 +1,5 @@
 //! How levels spread: from the dust that is fed, link by link.
-ghost use Rattle.std.specs.Prelude.{◌≡◌, ◌<◌, ◌≤◌, ◌+◌, ◌-◌, ◌&&◌, [], ◌∷◌, ◌++◌, filter, if◌then◌else◌, OnOk, IfOk};
+ghost use Rattle.std.specs.Prelude.{◌≡◌, ◌<◌, ◌≤◌, ◌+◌, ◌-◌, ◌&&◌, true, [], ◌∷◌, ◌++◌, filter, if◌then◌else◌, OnOk, IfOk, IfSome};
 ghost use Rattle.std.specs.Option.{option_to_list};
 ghost use Rattle.vx_block.specs.Components.{is_dust};
 ghost use Rattle.vx_block.specs.Conductors.{conducts};
@@ -9,7 +9,7 @@ ghost use Rattle.vx_geom.specs.Neighbor.{neighbor};
 ghost use Rattle.vx_geom.specs.declared.pos.Pos.{Pos};
 ghost use Rattle.vx_geom.specs.Sizes.{sector_count};
 ghost use Rattle.vx_power.specs.Dust.{links, links_on};
-ghost use Rattle.vx_power.specs.Levels.{is_in, level_in, AreLevels, AreAllLevels};
+ghost use Rattle.vx_power.specs.Levels.{is_in, is_place, level_in, AreLevels, AreAllLevels};
 ghost use Rattle.vx_power.specs.Signals.{drives, is_fed};
 ghost use Rattle.vx_power.specs.Spreading.{dust_at, each_dir, fed_towards, fed_from, fed_by, fed_by_sectors, linked_to, FeedAll, level_within, Reaches};
 
@@ -350,6 +350,7 @@ impl Spread {
         found: Option<Pos>,
         level: u8,
     ) -> Result<(), AllocError>
+        requires place { IfSome found (λ p. is_place p ≡ true) }
         requires some { 0 < level }
         requires most { level ≤ 15 }
         ensures { OnOk result (Reaches (R.holds region.now) level self.old self.new
@@ -363,6 +364,7 @@ impl Spread {
 
     // Gives a position this level, if the region has it and it has none.
     fn reach<R: Region>(&mut self, region: &R, p: Pos, level: u8) -> Result<(), AllocError>
+        requires place { is_place p ≡ true }
         requires some { 0 < level }
         requires most { level ≤ 15 }
         ensures { OnOk result (Reaches (R.holds region.now) level self.old self.new (p ∷ [])) }

@@ -1,20 +1,22 @@
-use Rattle.std.proofs.Common.{sym, subst}
-use Rattle.vx_power.specs.Levels.{AreMost}
-use Rattle.vx_power.proofs.Tables.{level_changed, most_changed}
+use Rattle.std.proofs.Common.{◌≡◌, ◌<◌, unsigned_abs, length, set, get_or, None, if◌then◌else◌, ap, subst, ◌∙◌}
+use Rattle.std.proofs.lemmas.List.{get_or_read}
+use Rattle.std.proofs.lemmas.Result.{on_ok_weaker}
+use Rattle.vx_power.specs.Levels.{same_place, level_of, level_in}
+use Rattle.vx_power.proofs.Tables.{table_put}
 use Rattle.vx_power.proofs.level_table.Levels.put.Goals as goal
-use Rattle.vx_power.proofs.level_table.Levels.put.Goals.{in-Ok, in-Err}
-
-pub invariant_of-self : goal.invariant_of-self
-invariant_of-self c = elim c.match-insert.branch [
-  | in-Ok w ↦ most_changed c.self.inside.table.entries c.insert.new.self.entries c.args.p c.args.level
-      w.in-Ok.ensures.updates.0 c.requires c.self.invariant
-  | in-Err w ↦ subst AreMost (sym w.in-Err.ensures.err) c.self.invariant
-]
 
 pub returns : goal.returns
-returns c = elim c.match-insert.branch [
-  | in-Ok w ↦ rw w.result-is (rw (← c.self.view_is)
-      (level_changed c.self.inside.table.entries c.insert.new.self.entries c.args.p c.args.level
-      w.in-Ok.ensures.updates.0))
-  | in-Err w ↦ rw w.result-is tt
-]
+returns c =
+    let table = c.self.inside.layers.items in
+    let p = c.args.p in
+    let new = c.put_in.new.layer in
+    let reached = rw (← c.self.view_is) at c.in_ok-reach_layer.ensures in
+    let number : c.layer_number-number.result ≡ unsigned_abs p.y = c.layer_number-number.ensures in
+    let read = get_or_read table _ c.index_mut.result.now reached.there c.index_mut.ensures.value None
+    ∙ ap (λ k. get_or table k None) number in
+    on_ok_weaker c.put_in.result
+    (λ changed q. ap (λ k. level_in (set table k new) q) number
+    ∙ table_put table p c.args.level new (subst (λ k. k < length table) number reached.there)
+    (λ r here. changed r here ∙ (λ t. if same_place r p then c.args.level else level_of (read t) r)) q
+    ∙ ap (λ level. if same_place q p then c.args.level else level) (reached.same q))
+    c.put_in.ensures

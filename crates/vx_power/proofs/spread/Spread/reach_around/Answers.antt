@@ -12,4 +12,4 @@ pub loop-dir-preserved : goal.loop-dir-preserved
 loop-dir-preserved g c =
     reaches_more (dust_at (cell_on c.args.map.now) c.args.p) all_dirs c.loop-dir.dir-index _
     c.loop-dir-test.true (omega arith) c.loop-dir.invariant
-    (reaches_as c.dust_at.ensures c.in_ok-reach_found.ensures)
+    (reaches_as c.dust_at.ensures.found c.in_ok-reach_found.ensures)

@@ -13,7 +13,7 @@ loop-p-preserved g c =
     let w = cell_on c.args.map.now in
     reaches_more (λ (p : Pos). if is_fed w p then p ∷ [] else []) c.args.places.now c.loop-p.p-index _
     c.loop-p-test.true (omega arith) c.loop-p.invariant
-    (reaches_as c.fed_here.ensures c.in_ok-reach_found.ensures)
+    (reaches_as c.fed_here.ensures.found c.in_ok-reach_found.ensures)
 
 pub returns : goal.returns
 returns g c =

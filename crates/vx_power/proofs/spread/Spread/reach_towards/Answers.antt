@@ -16,7 +16,7 @@ returns g c =
     let next = neighbor c.args.device d in
     on_ok_weaker c.reach_driven.result
     (λ driven. reaches_on (omega arith)
-    (reaches_as (c.dust_given.ensures
+    (reaches_as (c.dust_given.ensures.found
     ∙ ap (λ cell. if gives cell d then dust_at w c.args.device d else []) c.requires)
     c.in_ok-reach_found.ensures)
     (reaches_as

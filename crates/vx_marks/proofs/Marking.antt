@@ -1,8 +1,8 @@
 -- Marks and the words that have any.
-use Rattle.std.proofs.Common.{◌≡◌, ℕ, zero, suc, ◌+◌, ◌*◌, ◌/◌, ◌%◌, ◌<◌, ◌≤◌, Bool, true, false, ◌||◌, min, List, length, get_or, replicate, Option, Some, None, nat_lt, inl, inr, refl, ap, sym, ◌∙◌, arith}
-use Rattle.std.proofs.lemmas.Bool.{cases_lt, ltb-true, ltb-false, or_from, or_left, or_right}
+use Rattle.std.proofs.Common.{◌≡◌, ℕ, zero, suc, ◌+◌, ◌*◌, ◌/◌, ◌%◌, ◌<◌, ◌≤◌, true, false, List, length, get_or, replicate, Some, None, nat_lt, inl, inr, refl, ap, sym, ◌∙◌, arith}
+use Rattle.std.proofs.lemmas.Bool.{cases_lt, ltb-true, ltb-false}
 use Rattle.std.proofs.lemmas.List.{length-replicate, get_or_past}
-use Rattle.vx_marks.specs.Marks.{is_set, is_marked, IsFirst, IsFirstMarked, AreFilled, lesser}
+use Rattle.vx_marks.specs.Marks.{is_set, is_marked, IsFirst, IsFirstMarked, AreFilled}
 use Rattle.vx_marks.proofs.WordBits.{unset}
 
 -- what a list of one number has at an index
@@ -70,41 +70,3 @@ module _ (words filled : List ℕ) (from : ℕ) (held : AreFilled words filled)
           ]
         ],
       )
-
--- a first marked index, as the first that passes a test
-pub as_first : (words : List ℕ) (from : ℕ) (found : Option ℕ) → IsFirstMarked words from found
-    → IsFirst (is_marked words) (64 * length words) from found
-as_first words from None first = first
-as_first words from (Some index) first = first
-
--- the first that passes one of two tests is the lesser of the two first
-pub first_of_two : (f g : ℕ → Bool) (to from : ℕ) (a b : Option ℕ)
-    → IsFirst f to from a → IsFirst g to from b
-    → IsFirst (λ i. f i || g i) to from (lesser a b)
-first_of_two f g to from None None first second =
-    λ i low high. or_from (f i) (g i) (first i low high) (second i low high)
-first_of_two f g to from None (Some b) first second = (
-  second.0,
-  second.1,
-  or_right (f b) (g b) second.2,
-  λ i low high. or_from (f i) (g i) (first i low (omega (arith, second.1))) (second.3 i low high),
-)
-first_of_two f g to from (Some a) None first second = (
-  first.0,
-  first.1,
-  or_left (f a) (g a) first.2,
-  λ i low high. or_from (f i) (g i) (first.3 i low high) (second i low (omega (arith, first.1))),
-)
-first_of_two f g to from (Some a) (Some b) first second = (
-  omega (arith, first.0, second.0),
-  omega (arith, first.1, second.1),
-  elim (cases_lt a b) [
-    | inl less ↦
-        let is : min a b ≡ a = omega arith in
-        ap (λ i. f i || g i) is ∙ or_left (f a) (g a) first.2
-    | inr not_less ↦
-        let is : min a b ≡ b = omega arith in
-        ap (λ i. f i || g i) is ∙ or_right (f b) (g b) second.2
-  ],
-  λ i low high. or_from (f i) (g i) (first.3 i low (omega arith)) (second.3 i low (omega arith)),
-)

@@ -1,5 +1,5 @@
 -- Marks on indices, a bit for each, in words of 64.
-use Rattle.std.specs.Prelude.{◌≡◌, ℕ, ◌*◌, ◌/◌, ◌%◌, ◌<◌, ◌≤◌, min, Bool, true, false, nat_eq, nat_lt, List, length, slice_index_or, Option, Some, None}
+use Rattle.std.specs.Prelude.{◌≡◌, ℕ, ◌*◌, ◌/◌, ◌%◌, ◌<◌, ◌≤◌, Bool, true, false, nat_eq, nat_lt, List, length, slice_index_or, Option, Some, None}
 use Rattle.std.specs.Int.{bit_at}
 
 -- the bit of a word is set
@@ -27,17 +27,6 @@ IsFirst test to from None = (index : ℕ) → from ≤ index → index < to → 
 IsFirst test to from (Some index) =
     (from ≤ index) × (index < to) × (test index ≡ true)
     × ((other : ℕ) → from ≤ other → other < index → test other ≡ false)
-
--- the lesser of two numbers, where there are any
-abbrev pub lesser : Option ℕ → Option ℕ → Option ℕ
-lesser None b = b
-lesser (Some a) None = Some a
-lesser (Some a) (Some b) = Some (min a b)
-
--- a number is known that lies before another
-abbrev pub is_passed : Option ℕ → ℕ → Bool
-is_passed None from = false
-is_passed (Some index) from = nat_lt index from
 
 -- which words have a mark, one mark for each of them
 pub record AreFilled (words filled : List ℕ) : Type 0 where

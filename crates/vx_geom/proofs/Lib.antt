@@ -1,5 +1,9 @@
+pub mod Columns
+pub mod Crossing
 pub mod Divisions
+pub mod Enclosing
 pub mod OrderLemmas
 pub mod Places
 pub mod Positions
 pub mod SectorLemmas
+pub mod Ways

@@ -1,4 +1,5 @@
 pub mod Dirs
+pub mod Extent
 pub mod Neighbor
 pub mod Order
 pub mod Outline

@@ -1,5 +1,7 @@
 ghost use Rattle.std.specs.Prelude.{◌≡◌, Some};
 ghost use Rattle.vx_geom.specs.declared.pos.Pos.{Pos};
+ghost use Rattle.vx_geom.specs.Extent.{ShapesLieWithin, ExtentsMeet};
+ghost use Rattle.vx_geom.specs.Outline.{ShapesHaveTheirColumns};
 ghost use Rattle.vx_geom.specs.Places.{IndicesArePlaces};
 ghost use Rattle.vx_geom.specs.Order.{PositionsAreOrdered, compared};
 ghost use Rattle.vx_geom.specs.Sectors.{SectorsDivide, IndicesDiffer};
@@ -33,4 +35,19 @@ pub fn indices_differ()
 /// order of their indices positions come in order.
 pub fn indices_are_places()
     ensures { IndicesArePlaces }
+{}
+
+/// A shape has no position outside the columns that `Shape::extent` tells.
+pub fn shapes_lie_within()
+    ensures { ShapesLieWithin }
+{}
+
+/// A shape has each position that it contains in a column that `Shape::has_column` tells.
+pub fn shapes_have_their_columns()
+    ensures { ShapesHaveTheirColumns }
+{}
+
+/// Extents that hold one column meet.
+pub fn extents_meet()
+    ensures { ExtentsMeet }
 {}

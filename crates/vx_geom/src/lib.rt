@@ -4,6 +4,7 @@
 mod bad_shape;
 mod bounds;
 mod dir;
+mod extent;
 mod laws;
 mod polygon;
 mod pos;
@@ -13,8 +14,10 @@ mod shape_spec;
 pub use bad_shape::BadShape;
 pub use bounds::Bounds;
 pub use dir::Dir;
+pub use extent::Extent;
 pub use laws::{
-    indices_are_places, indices_differ, order_is_derived, positions_are_ordered, sectors_divide,
+    extents_meet, indices_are_places, indices_differ, order_is_derived, positions_are_ordered,
+    sectors_divide, shapes_have_their_columns, shapes_lie_within,
 };
 pub use pos::Pos;
 pub use shape::Shape;

@@ -1,8 +1,10 @@
 ghost use Rattle.std.specs.Prelude.{◌≡◌, ◌↔◌, true, false, IsTrue, IfOk, OnOk, OnErr};
-ghost use Rattle.vx_geom.specs.Outline.{Cuboid, Polygon, is_in, is_polygon, in_cuboid, in_columns, is_amid, lower, higher};
+ghost use Rattle.vx_geom.specs.Outline.{Cuboid, Polygon, is_in, lies_over, has_column, is_cuboid, is_polygon, in_cuboid, in_columns, is_amid, lower, higher};
+ghost use Rattle.vx_geom.specs.Extent.{extent_of};
 ghost use Rattle.vx_geom.specs.SameOutline.{same_outline, same_corners, same_corner, same_points, same_ends};
 
 use crate::bad_shape::BadShape;
+use crate::extent::{Extent, of_corners, of_points};
 use crate::polygon::in_polygon;
 use crate::pos::Pos;
 use std::alloc::{AllocError, Global};
@@ -73,6 +75,42 @@ impl Shape {
             ShapeKind::Cuboid(low, high) => in_cuboid(low, high, &p),
             ShapeKind::Polygon(points, low, high) => is_amid(*low, *high, p.y)
                 && in_polygon(points, &p),
+        }
+    }
+
+    /// Whether the shape has positions in the column at `x` and `z`.
+    #[tactic(auto, unfolding(crate::specs::Outline::has_column))]
+    pub fn has_column(&self, x: i32, z: i32) -> bool
+        ensures { result ≡ has_column self.now x z }
+    {
+        self.lies_over(Pos::new(x, 0, z))
+    }
+
+    #[tactic(auto, unfolding(crate::specs::Outline::lies_over))]
+    fn lies_over(&self, p: Pos) -> bool
+        ensures { result ≡ lies_over self.now p }
+    {
+        match &self.kind {
+            ShapeKind::Cuboid(low, high) => in_columns(low, high, &p),
+            ShapeKind::Polygon(points, _, _) => in_polygon(points, &p),
+        }
+    }
+
+    /// Whether the shape is a cuboid.
+    pub fn is_cuboid(&self) -> bool
+        ensures { result ≡ is_cuboid self.now }
+    {
+        matches!(self.kind, ShapeKind::Cuboid(_, _))
+    }
+
+    /// The columns that the shape lies in. It costs the points of a polygon and takes no memory.
+    #[tactic(auto, unfolding(crate::specs::Extent::extent_of))]
+    pub fn extent(&self) -> Extent
+        ensures { result ≡ extent_of self.now }
+    {
+        match &self.kind {
+            ShapeKind::Cuboid(low, high) => of_corners(low, high),
+            ShapeKind::Polygon(points, _, _) => of_points(points),
         }
     }
 
@@ -226,7 +264,8 @@ fn in_columns(low: &Pos, high: &Pos, p: &Pos) -> bool
     is_amid(low.x, high.x, p.x) && is_amid(low.z, high.z, p.z)
 }
 
-fn is_amid(low: i32, high: i32, c: i32) -> bool
+/// Whether `c` lies from `low` to `high`.
+pub(crate) fn is_amid(low: i32, high: i32, c: i32) -> bool
     ensures { result ≡ is_amid low high c }
 {
     low <= c && c <= high

@@ -1,5 +1,5 @@
 -- Where nothing is said, all is permitted.
-use Rattle.std.proofs.Common.{◌≡◌, ℕ, nat_eq, List, [], ◌∷◌, find, None, Contains, option_map, refl, ap, ◌∙◌, subst}
+use Rattle.std.proofs.Common.{◌≡◌, ℕ, nat_eq, List, [], ◌∷◌, find, None, Contains, option_map, ap, ◌∙◌, subst}
 use Rattle.std.specs.Option.{option_or, option_and_then}
 use Rattle.vx_flag.specs.declared.flag.Flag.{Flag}
 use Rattle.vx_flag.specs.declared.flag.Flag.TheVariants.{Build, Passthrough}

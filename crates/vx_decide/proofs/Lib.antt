@@ -1,4 +1,5 @@
 pub mod Answering
+pub mod AtPlaces
 pub mod Defaults
 pub mod Highest
 pub mod Inherited
@@ -10,4 +11,5 @@ pub mod Picks
 pub mod Ranks
 pub mod Rulings
 pub mod Shortcuts
+pub mod Sufficing
 pub mod Taken

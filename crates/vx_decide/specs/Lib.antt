@@ -1,5 +1,6 @@
 pub mod Answers
 pub mod Build
+pub mod Candidates
 pub mod Cases
 pub mod Effective
 pub mod Laws

@@ -89,9 +89,8 @@ impl Building<'_> {
         ensures { option_map (λ n. n.0) result
             ≡ first_failing (case_of self.now.contest.inquiry.now) }
     {
-        self.contest.inquiry.regions.soundness();
-        for i in 0..self.contest.inquiry.regions.count() {
-            let (number, region) = self.contest.inquiry.regions.nth(i);
+        for i in 0..self.contest.inquiry.candidates.count() {
+            let (number, region) = self.contest.inquiry.candidates.nth(i);
             if self.is_failing(number, region) {
                 return Some(number);
             }
@@ -103,9 +102,8 @@ impl Building<'_> {
         ensures { option_map (λ n. n.0) result
             ≡ first_home (case_of self.now.contest.inquiry.now) }
     {
-        self.contest.inquiry.regions.soundness();
-        for i in 0..self.contest.inquiry.regions.count() {
-            let (number, region) = self.contest.inquiry.regions.nth(i);
+        for i in 0..self.contest.inquiry.candidates.count() {
+            let (number, region) = self.contest.inquiry.candidates.nth(i);
             if self.is_home(number, region) {
                 return Some(number);
             }
@@ -137,8 +135,8 @@ impl Building<'_> {
         ensures { result ≡ is_above_one (is_home (case_of self.now.contest.inquiry.now))
             self.now.contest.inquiry.now.regions.now number.0 }
     {
-        for i in 0..self.contest.inquiry.regions.count() {
-            let (lower, region) = self.contest.inquiry.regions.nth(i);
+        for i in 0..self.contest.inquiry.candidates.count() {
+            let (lower, region) = self.contest.inquiry.candidates.nth(i);
             if self.is_home_below(number, lower, region) {
                 return true;
             }

@@ -1,17 +1,22 @@
 ghost use Rattle.std.specs.Prelude.{◌≡◌};
+ghost use Rattle.vx_decide.specs.Candidates.{Suffice};
 
+use crate::candidates::Candidates;
 use crate::effective::{effective, has_value, is_allow};
 use crate::question::Question;
 use vx_flag::Flag;
 use vx_geom::Pos;
 use vx_region::{Region, RegionNo, RegionSet, Subject};
 
-/// What a policy is asked: which regions, who acts, and where.
+/// What a policy is asked: which regions, who acts, and where; and the regions that are looked at,
+/// which hold each that contains the place.
 #[derive(Drop)]
 pub struct Inquiry<'a> {
     pub regions: &'a RegionSet,
     pub subject: &'a Subject,
     pub place: Pos,
+    pub candidates: Candidates<'a>,
+    ghost whole: { Suffice regions.now.entries place candidates },
 }
 
 impl Inquiry<'_> {

@@ -1,8 +1,10 @@
 //! Decides what a subject may do at a place, and names the rule that decides.
 #![tactic(auto)]
 
+mod among;
 mod answer;
 mod building;
+mod candidates;
 mod contest;
 mod decide;
 mod effective;
@@ -15,6 +17,7 @@ mod rule;
 mod value;
 mod verdict;
 
+pub use among::decide_among;
 pub use decide::Decide;
 pub use laws::{
     child_stands_before_parent, decider_contains_the_place, default_only_where_nothing_is_said,

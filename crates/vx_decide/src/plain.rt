@@ -4,6 +4,7 @@ ghost use Rattle.vx_decide.specs.Cases.{case_of};
 ghost use Rattle.vx_decide.specs.Verdict.{by_flag, decided_by, verdict};
 
 use crate::answer::Answer;
+use crate::candidates::Candidates;
 use crate::decide::Decide;
 use crate::inquiry::Inquiry;
 use crate::rule::Rule;
@@ -41,19 +42,21 @@ impl Decide for Plain<'_> {
 
     #[tactic(auto, unfolding(crate::specs::Verdict::verdict))]
     fn decide(&self, subject: &Subject, action: Action, p: Pos) -> Verdict {
+        self.regions.soundness();
         let inquiry = Inquiry {
             regions: self.regions,
             subject,
             place: p,
+            candidates: Candidates::all(self.regions),
         };
         inquiry.decided_by(action.flag())
     }
 }
 
 impl Inquiry<'_> {
-    // By the flag, and where that is not set by building.
+    /// The verdict by the flag, and where that is not set by building.
     #[tactic(auto, unfolding(crate::specs::Verdict::decided_by))]
-    fn decided_by(&self, flag: Flag) -> Verdict
+    pub fn decided_by(&self, flag: Flag) -> Verdict
         ensures { result ≡ decided_by flag (case_of self.now) }
     {
         match self.query(flag) {

@@ -45,8 +45,8 @@ impl Inquiry<'_> {
         ensures { result ≡ top (counts question (case_of self.now)) self.now.regions.now.entries }
     {
         let mut best = None;
-        for i in 0..self.regions.count() {
-            let (number, region) = self.regions.nth(i);
+        for i in 0..self.candidates.count() {
+            let (number, region) = self.candidates.nth(i);
             best = self.best_with(question, best, number, region);
         }
         best
@@ -120,9 +120,8 @@ impl Contest<'_> {
         ensures { option_map (λ n. n.0) result
             ≡ first_denying self.now.question (case_of self.now.inquiry.now) }
     {
-        self.inquiry.regions.soundness();
-        for i in 0..self.inquiry.regions.count() {
-            let (number, region) = self.inquiry.regions.nth(i);
+        for i in 0..self.inquiry.candidates.count() {
+            let (number, region) = self.inquiry.candidates.nth(i);
             if self.is_denying(number, region) {
                 return Some(number);
             }
@@ -134,9 +133,8 @@ impl Contest<'_> {
         ensures { option_map (λ n. n.0) result
             ≡ first_taken self.now.question (case_of self.now.inquiry.now) }
     {
-        self.inquiry.regions.soundness();
-        for i in 0..self.inquiry.regions.count() {
-            let (number, region) = self.inquiry.regions.nth(i);
+        for i in 0..self.inquiry.candidates.count() {
+            let (number, region) = self.inquiry.candidates.nth(i);
             if self.is_taken(number, region) {
                 return Some(number);
             }
@@ -182,8 +180,8 @@ impl Contest<'_> {
         ensures { result ≡ is_above_one (speaks self.now.question (case_of self.now.inquiry.now))
             self.now.inquiry.now.regions.now number.0 }
     {
-        for i in 0..self.inquiry.regions.count() {
-            let (lower, region) = self.inquiry.regions.nth(i);
+        for i in 0..self.inquiry.candidates.count() {
+            let (lower, region) = self.inquiry.candidates.nth(i);
             if self.speaks_below(number, lower, region) {
                 return true;
             }

@@ -44,6 +44,11 @@ impl Policy {
         &self.regions
     }
 
+    /// Whether another copy shares the regions now, so that the first change would copy the set.
+    pub fn is_shared(&self) -> bool {
+        1 < Arc::strong_count(&self.regions)
+    }
+
     /// A copy of the policy, which shares its regions. A change of one is no change of the other.
     pub fn try_clone(&self) -> Result<Policy, AllocError>
         ensures { IfOk result (λ copy. copy ≡ self.now) }

@@ -3,11 +3,13 @@ pub mod Changes
 pub mod FlagChanges
 pub mod Forests
 pub mod Globals
+pub mod IdChanges
 pub mod IdLemmas
 pub mod Indexing
 pub mod Lookups
 pub mod NameLemmas
 pub mod Numbers
+pub mod Owning
 pub mod Removals
 pub mod Roles
 pub mod SameLists

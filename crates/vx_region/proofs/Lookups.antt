@@ -1,8 +1,8 @@
 -- What a look-up by number finds, before and after a change.
-use Rattle.std.proofs.Common.{Result, Ok, Err, OnErr, ◌≡◌, ◌≢◌, ◌⊎◌, inl, inr, ℕ, ◌<◌, Bool, true, false, cond, nat_eq, if◌then◌else◌, List, [], ◌∷◌, find, Option, None, Some, IsSome, option_map, slice_get, MutBor, refl, ap, sym, ◌∙◌, subst}
+use Rattle.std.proofs.Common.{Result, Ok, Err, OnErr, ◌≡◌, ◌≢◌, ◌⊎◌, inl, inr, ℕ, ◌<◌, Bool, true, false, cond, nat_eq, if◌then◌else◌, List, [], ◌∷◌, find, Option, None, Some, IsSome, option_map, slice_get, Bor, MutBor, refl, ap, sym, ◌∙◌, subst}
 use Rattle.std.specs.Cmp.{nat_eq_equiv}
 use Rattle.std.specs.List.{AllByRecursion, IsDistinct}
-use Rattle.std.specs.Option.{option_copied_mut, option_and_then}
+use Rattle.std.specs.Option.{option_copied, option_copied_mut, option_and_then}
 use Rattle.std.specs.Map.{lookup, set_value, keys_of}
 use Rattle.std.proofs.lemmas.Bool.{eq-eqb}
 use Rattle.std.proofs.lemmas.Map.Entries.{lookup_from_place}
@@ -38,10 +38,16 @@ pub lent_from_known : (n : ℕ) (rs : Regions) (lent : Option (MutBor RegionData
 unfolding region_at
 lent_from_known n rs lent known found = some_reference lent (rw (found, lookup_is n rs.entries) known)
 
--- and finds it
-pub found_from_known : (n : ℕ) (rs : Regions) (found : Option RegionData) → IsSome (region_at rs n) → found ≡ lookup (nat_eq n) rs.entries → IsSome found
+-- a reference to read was found where what it refers to was
+some_read : {X : Type 0} (o : Option (Bor X)) → IsSome (option_copied o) → IsSome o
+some_read None there = there
+some_read (Some x) there = refl
+
+-- the map shows the region of a number that has one
+pub read_from_known : (n : ℕ) (rs : Regions) (shown : Option (Bor RegionData)) → IsSome (region_at rs n)
+    → option_copied shown ≡ lookup (nat_eq n) rs.entries → IsSome shown
 unfolding region_at
-found_from_known n rs found known is = rw (is, lookup_is n rs.entries) known
+read_from_known n rs shown known found = some_read shown (rw (found, lookup_is n rs.entries) known)
 
 -- the region at a place is the one of the number there
 pub region_at_place : (rs : Regions) (i n : ℕ) (r : RegionData) → IsNumbered rs → slice_get rs.entries i ≡ Some (n, r) → region_at rs n ≡ Some r
@@ -56,7 +62,7 @@ changed_none change n (e ∷ es) none =
     ap (λ b. (if b then (e.0, change e.1) else e) ∷ changed_at change n es) none.0 ∙ ap (λ ds. e ∷ ds) (changed_none change n es none.1)
 
 -- the changed region written over the one that the look-up found
-changed_by_write : (change : RegionData → RegionData) (n : ℕ) (es : List Entry) (r : RegionData) → IsDistinct nat_eq (keys_of es)
+pub changed_by_write : (change : RegionData → RegionData) (n : ℕ) (es : List Entry) (r : RegionData) → IsDistinct nat_eq (keys_of es)
     → lookup (nat_eq n) es ≡ Some r → set_value (nat_eq n) es (change r) ≡ changed_at change n es
 changed_by_write change n [] r distinct there = refl
 changed_by_write change n (e ∷ es) r distinct there =

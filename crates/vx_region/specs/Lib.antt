@@ -3,10 +3,12 @@ pub mod Ancestry
 pub mod Association
 pub mod Forest
 pub mod IdIndex
+pub mod IdUpdates
 pub mod Laws
 pub mod Regions
 pub mod RegionsLaws
 pub mod SameRegions
+pub mod Sharing
 pub mod Subjects
 pub mod Texts
 pub mod Words

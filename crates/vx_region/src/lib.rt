@@ -3,12 +3,14 @@
 #![tactic(auto)]
 
 mod id;
+mod id_numbers;
 mod laws;
 mod name;
 mod region;
 mod region_no;
 mod region_set;
 mod role;
+mod shared_region;
 mod subject;
 mod word;
 

@@ -70,6 +70,13 @@ impl Region {
         &self.id
     }
 
+    /// Where the region lies.
+    pub fn shape(&self) -> &Shape
+        ensures { result.now ≡ self.now.shape }
+    {
+        &self.shape
+    }
+
     /// Whether the position is in the region.
     pub fn contains(&self, p: Pos) -> bool
         ensures { result ≡ is_in self.now.shape p }

@@ -1,5 +1,5 @@
 ghost use Rattle.std.specs.List.{list_any};
-ghost use Rattle.std.specs.Prelude.{◌≡◌, ◌+◌, ◌-◌, ◌^◌, ◌<◌, false, length, slice_get, option_map, option_copied, None, Some, IsSome, IfOk, OnOk, OnErr};
+ghost use Rattle.std.specs.Prelude.{◌≡◌, ◌+◌, ◌-◌, ◌^◌, ◌<◌, false, length, slice_get, option_map, option_copied, None, Some, IsSome, IfOk, IfSome, OnOk, OnErr};
 ghost use Rattle.vx_region.specs.Ancestry.{ancestors, is_under, is_above};
 ghost use Rattle.vx_region.specs.Association.{has_name, has_name_along, player_association, machine_association, holds_place, association};
 ghost use Rattle.vx_region.specs.Forest.{IsForest};
@@ -13,10 +13,12 @@ mod equality;
 mod family;
 
 use crate::id::Id;
+use crate::id_numbers::IdNumbers;
 use crate::name::Name;
 use crate::region::Region;
 use crate::region_no::RegionNo;
 use crate::role::Role;
+use crate::shared_region::SharedRegion;
 use crate::subject::Subject;
 use indexmap::IndexMap;
 use std::alloc::{AllocError, Global};
@@ -25,13 +27,13 @@ use vx_flag::{Association, Flag, Setting, Settings};
 use vx_geom::{Pos, Shape};
 
 /// The regions of a world, in order of their numbers, and the flags of the world at large, which is
-/// `__global__` and has number 0. A number is never given twice.
+/// `__global__` and has number 0. A number is never given twice. Copies share each region until one
+/// of them changes it.
 #[derive(Debug, Drop)]
 pub struct RegionSet {
     last: u32,
-    regions: IndexMap<u32, Region>,
-    // The number of each region by its id.
-    numbers: IndexMap<Id, u32>,
+    regions: IndexMap<u32, SharedRegion>,
+    numbers: IdNumbers,
     global: Settings,
 }
 
@@ -44,7 +46,7 @@ impl Model for RegionSet {
     ghost view = { λ a. regions_of a.last a.regions.entries a.global };
 
     ghost invariant = { λ a. IsSound
-        (regions_of a.last a.regions.entries a.global) a.numbers.entries };
+        (regions_of a.last a.regions.entries a.global) a.numbers };
 }
 
 impl RegionSet {
@@ -55,7 +57,7 @@ impl RegionSet {
         RegionSet {
             last: 0,
             regions: IndexMap::new(alloc),
-            numbers: IndexMap::new(alloc),
+            numbers: IdNumbers::new(),
             global: Settings::new(),
         }
     }
@@ -91,7 +93,23 @@ impl RegionSet {
     pub fn get(&self, number: RegionNo) -> Option<&Region>
         ensures { option_copied result ≡ region_at self.now number.0 }
     {
-        self.regions.get(&number.0)
+        if let Some(region) = self.in_place(number) {
+            return Some(region);
+        }
+        Some(self.regions.get(&number.0)?.region())
+    }
+
+    // The region of that number, if it stands one place before its number. Each does until one
+    // before it is removed.
+    fn in_place(&self, number: RegionNo) -> Option<&Region>
+        ensures { IfSome result (λ region. region_at self.now number.0 ≡ Some region.now) }
+    {
+        let place = number.0.checked_sub(1)?;
+        let (found, shared) = self.regions.get_index(place as usize)?;
+        if *found != number.0 {
+            return None;
+        }
+        Some(shared.region())
     }
 
     /// The region at that place in order of number, counted from 0, with its number.
@@ -99,8 +117,8 @@ impl RegionSet {
         requires { index < length self.now.entries }
         ensures { slice_get self.now.entries index ≡ Some (result.0.0, result.1.now) }
     {
-        let (number, region) = self.regions.get_index(index as usize).unwrap();
-        (RegionNo(*number), region)
+        let (number, shared) = self.regions.get_index(index as usize).unwrap();
+        (RegionNo(*number), shared.region())
     }
 
     /// The number of the region with that id, 0 for `__global__`.
@@ -110,7 +128,7 @@ impl RegionSet {
         if is_global_id(id) {
             return Some(RegionNo(0));
         }
-        self.numbers.get(id).map(|number| RegionNo(*number))
+        self.numbers.get(id).map(|number| RegionNo(number))
     }
 
     /// The parent of the region of that number.
@@ -248,10 +266,11 @@ impl RegionSet {
     {
         let number = self.last + 1;
         let key = id;
-        // The room in the index comes first: once the region is in, nothing can fail.
-        self.numbers.reserve(1)?;
-        let _replaced = self.regions.insert(number, Region::new(alloc, id, shape))?;
-        let _indexed = self.numbers.insert(key, number).unwrap();
+        // The room for the region comes first: once its id has a number, nothing can fail.
+        self.regions.reserve(1)?;
+        let region = SharedRegion::new(alloc, Region::new(alloc, id, shape))?;
+        self.numbers.add(alloc, key, number)?;
+        let _replaced = self.regions.insert(number, region).unwrap();
         self.last = number;
         Ok(RegionNo(number))
     }
@@ -265,9 +284,14 @@ impl RegionSet {
         // A name that is there needs no room.
         ensures absent { OnErr result (has_name self.old role name.text.bytes number.0 ≡ false) }
     {
+        // A region that has it is not copied.
+        if self.has_name(role, &name, number) {
+            return Ok(());
+        }
         self.regions
             .get_mut(&number.0)
             .unwrap()
+            .own()?
             .add_name(role, name)
     }
 }

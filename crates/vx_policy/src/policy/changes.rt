@@ -20,7 +20,7 @@ use vx_region::{Id, Name, RegionNo, RegionSet, Role};
 
 impl Policy {
     /// Makes an edit that nothing stands against, and answers the number that a definition gave.
-    /// Where copies share the regions, they are copied first.
+    /// Where copies share the regions, the region that it changes is copied first, and no other.
     pub fn change(&mut self, alloc: Global, edit: Edit) -> Result<Option<RegionNo>, AllocError>
         requires { refusal self.old (asked edit) ≡ None }
         ensures ok { IfOk result (λ n. (self.new ≡ edited self.old (asked edit))
@@ -72,30 +72,30 @@ fn change(
             Ok(None)
         }
         Edit::Reshape(id, shape) => {
-            reshape(regions, &id, shape);
+            reshape(regions, &id, shape)?;
             Ok(None)
         }
         Edit::Remove(id) => {
-            remove(regions, &id);
+            remove(regions, &id)?;
             Ok(None)
         }
         Edit::Priority(id, priority) => {
-            set_priority(regions, &id, priority);
+            set_priority(regions, &id, priority)?;
             Ok(None)
         }
         Edit::Parent(id, parent) => {
             match parent {
-                Some(parent) => set_parent(regions, &id, &parent),
-                None => clear_parent(regions, &id),
+                Some(parent) => set_parent(regions, &id, &parent)?,
+                None => clear_parent(regions, &id)?,
             }
             Ok(None)
         }
         Edit::SetFlag(id, flag, setting) => {
-            set_flag(regions, &id, flag, setting);
+            set_flag(regions, &id, flag, setting)?;
             Ok(None)
         }
         Edit::ClearFlag(id, flag) => {
-            clear_flag(regions, &id, flag);
+            clear_flag(regions, &id, flag)?;
             Ok(None)
         }
     }
@@ -124,70 +124,82 @@ fn define(
 }
 
 #[tactic(auto, unfolding(crate::specs::Edits::edited))]
-fn reshape(regions: &mut RegionSet, id: &str, shape: ShapeSpec)
+fn reshape(regions: &mut RegionSet, id: &str, shape: ShapeSpec) -> Result<(), AllocError>
     requires { refusal regions.old (Reshape id.now (written shape)) ≡ None }
-    ensures { regions.new ≡ edited regions.old (Reshape id.now (written shape)) }
+    ensures ok { OnOk result (regions.new ≡ edited regions.old (Reshape id.now (written shape))) }
+    ensures err { OnErr result (regions.new ≡ regions.old) }
 {
     let number = region(regions, id);
     let Ok(shape) = shape.shape() else {
         unreachable!();
     };
-    regions.reshape(number, shape);
+    regions.reshape(number, shape)
 }
 
 #[tactic(auto, unfolding(crate::specs::Edits::edited))]
-fn remove(regions: &mut RegionSet, id: &str)
+fn remove(regions: &mut RegionSet, id: &str) -> Result<(), AllocError>
     requires { refusal regions.old (Remove id.now) ≡ None }
-    ensures { regions.new ≡ edited regions.old (Remove id.now) }
+    ensures ok { OnOk result (regions.new ≡ edited regions.old (Remove id.now)) }
+    ensures err { OnErr result (regions.new ≡ regions.old) }
 {
     let number = region(regions, id);
-    regions.remove(number);
+    regions.remove(number)
 }
 
 #[tactic(auto, unfolding(crate::specs::Edits::edited))]
-fn set_priority(regions: &mut RegionSet, id: &str, priority: i32)
+fn set_priority(regions: &mut RegionSet, id: &str, priority: i32) -> Result<(), AllocError>
     requires { refusal regions.old (Priority id.now priority) ≡ None }
-    ensures { regions.new ≡ edited regions.old (Priority id.now priority) }
+    ensures ok { OnOk result (regions.new ≡ edited regions.old (Priority id.now priority)) }
+    ensures err { OnErr result (regions.new ≡ regions.old) }
 {
     let number = region(regions, id);
-    regions.set_priority(number, priority);
+    regions.set_priority(number, priority)
 }
 
 #[tactic(auto, unfolding(crate::specs::Edits::edited))]
-fn clear_parent(regions: &mut RegionSet, id: &str)
+fn clear_parent(regions: &mut RegionSet, id: &str) -> Result<(), AllocError>
     requires { refusal regions.old (Parent id.now None) ≡ None }
-    ensures { regions.new ≡ edited regions.old (Parent id.now None) }
+    ensures ok { OnOk result (regions.new ≡ edited regions.old (Parent id.now None)) }
+    ensures err { OnErr result (regions.new ≡ regions.old) }
 {
     let number = region(regions, id);
-    regions.set_parent(number, None);
+    regions.set_parent(number, None)
 }
 
 #[tactic(auto, unfolding(crate::specs::Edits::edited))]
-fn set_parent(regions: &mut RegionSet, id: &str, parent: &str)
+fn set_parent(regions: &mut RegionSet, id: &str, parent: &str) -> Result<(), AllocError>
     requires { refusal regions.old (Parent id.now (Some parent.now)) ≡ None }
-    ensures { regions.new ≡ edited regions.old (Parent id.now (Some parent.now)) }
+    ensures ok { OnOk result (regions.new ≡ edited regions.old (Parent id.now (Some parent.now))) }
+    ensures err { OnErr result (regions.new ≡ regions.old) }
 {
     let number = region(regions, id);
     let above = region(regions, parent);
-    regions.set_parent(number, Some(above));
+    regions.set_parent(number, Some(above))
 }
 
 #[tactic(auto, unfolding(crate::specs::Edits::edited))]
-fn set_flag(regions: &mut RegionSet, id: &str, flag: Flag, setting: Setting)
+fn set_flag(
+    regions: &mut RegionSet,
+    id: &str,
+    flag: Flag,
+    setting: Setting,
+) -> Result<(), AllocError>
     requires { refusal regions.old (SetFlag id.now flag setting) ≡ None }
-    ensures { regions.new ≡ edited regions.old (SetFlag id.now flag setting) }
+    ensures ok { OnOk result (regions.new ≡ edited regions.old (SetFlag id.now flag setting)) }
+    ensures err { OnErr result (regions.new ≡ regions.old) }
 {
     let number = known(regions, id);
-    regions.set_flag(number, flag, setting);
+    regions.set_flag(number, flag, setting)
 }
 
 #[tactic(auto, unfolding(crate::specs::Edits::edited))]
-fn clear_flag(regions: &mut RegionSet, id: &str, flag: Flag)
+fn clear_flag(regions: &mut RegionSet, id: &str, flag: Flag) -> Result<(), AllocError>
     requires { refusal regions.old (ClearFlag id.now flag) ≡ None }
-    ensures { regions.new ≡ edited regions.old (ClearFlag id.now flag) }
+    ensures ok { OnOk result (regions.new ≡ edited regions.old (ClearFlag id.now flag)) }
+    ensures err { OnErr result (regions.new ≡ regions.old) }
 {
     let number = known(regions, id);
-    regions.clear_flag(number, flag);
+    regions.clear_flag(number, flag)
 }
 
 #[tactic(auto, unfolding(crate::specs::Edits::edited))]
@@ -209,10 +221,7 @@ fn list(
     };
     match listing {
         Listing::Add => regions.add_name(number, role, name),
-        Listing::Drop => {
-            regions.drop_name(number, role, &name);
-            Ok(())
-        }
+        Listing::Drop => regions.drop_name(number, role, &name),
     }
 }
 

@@ -1,9 +1,10 @@
-ghost use Rattle.std.specs.Prelude.{◌≡◌, false, option_map, IsSome, IfSome};
+ghost use Rattle.std.specs.Prelude.{◌≡◌, false, option_map, IsSome, IfSome, OnOk, OnErr};
 ghost use Rattle.vx_region.specs.Ancestry.{has_child, is_under};
 ghost use Rattle.vx_region.specs.Regions.{region_at, with_parent, without_region};
 
 use crate::region_no::RegionNo;
 use crate::region_set::RegionSet;
+use std::alloc::AllocError;
 
 impl RegionSet {
     /// Whether some region has the region of that number as its parent.
@@ -12,27 +13,41 @@ impl RegionSet {
     {
         self.regions
             .iter()
-            .any(|(_, region)| region.parent() == Some(number))
+            .any(|(_, shared)| shared.region().parent() == Some(number))
     }
 
     /// Gives a region that is there another parent, or none. The parent has to be there, and to be
     /// neither the region itself nor under it.
-    pub fn set_parent(&mut self, number: RegionNo, parent: Option<RegionNo>)
+    pub fn set_parent(
+        &mut self,
+        number: RegionNo,
+        parent: Option<RegionNo>,
+    ) -> Result<(), AllocError>
         requires known { IsSome (region_at self.old number.0) }
         requires parent_known { IfSome parent (λ q. IsSome (region_at self.old q.0)) }
         requires no_cycle { IfSome parent (λ q. is_under self.old q.0 number.0 ≡ false) }
-        ensures { self.new ≡ with_parent self.old number.0 (option_map (λ n. n.0) parent) }
+        ensures ok { OnOk result
+            (self.new ≡ with_parent self.old number.0 (option_map (λ n. n.0) parent)) }
+        ensures err { OnErr result (self.new ≡ self.old) }
     {
-        self.regions.get_mut(&number.0).unwrap().set_parent(parent);
+        self.regions
+            .get_mut(&number.0)
+            .unwrap()
+            .own()?
+            .set_parent(parent);
+        Ok(())
     }
 
     /// Takes away a region that is there and is no region's parent. Its number is not given again.
-    pub fn remove(&mut self, number: RegionNo)
+    pub fn remove(&mut self, number: RegionNo) -> Result<(), AllocError>
         requires known { IsSome (region_at self.old number.0) }
         requires childless { has_child self.old number.0 ≡ false }
-        ensures { self.new ≡ without_region self.old number.0 }
+        ensures ok { OnOk result (self.new ≡ without_region self.old number.0) }
+        ensures err { OnErr result (self.new ≡ self.old) }
     {
-        let removed = self.regions.shift_remove(&number.0).unwrap();
-        let _number = self.numbers.swap_remove(removed.id());
+        let id = *self.regions.get(&number.0).unwrap().region().id();
+        self.numbers.remove(&id)?;
+        let _removed = self.regions.shift_remove(&number.0);
+        Ok(())
     }
 }

@@ -6,4 +6,4 @@ use Rattle.vx_decide.proofs.building.Building.first_failing.Given as goal
 
 -- no region so far is one
 abbrev pub invariant-loop-i : goal.invariant-loop-i
-invariant-loop-i l = least (is_failing (case_of l.self.contest.inquiry.now)) (drop l.i l.self.contest.inquiry.now.regions.now.entries) ≡ first_failing (case_of l.self.contest.inquiry.now)
+invariant-loop-i l = least (is_failing (case_of l.self.contest.inquiry.now)) (drop l.i l.self.contest.inquiry.now.candidates) ≡ first_failing (case_of l.self.contest.inquiry.now)

@@ -6,4 +6,4 @@ use Rattle.vx_decide.proofs.contest.Contest.first_taken.Given as goal
 
 -- no region so far is one
 abbrev pub invariant-loop-i : goal.invariant-loop-i
-invariant-loop-i l = least (is_taken l.self.question (case_of l.self.inquiry.now)) (drop l.i l.self.inquiry.now.regions.now.entries) ≡ first_taken l.self.question (case_of l.self.inquiry.now)
+invariant-loop-i l = least (is_taken l.self.question (case_of l.self.inquiry.now)) (drop l.i l.self.inquiry.now.candidates) ≡ first_taken l.self.question (case_of l.self.inquiry.now)

@@ -1,0 +1,7 @@
+use Rattle.vx_decide.proofs.AtPlaces.{candidates_suffice}
+use Rattle.vx_decide.proofs.among.decide_among.Goals as goal
+
+pub invariant_of-inquiry : goal.invariant_of-inquiry
+invariant_of-inquiry c = record {
+  whole = candidates_suffice c.args.regions.now c.args.p c.args.places.now c.at.result c.soundness.ensures.forest c.requires c.at.ensures;
+}

@@ -1,0 +1,7 @@
+use Rattle.vx_decide.proofs.AtPlaces.{all_suffice}
+use Rattle.vx_decide.proofs.plain.PlainDecide.decide.Goals as goal
+
+pub invariant_of-inquiry : goal.invariant_of-inquiry
+invariant_of-inquiry c = record {
+  whole = all_suffice c.self.inside.regions.now c.args.p c.all.result c.soundness.ensures.forest c.all.ensures;
+}

@@ -1,0 +1,10 @@
+use Rattle.std.proofs.Common.{Some, ap, sym, ◌∙◌}
+use Rattle.vx_region.specs.Regions.{region_at}
+use Rattle.vx_region.proofs.Lookups.{lookup_is}
+use Rattle.vx_region.proofs.region_set.RegionSet.in_place.Goals as goal
+
+pub returns : goal.returns
+unfolding region_at
+returns c =
+    let there = rw c.if-found-number.false at c.in_ok-found.ensures.value in
+    rw (← c.self.view_is) (sym (lookup_is c.args.number.0 c.self.inside.regions.entries) ∙ there ∙ ap Some (sym c.region.ensures))

@@ -1,0 +1,47 @@
+use Rattle.std.proofs.Common.{Result, Ok, Err, OnOk, ◌≡◌, true, ◌+◌, length, drop, get_or, sym, ◌∙◌}
+use Rattle.std.specs.Result.{is_ok}
+use Rattle.vx_index.proofs.Gathered.{no_patch, none_gathered, next_left, none_left, gathers, passes_known, passes_far, all_gathered}
+use Rattle.vx_index.proofs.chunk.Chunk.here.Goals as goal
+use Rattle.vx_index.proofs.chunk.Chunk.here.Goals.{then-next-patch+then-holds+in_ok-ok, else-next-patch, else-next-patch-via-then-next-patch+else-holds, else-next-patch-via-else-next-patch}
+
+-- what a call says of its success, where it succeeded
+at_success : {T E : Type 0} (r : Result T E) (P : Type 0) → true ≡ is_ok r → OnOk r P → P
+at_success (Ok x) P same holds = holds
+at_success (Err e) P same holds = cc
+
+pub loop-patch-init : goal.loop-patch-init
+loop-patch-init c =
+    none_gathered (length c.args.regions.now.entries) c.args.p c.args.self.now.patches.items c.new-here.result.items
+    c.new-here.ensures c.requires.of.few c.requires.of.ordered c.requires.of.before
+
+pub loop-patch-preserved : goal.loop-patch-preserved
+loop-patch-preserved c =
+    let n = length c.args.regions.now.entries in
+    let p = c.args.p in
+    let all = c.args.self.now.patches.items in
+    let items = c.deref-patch-items.result.now in
+    let at = c.loop-patch.patch-index in
+    let patch = get_or items at no_patch in
+    let rest = drop (at + 1) all in
+    let here = c.loop-patch.here.items in
+    let next = c.loop-patch.next in
+    let held = next_left n p all items at here next c.deref-patch-items.ensures.value c.loop-patch-test.true c.loop-patch.invariant in
+    elim c.if-next-patch.branch [
+      | then-next-patch+then-holds+in_ok-ok w ↦
+          let pushed = at_success w.try_push.result _ w.in_ok-ok.ensures.variant w.try_push.ensures.ok in
+          rw (w.here-is, w.next-is) (gathers n p all patch rest here w.try_push.new.self.items next pushed w.if-next-patch.true held)
+      | else-next-patch w ↦ rw (w.here-is, w.next-is) (elim w.else-next-patch.branch [
+        | else-next-patch-via-then-next-patch+else-holds w' ↦
+            passes_far n p all patch rest here next (sym w'.holds.ensures ∙ w'.if-holds.false) held
+        | else-next-patch-via-else-next-patch w' ↦
+            passes_known n p all patch rest here next w'.if-next-patch.false held
+      ])
+    ]
+
+pub returns : goal.returns
+returns c =
+    let n = length c.args.regions.now.entries in
+    let all = c.args.self.now.patches.items in
+    all_gathered c.args.regions.now c.args.p c.args.self.now c.loop-patch.here.items c.loop-patch.next c.requires.of c.requires.within
+    (none_left n c.args.p all c.deref-patch-items.result.now c.loop-patch.patch-index c.loop-patch.here.items c.loop-patch.next
+    c.deref-patch-items.ensures.value c.loop-patch-test.false c.loop-patch.invariant)

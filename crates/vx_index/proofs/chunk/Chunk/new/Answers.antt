@@ -1,0 +1,14 @@
+use Rattle.std.proofs.Common.{arith}
+use Rattle.vx_index.specs.Patches.{square}
+use Rattle.vx_index.proofs.Adding.{of_none, of_one_more}
+use Rattle.vx_index.proofs.chunk.Chunk.new.Goals as goal
+
+pub loop-place-init : goal.loop-place-init
+loop-place-init c =
+    of_none c.args.regions.now.entries (square c.args.west c.args.north) _ c.new-patches.ensures.items
+
+pub loop-place-preserved : goal.loop-place-preserved
+loop-place-preserved c =
+    of_one_more c.args.regions.now.entries (square c.args.west c.args.north) c.loop-place.place _
+    c.loop-place.patches.items c.add_patches.new.patches.items (omega (arith, c.loop-place-test.true)) c.nth.ensures
+    c.loop-place.invariant (rw c.shape.ensures at c.in_ok-add_patches.ensures)

@@ -1,0 +1,6 @@
+use Rattle.vx_index.specs.Patches.{square, AreOf}
+use Rattle.vx_index.proofs.chunk.Chunk.new.Given as goal
+
+-- the patches are of the regions so far
+abbrev pub invariant-loop-place : goal.invariant-loop-place
+invariant-loop-place l = AreOf l.regions.entries (square l.west l.north) l.place l.patches.items

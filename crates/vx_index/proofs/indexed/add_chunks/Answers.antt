@@ -1,0 +1,13 @@
+use Rattle.std.proofs.Common.{arith}
+use Rattle.vx_index.proofs.Edges.{west_fits, north_fits}
+use Rattle.vx_index.proofs.indexed.add_chunks.Goals as goal
+
+pub new-requires-clause-west : goal.new-requires-clause-west
+new-requires-clause-west c =
+    rw c.west.ensures.value
+    (west_fits c.args.bounds.now c.args.sector c.loop-column.column c.soundness.ensures (omega (arith, c.span-side.ensures)))
+
+pub new-requires-clause-north : goal.new-requires-clause-north
+new-requires-clause-north c =
+    rw c.north.ensures.value
+    (north_fits c.args.bounds.now c.args.sector c.loop-row.row c.soundness.ensures c.requires.sector (omega (arith, c.span-side.ensures)))

@@ -1,0 +1,13 @@
+use Rattle.std.proofs.Common.{Contains, IfSome, subst, ◌∙◌}
+use Rattle.vx_index.proofs.Recalled.{entries_are, found_alike}
+use Rattle.vx_index.specs.SameAsked.{IsSameAsked}
+use Rattle.vx_index.specs.declared.asked.Asked.{Asked}
+use Rattle.vx_index.proofs.kept.Kept.get.Goals as goal
+
+pub returns : goal.returns
+returns c =
+    let cache = c.in_ok-as_ref.field-0.now in
+    let asked = c.args.asked.now in
+    subst (λ es. IfSome c.copied.result (λ v. (same : Asked) × Contains es (same, v) × IsSameAsked asked same))
+    (entries_are c.args.self.now cache c.in_ok-as_ref.ensures.value)
+    (found_alike cache.entries asked c.copied.result (c.copied.ensures ∙ c.peek.ensures))

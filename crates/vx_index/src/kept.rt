@@ -1,0 +1,75 @@
+ghost use Rattle.std.specs.Prelude.{◌≡◌, ◌⊎◌, true, [], Contains, IfSome};
+ghost use Rattle.vx_decide.specs.declared.verdict.Verdict.{Verdict};
+ghost use Rattle.vx_index.specs.Chunks.{kept_verdicts};
+ghost use Rattle.vx_index.specs.SameAsked.{IsSameAsked};
+ghost use Rattle.vx_index.specs.declared.asked.Asked.{Asked};
+
+use crate::asked::Asked;
+use lru::LruCache;
+use std::alloc::Global;
+use std::num::NonZeroUsize;
+use vx_decide::Verdict;
+
+/// How many verdicts are kept at most.
+const MAX_KEPT: usize = 256;
+
+/// The verdicts that were asked for last, at most 256.
+#[derive(Drop)]
+pub(crate) struct Kept {
+    // None until one is kept.
+    verdicts: Option<LruCache<Asked, Verdict>>,
+}
+
+impl Kept {
+    /// Nothing is kept yet. It takes no memory.
+    pub(crate) fn new() -> Kept
+        ensures { kept_verdicts result ≡ [] }
+    {
+        Kept { verdicts: None }
+    }
+
+    /// The verdict that is kept on a question.
+    pub(crate) fn get(&self, asked: &Asked) -> Option<Verdict>
+        ensures { IfSome result (λ verdict. (same : Asked)
+            × Contains (kept_verdicts self.now) (same, verdict)
+            × IsSameAsked asked.now same) }
+    {
+        self.verdicts.as_ref()?.peek(asked).copied()
+    }
+
+    /// The same, and the question is then the one asked last.
+    pub(crate) fn recall(&mut self, asked: &Asked) -> Option<Verdict>
+        ensures found { IfSome result (λ verdict. (same : Asked)
+            × Contains (kept_verdicts self.old) (same, verdict)
+            × IsSameAsked asked.now same) }
+        ensures kept { (e : Asked × Verdict) → Contains (kept_verdicts self.new) e
+            → Contains (kept_verdicts self.old) e }
+    {
+        let verdict = self.get(asked)?;
+        let verdicts = self.verdicts.as_mut()?;
+        verdicts.promote(asked);
+        Some(verdict)
+    }
+
+    /// Keeps a verdict in place of the one that was not asked for the longest. Where memory is
+    /// wanting it is not kept.
+    pub(crate) fn keep(&mut self, alloc: Global, asked: &Asked, verdict: Verdict)
+        ensures { (e : Asked × Verdict) → Contains (kept_verdicts self.new) e
+            → Contains (kept_verdicts self.old) e
+            ⊎ ((e.1 ≡ verdict) × IsSameAsked asked.now e.0) }
+    {
+        if self.verdicts.is_none() {
+            self.verdicts = empty(alloc);
+        }
+        if let Some(verdicts) = &mut self.verdicts {
+            let _ = verdicts.put(*asked, verdict);
+        }
+    }
+}
+
+// A cache with nothing in it, if memory is there.
+fn empty(alloc: Global) -> Option<LruCache<Asked, Verdict>>
+    ensures { IfSome result (λ cache. cache.entries ≡ []) }
+{
+    LruCache::sparse(alloc, NonZeroUsize::new(MAX_KEPT)?).ok()
+}

@@ -1,0 +1,16 @@
+//! The regions near a position, found by chunks, and verdicts that were given: decisions that cost what is near.
+#![tactic(auto)]
+
+mod asked;
+mod cache;
+mod cached;
+mod chunk;
+mod deciding;
+mod indexed;
+mod kept;
+mod patch;
+mod patches;
+
+pub use cache::Cache;
+pub use cached::Cached;
+pub use indexed::Indexed;

@@ -1,0 +1,129 @@
+//! The patches of a region in a chunk: all columns of a cuboid, and for each row those of a polygon from the first to the last.
+ghost use Rattle.std.specs.Prelude.{◌≡◌, ◌+◌, ◌-◌, ◌<◌, ◌≤◌, ℕ, pos, true, MatchOption, OnOk};
+ghost use Rattle.vx_geom.specs.Outline.{has_column};
+ghost use Rattle.vx_index.specs.Patches.{square, row_of_square, HoldsRow, Adds};
+
+use crate::patch::Patch;
+use std::alloc::AllocError;
+use vx_geom::{Extent, Shape};
+
+/// How many columns a side of a chunk has.
+pub(crate) const SIDE: u32 = 16;
+
+/// No chunk begins further east or south.
+pub(crate) const MAX_EDGE: u32 = 256;
+
+/// The columns of the chunk that begins at `west` and `north`.
+pub(crate) fn square(west: u32, north: u32) -> Extent
+    requires west { west ≤ 256 }
+    requires north { north ≤ 256 }
+    ensures { result ≡ square west north }
+{
+    Extent {
+        west: west as i32,
+        east: (west + SIDE - 1) as i32,
+        north: north as i32,
+        south: (north + SIDE - 1) as i32,
+    }
+}
+
+/// Adds the patches of a region in the chunk that begins at `west` and `north`.
+pub(crate) fn add_patches(
+    patches: &mut Vec<Patch>,
+    place: u32,
+    shape: &Shape,
+    west: u32,
+    north: u32,
+) -> Result<(), AllocError>
+    requires west { west ≤ 256 }
+    requires north { north ≤ 256 }
+    ensures { OnOk result
+        (Adds place shape.now (square west north) patches.old.items patches.new.items) }
+{
+    let columns = shape.extent();
+    if !columns.meets(&square(west, north)) {
+        return Ok(());
+    }
+    if shape.is_cuboid() {
+        patches.push(Patch { place, columns })?;
+        return Ok(());
+    }
+    add_rows(patches, place, shape, west, north)
+}
+
+// Adds a patch for each row of the chunk in which the shape has columns.
+fn add_rows(
+    patches: &mut Vec<Patch>,
+    place: u32,
+    shape: &Shape,
+    west: u32,
+    north: u32,
+) -> Result<(), AllocError>
+    requires west { west ≤ 256 }
+    requires north { north ≤ 256 }
+    ensures { OnOk result
+        (Adds place shape.now (square west north) patches.old.items patches.new.items) }
+{
+    for z in north..north + SIDE {
+        if let Some(columns) = row_of(shape, west, z) {
+            patches.push(Patch { place, columns })?;
+        }
+    }
+    Ok(())
+}
+
+// The columns of the row z of a chunk from the first that the shape has to the last.
+fn row_of(shape: &Shape, west: u32, z: u32) -> Option<Extent>
+    requires west { west ≤ 256 }
+    requires row { z < 272 }
+    ensures { HoldsRow shape.now (row_of_square west z) result }
+{
+    let first = first_column(shape, west, z)?;
+    let last = last_column(shape, west, z)?;
+    Some(Extent {
+        west: first as i32,
+        east: last as i32,
+        north: z as i32,
+        south: z as i32,
+    })
+}
+
+// The first column of the row that the shape has.
+fn first_column(shape: &Shape, west: u32, z: u32) -> Option<u32>
+    requires west { west ≤ 256 }
+    requires row { z < 272 }
+    ensures first { (x : ℕ) → west ≤ x → x < west + 16 → has_column shape.now (pos x) (pos z) ≡ true
+        → MatchOption result ⊥ (λ first. first ≤ x) }
+    ensures within { MatchOption result (Unit {0}) (λ first. first < 272) }
+{
+    for x in west..west + SIDE {
+        if has_column(shape, x, z) {
+            return Some(x);
+        }
+    }
+    None
+}
+
+// The last one.
+fn last_column(shape: &Shape, west: u32, z: u32) -> Option<u32>
+    requires west { west ≤ 256 }
+    requires row { z < 272 }
+    ensures last { (x : ℕ) → west ≤ x → x < west + 16 → has_column shape.now (pos x) (pos z) ≡ true
+        → MatchOption result ⊥ (λ last. x ≤ last) }
+    ensures within { MatchOption result (Unit {0}) (λ last. last < 272) }
+{
+    for x in (west..west + SIDE).rev() {
+        if has_column(shape, x, z) {
+            return Some(x);
+        }
+    }
+    None
+}
+
+fn has_column(shape: &Shape, x: u32, z: u32) -> bool
+    requires column { x < 272 }
+    requires row { z < 272 }
+    ensures { result ≡ has_column shape.now (pos x) (pos z) }
+{
+    shape.has_column(x as i32, z as i32)
+}

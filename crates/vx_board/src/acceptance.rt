@@ -2,13 +2,17 @@
 //! fail. What is to be told of an edit before it counts can be told between them.
 ghost use Rattle.std.specs.Prelude.{◌≡◌, ◌+◌, ◌<◌, ◌++◌, ◌∷◌, ◌⊎◌, [], None, Some, Err, length, map, option_map, vec_len, vec_capacity, IfOk, OnErr};
 ghost use Rattle.vx_board.specs.Accepted.{IsRefused, most_edits};
+ghost use Rattle.vx_board.specs.Spares.{IsSpare};
 ghost use Rattle.vx_policy.specs.Asked.{asked};
-ghost use Rattle.vx_policy.specs.Edits.{edited, number_given};
+ghost use Rattle.vx_policy.specs.Edits.{edited, number_given, after, AreAccepted};
 ghost use Rattle.vx_policy.specs.Refusals.{refusal};
 ghost use Rattle.vx_board.specs.declared.desk_error.DeskError.{DeskError};
 
 use crate::desk_error::DeskError;
 use crate::edited::Edited;
+use crate::naming::Naming;
+use crate::spare::Spare;
+use crate::turns::take_turns;
 use std::alloc::Global;
 use vx_policy::{Edit, Policy};
 use vx_region::RegionNo;
@@ -24,14 +28,18 @@ pub struct Ready {
     pub region: Option<RegionNo>,
 }
 
-/// Tests an edit, makes room for it in the list, and applies it to the policy. Where it answers an
-/// error, policy and list are as before, but for room.
-pub fn make_ready(
+/// Tests an edit, makes room for it in the list, and applies it to the policy, which takes turns
+/// with the spare before. Where it answers an error, policy and list are as before, but for room.
+pub fn make_ready<J: Naming>(
     alloc: Global,
     policy: &mut Policy,
+    spare: &mut Option<Spare>,
     accepted: &mut Vec<Edit>,
     edit: Edit,
 ) -> Result<Ready, DeskError>
+    requires accepted { AreAccepted J.first (map asked accepted.old.items) }
+    requires policy { policy.old ≡ after J.first (map asked accepted.old.items) }
+    requires spare { IsSpare J.first (map asked accepted.old.items) spare.old }
     ensures ok { IfOk result (λ ready. (refusal policy.old (asked edit) ≡ None)
         × (policy.new ≡ edited policy.old (asked edit))
         × (asked ready.edit ≡ asked edit)
@@ -41,6 +49,7 @@ pub fn make_ready(
     ensures refused { (e : DeskError) → result ≡ Err e
         → IsRefused policy.old (vec_len accepted.old) (asked edit) e }
     ensures list { accepted.new.items ≡ accepted.old.items }
+    ensures spare { IsSpare J.first (map asked accepted.old.items) spare.new }
     ensures err { OnErr result (policy.new ≡ policy.old) }
 {
     if MAX_EDITS <= accepted.len() as u64 {
@@ -55,6 +64,9 @@ pub fn make_ready(
     let Ok(copy) = edit.try_clone(alloc) else {
         return Err(DeskError::NoMemory);
     };
+    if take_turns::<J>(alloc, policy, spare, accepted).is_err() {
+        return Err(DeskError::NoMemory);
+    }
     match policy.change(alloc, edit) {
         Ok(region) => Ok(Ready { edit: copy, region }),
         Err(_) => Err(DeskError::NoMemory),

@@ -8,6 +8,8 @@ mod desk_error;
 mod desk_state;
 mod edited;
 mod naming;
+mod spare;
+mod turns;
 
 pub use desk::Desk;
 pub use desk_error::DeskError;

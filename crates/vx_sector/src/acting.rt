@@ -9,6 +9,7 @@ use crate::chests::{is_in_use, opening, putting, taking};
 use crate::cmd::Cmd;
 use crate::contents::Contents;
 use crate::effect::Effect;
+use crate::judge::Judge;
 use crate::outcome::Outcome;
 use crate::refusal::Refusal;
 use crate::reply::Reply;
@@ -16,16 +17,15 @@ use crate::seat::Seat;
 use std::alloc::Global;
 use vx_block::{Cell, Part};
 use vx_cells::Cells;
-use vx_decide::{Decide, Plain, Rule, Verdict};
+use vx_decide::{Rule, Verdict};
 use vx_flag::Action;
 use vx_geom::Pos;
-use vx_region::{RegionSet, Subject};
 
 /// The answer of the rules to a command at a position of the sector, and what the command does. It
 /// takes memory for what an opened chest holds; its only error is that memory is wanting.
 pub fn outcome_of(
     alloc: Global,
-    regions: &RegionSet,
+    judge: &mut Judge,
     cells: &Cells,
     seat: &Seat,
     cmd: &Cmd,
@@ -33,13 +33,14 @@ pub fn outcome_of(
     requires held { holds cells.now (place_of cmd.now) ≡ true }
     requires whole { IsWhole cells.now }
     ensures answer { IfOk result (λ outcome.
-        outcome.answer ≡ rules_answer regions.now cells.now (seat_of seat.now) cmd.now) }
+        outcome.answer ≡ rules_answer judge.old.policy cells.now (seat_of seat.now) cmd.now) }
     ensures effect { IfOk result (λ outcome.
         outcome.effect ≡ effect_by cells.now cmd.now outcome.answer) }
     ensures fits { IfOk result (λ outcome. Fits cells.now (place_of cmd.now) outcome.effect) }
     ensures memory { IfErr result (λ refusal. refusal ≡ Refusal.NoMemory) }
+    ensures judge { judge.new ≡ judge.old }
 {
-    match carried_out(alloc, regions, cells, seat, cmd) {
+    match carried_out(alloc, judge, cells, seat, cmd) {
         Ok((reply, effect)) => Ok(Outcome {
             answer: Ok(reply),
             effect,
@@ -56,7 +57,7 @@ pub fn outcome_of(
 #[tactic(auto, unfolding(crate::specs::Acting::rules_answer))]
 fn carried_out(
     alloc: Global,
-    regions: &RegionSet,
+    judge: &mut Judge,
     cells: &Cells,
     seat: &Seat,
     cmd: &Cmd,
@@ -64,28 +65,29 @@ fn carried_out(
     requires held { holds cells.now (place_of cmd.now) ≡ true }
     requires whole { IsWhole cells.now }
     ensures answer { MatchResult result
-        (λ done. rules_answer regions.now cells.now (seat_of seat.now) cmd.now ≡ Ok done.0)
-        (λ refusal. (rules_answer regions.now cells.now (seat_of seat.now) cmd.now ≡ Err refusal)
+        (λ done. rules_answer judge.old.policy cells.now (seat_of seat.now) cmd.now ≡ Ok done.0)
+        (λ refusal. (rules_answer judge.old.policy cells.now (seat_of seat.now) cmd.now ≡ Err refusal)
         ⊎ (refusal ≡ Refusal.NoMemory)) }
     ensures effect { IfOk result (λ done. done.1 ≡ effect_of cells.now cmd.now) }
     ensures fits { IfOk result (λ done. Fits cells.now (place_of cmd.now) done.1) }
+    ensures judge { judge.new ≡ judge.old }
 {
     match cmd {
         Cmd::Look(p) => Ok((Reply::Seen(cells.get(*p)), Effect::Same)),
         Cmd::Place(p, part) => {
-            let rule = permitted(regions, seat, Action::Placing, *p)?;
+            let rule = permitted(judge, seat, Action::Placing, *p)?;
             Ok((Reply::Done(rule), placing(cells, *p, *part)?))
         }
         Cmd::Break(p) => {
-            let rule = permitted(regions, seat, Action::Breaking, *p)?;
+            let rule = permitted(judge, seat, Action::Breaking, *p)?;
             Ok((Reply::Done(rule), breaking(cells, *p)?))
         }
         Cmd::Turn(p) => {
-            let rule = permitted(regions, seat, Action::Turning, *p)?;
+            let rule = permitted(judge, seat, Action::Turning, *p)?;
             Ok((Reply::Done(rule), turning(cells, *p)?))
         }
         Cmd::OpenChest(p) => {
-            let rule = permitted(regions, seat, Action::Reaching, *p)?;
+            let rule = permitted(judge, seat, Action::Reaching, *p)?;
             Ok((Reply::Opened(rule, shown(alloc, cells, *p)?), Effect::Same))
         }
         Cmd::Put {
@@ -94,24 +96,25 @@ fn carried_out(
             item,
             count,
         } => {
-            let rule = permitted(regions, seat, Action::Reaching, *at)?;
+            let rule = permitted(judge, seat, Action::Reaching, *at)?;
             Ok((
                 Reply::Done(rule),
                 putting(cells, *at, *slot, *item, *count)?,
             ))
         }
         Cmd::Take { at, slot, count } => {
-            let rule = permitted(regions, seat, Action::Reaching, *at)?;
+            let rule = permitted(judge, seat, Action::Reaching, *at)?;
             Ok((Reply::Done(rule), taking(cells, *at, *slot, *count)?))
         }
     }
 }
 
 // The rule that permits the player of the seat the action at the place.
-fn permitted(regions: &RegionSet, seat: &Seat, action: Action, p: Pos) -> Result<Rule, Refusal>
-    ensures { result ≡ leave regions.now (seat_of seat.now) action p }
+fn permitted(judge: &mut Judge, seat: &Seat, action: Action, p: Pos) -> Result<Rule, Refusal>
+    ensures leave { result ≡ leave judge.old.policy (seat_of seat.now) action p }
+    ensures judge { judge.new ≡ judge.old }
 {
-    match Plain::new(regions).decide(&Subject::Player(seat.name), action, p) {
+    match judge.ask(&seat.name, action, p) {
         Verdict::Permit(rule) => Ok(rule),
         Verdict::Deny(rule) => Err(Refusal::Denied(rule)),
     }

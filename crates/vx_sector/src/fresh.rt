@@ -1,6 +1,7 @@
 ghost use Rattle.std.specs.Prelude.{◌≡◌, IfOk};
 
 use crate::entry::Entry;
+use crate::judge::Judge;
 use std::alloc::{AllocError, Global};
 use std::marker::Model;
 use vx_cells::Cells;
@@ -13,7 +14,7 @@ use vx_policy::Version;
 pub struct Fresh {
     pub(crate) base: Cells,
     pub(crate) cells: Cells,
-    pub(crate) version: Version,
+    pub(crate) judge: Judge,
     pub(crate) entries: Vec<Entry>,
 }
 
@@ -23,7 +24,7 @@ impl Model for Fresh {
 
     ghost Value = { FreshData };
 
-    ghost view = { λ a. record { cells = a.cells; version = a.version } };
+    ghost view = { λ a. record { cells = a.cells; version = a.judge } };
 
     ghost invariant = { λ a. (a.base ≡ a.cells) × (a.entries.items ≡ []) };
 }
@@ -55,7 +56,7 @@ impl Fresh {
         Ok(Fresh {
             base: cells.try_clone()?,
             cells,
-            version: version.try_clone()?,
+            judge: Judge::new(alloc, version)?,
             entries: Vec::new(alloc),
         })
     }

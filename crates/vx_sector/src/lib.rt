@@ -8,6 +8,7 @@ mod contents;
 mod effect;
 mod entry;
 mod fresh;
+mod judge;
 mod laws;
 mod next;
 mod outcome;

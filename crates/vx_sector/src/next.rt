@@ -1,7 +1,7 @@
 use crate::entry::Entry;
+use crate::judge::Judge;
 use std::marker::Model;
 use vx_cells::Cells;
-use vx_policy::Version;
 
 /// All that the next window of a sector takes beside its cells. It is made before the window
 /// begins, since making it takes memory and beginning does not.
@@ -9,7 +9,7 @@ use vx_policy::Version;
 #[derive(Drop)]
 pub struct Next {
     pub(crate) base: Option<Box<Cells>>,
-    pub(crate) version: Version,
+    pub(crate) judge: Judge,
     pub(crate) entries: Vec<Entry>,
 }
 
@@ -21,7 +21,7 @@ impl Model for Next {
 
     ghost view = { λ a. record {
       base = option_map (λ b. b.value) a.base;
-      version = a.version;
+      version = a.judge;
     } };
 
     ghost invariant = { λ a. a.entries.items ≡ [] };

@@ -10,6 +10,7 @@ use crate::cmd::Cmd;
 use crate::effect::Effect;
 use crate::entry::Entry;
 use crate::fresh::Fresh;
+use crate::judge::Judge;
 use crate::next::Next;
 use crate::outcome::Outcome;
 use crate::refusal::Refusal;
@@ -32,7 +33,7 @@ const MAX_ENTRIES: u64 = 1_099_511_627_776;
 pub struct Sector {
     base: Cells,
     cells: Cells,
-    version: Version,
+    judge: Judge,
     entries: Vec<Entry>,
     closed: u64,
 }
@@ -43,10 +44,10 @@ impl Model for Sector {
 
     ghost Value = { SectorData };
 
-    ghost view = { λ a. sector_data a.base a.cells a.version a.entries.items a.closed };
+    ghost view = { λ a. sector_data a.base a.cells a.judge a.entries.items a.closed };
 
     ghost invariant = { λ a.
-        IsSector (sector_data a.base a.cells a.version a.entries.items a.closed) };
+        IsSector (sector_data a.base a.cells a.judge a.entries.items a.closed) };
 }
 
 impl Sector {
@@ -59,13 +60,13 @@ impl Sector {
         let Fresh {
             base,
             cells,
-            version,
+            judge,
             entries,
         } = fresh;
         Sector {
             base,
             cells,
-            version,
+            judge,
             entries,
             closed: 0,
         }
@@ -83,13 +84,13 @@ impl Sector {
         let Fresh {
             base,
             cells,
-            version,
+            judge,
             entries,
         } = fresh;
         self.closed += self.entries.len() as u64;
         self.base = base;
         self.cells = cells;
-        self.version = version;
+        self.judge = judge;
         mem::replace(&mut self.entries, entries)
     }
 
@@ -106,7 +107,7 @@ impl Sector {
         };
         Ok(Next {
             base,
-            version: version.try_clone()?,
+            judge: Judge::new(*self.entries.allocator(), version)?,
             entries: Vec::new(*self.entries.allocator()),
         })
     }
@@ -122,14 +123,14 @@ impl Sector {
     {
         let Next {
             base,
-            version: judging,
+            judge: judging,
             entries: empty,
         } = next;
         match base {
             Some(copy) => self.base = Box::into_inner(copy),
             None => bring_up(&mut self.base, &self.entries, &self.cells),
         }
-        self.version = judging;
+        self.judge = judging;
         let recorded = mem::replace(&mut self.entries, empty);
         self.closed += recorded.len() as u64;
         recorded
@@ -165,7 +166,7 @@ impl Sector {
     pub fn version(&self) -> &Version
         ensures { result.now ≡ self.now.version }
     {
-        &self.version
+        self.judge.version()
     }
 
     /// The record of this window, oldest first: each with the answer that the rules gave on the
@@ -222,9 +223,8 @@ impl Sector {
             return Err(Refusal::HistoryFull);
         }
         let alloc = *self.entries.allocator();
-        let regions = self.version.policy.regions();
         self.cells.soundness();
-        let outcome = outcome_of(alloc, regions, &self.cells, &seat, &cmd)?;
+        let outcome = outcome_of(alloc, &mut self.judge, &self.cells, &seat, &cmd)?;
         let answer = copied(&outcome.answer)?;
         self.record(Entry { seat, cmd, answer }, outcome.effect)?;
         outcome.answer

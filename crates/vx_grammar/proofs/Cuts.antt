@@ -1,11 +1,18 @@
 -- The words of a line that is cut at its first space.
-use Rattle.std.proofs.Common.{◌≡◌, ℕ, ◌<◌, ◌≢◌, true, false, cond, nat_eq, List, [], ◌∷◌, ◌++◌, length, get_or, Some, None, filter, refl, ap, ◌∙◌, lit<, arith, Bor}
-use Rattle.std.specs.List.{All}
-use Rattle.std.proofs.lemmas.Bool.{eqb-true, ne_eqb}
+use Rattle.std.proofs.Common.{◌≡◌, ℕ, ◌+◌, ◌<◌, Bool, true, false, not, cond, nat_eq, List, [], ◌∷◌, length, get_or, Some, None, position, filter, refl, sym, ap, subst, arith, inl, inr}
+use Rattle.std.specs.List.{position_or_len, before_first, after_first}
+use Rattle.std.specs.Str.{IsUtf8, IsCharBoundary}
+use Rattle.std.proofs.lemmas.Bool.{eqb-true, cases_lt, lt-ltb}
 use Rattle.std.proofs.lemmas.List.Elements.{All-from_get_or}
-use Rattle.std.proofs.lemmas.List.Splits.{slice_split_none, slice_split_at}
-use Rattle.std.proofs.lemmas.Str.Pattern.{IsSplitOnceResult, split_parts}
+use Rattle.std.proofs.lemmas.List.Quantifiers.{position-Some}
+use Rattle.std.proofs.lemmas.List.Splits.{slice_split_none, slice_split_first}
+use Rattle.std.proofs.lemmas.List.Sums.{fails_before_first, prefix_len-le-length}
+use Rattle.std.proofs.lemmas.Str.{IsCharBoundary-before_ascii, IsCharBoundary-after_ascii}
 use Rattle.vx_grammar.specs.Words.{is_word, words_of}
+
+-- the byte is a space
+abbrev is_space : ℕ → Bool
+is_space b = nat_eq b 32
 
 -- these words, behind the piece where it is one
 abbrev pub onto_words : List ℕ → List (List ℕ) → List (List ℕ)
@@ -19,24 +26,40 @@ pub onto_words-none : (piece : List ℕ) (words : List (List ℕ)) → nat_eq (l
 onto_words-none [] words h = refl
 onto_words-none (b ∷ bs) words h = absurd (omega (arith, eqb-true (length (b ∷ bs)) 0 h))
 
-no_space : (bs : List ℕ) → ((i : ℕ) → i < length bs → get_or bs i 0 ≢ 32) → All (λ b. nat_eq b 32 ≡ false) bs
-no_space bs h = All-from_get_or (λ b. nat_eq b 32 ≡ false) bs 0 (λ i l. ne_eqb _ _ (h i l))
-
 pub words_of-nil : words_of [] ≡ []
 unfolding words_of
 words_of-nil = refl
 
 -- a line without a space is one piece
-pub words_uncut : (line : List ℕ) → IsSplitOnceResult 32 line None → words_of line ≡ onto_words line []
+pub words_uncut : (line : List ℕ) → position_or_len is_space line ≡ length line → words_of line ≡ onto_words line []
 unfolding words_of
-words_uncut line h = ap (filter is_word) (slice_split_none (λ b. nat_eq b 32) line (no_space line (split_parts 32 line None h (lit< tt))))
-
-words_at : (piece rest : List ℕ) → ((i : ℕ) → i < length piece → get_or piece i 0 ≢ 32) → words_of (piece ++ (32 ∷ rest)) ≡ onto_words piece (words_of rest)
-unfolding words_of
-words_at piece rest h = ap (filter is_word) (slice_split_at (λ b. nat_eq b 32) piece 32 rest (no_space piece h) refl)
+words_uncut line none =
+    ap (filter is_word) (slice_split_none is_space line
+    (All-from_get_or (λ b. is_space b ≡ false) line 0 (λ i below. fails_before_first is_space line i 0 (subst (λ n. i < n) (sym none) below))))
 
 -- what stands before the first space, and the words after it
-pub words_cut : (line : List ℕ) (piece rest : Bor (List ℕ)) → IsSplitOnceResult 32 line (Some (piece, rest)) → words_of line ≡ onto_words piece.now (words_of rest.now)
-words_cut line piece rest h =
-    let parts = split_parts 32 line (Some (piece, rest)) h (lit< tt) in
-    ap words_of parts.0 ∙ words_at piece.now rest.now parts.1
+pub words_cut : (line piece rest : List ℕ) → piece ≡ before_first is_space line → rest ≡ after_first is_space line → position_or_len is_space line < length line
+    → words_of line ≡ onto_words piece (words_of rest)
+unfolding words_of
+words_cut line piece rest front back some = rw (front, back) (ap (filter is_word) (slice_split_first is_space line 0 some))
+
+-- where no space is found there is none
+pub none_found : (line : List ℕ) → None ≡ position is_space line → position_or_len is_space line ≡ length line
+none_found line is = elim (cases_lt (position_or_len is_space line) (length line)) [
+  | inl below ↦ (let found : None ≡ Some (position_or_len is_space line) = rw (lt-ltb _ _ below) at is in cc)
+  | inr beyond ↦ omega (arith, beyond, prefix_len-le-length (λ b. not (is_space b)) line)
+]
+
+-- a space that is found is one byte, so the line may be cut on both its sides
+module _ (line : List ℕ) (place : ℕ) (is : Some place ≡ position is_space line) where
+  within : place < length line
+  within = (position-Some is_space line place 0 (sym is)).0
+
+  one_byte : get_or line place 0 < 128
+  one_byte = omega (arith, eqb-true (get_or line place 0) 32 (position-Some is_space line place 0 (sym is)).1)
+
+  pub cut_before : IsCharBoundary line place
+  cut_before = IsCharBoundary-before_ascii line place within one_byte
+
+  pub cut_behind : IsUtf8 line → IsCharBoundary line (place + 1)
+  cut_behind text = IsCharBoundary-after_ascii line place text within one_byte

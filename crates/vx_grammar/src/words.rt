@@ -1,4 +1,6 @@
-ghost use Rattle.std.specs.Prelude.{◌≡◌, [], ◌∷◌, MatchOption};
+ghost use Rattle.std.specs.Prelude.{◌≡◌, ◌<◌, ◌==◌, [], ◌∷◌, length, position, MatchOption};
+ghost use Rattle.std.specs.List.{position_or_len, before_first, after_first};
+ghost use Rattle.vx_grammar.specs.Words.{space};
 
 use std::marker::Model;
 
@@ -33,7 +35,7 @@ impl<'a> Words<'a> {
         ensures { MatchOption result ((self.old ≡ []) × (self.new ≡ []))
             (λ word. self.old ≡ word.now ∷ self.new) }
     {
-        while let Some((piece, rest)) = self.rest.split_once(' ') {
+        while let Some((piece, rest)) = cut(self.rest) {
             self.rest = rest;
             if !piece.is_empty() {
                 return Some(piece);
@@ -43,4 +45,24 @@ impl<'a> Words<'a> {
         self.rest = "";
         if last.is_empty() { None } else { Some(last) }
     }
+}
+
+// The text before its first space and the text behind it.
+fn cut(text: &str) -> Option<(&str, &str)>
+    ensures { MatchOption result (position_or_len (λ b. b == space) text.now ≡ length text.now)
+        (λ parts. (parts.0.now ≡ before_first (λ b. b == space) text.now)
+        × (parts.1.now ≡ after_first (λ b. b == space) text.now)
+        × (position_or_len (λ b. b == space) text.now < length text.now)) }
+{
+    let place = first_space(text)?;
+    let (piece, _) = text.split_at_checked(place)?;
+    let (_, rest) = text.split_at_checked(place + 1)?;
+    Some((piece, rest))
+}
+
+// Where the first space stands. A space is one byte, and no byte of another character.
+fn first_space(text: &str) -> Option<usize>
+    ensures { result ≡ position (λ b. b == space) text.now }
+{
+    text.as_bytes().iter().position(|byte| *byte == b' ')
 }

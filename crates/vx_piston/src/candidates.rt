@@ -1,9 +1,10 @@
 //! What each piston would move.
 ghost use Rattle.std.specs.Option.{option_to_list};
-ghost use Rattle.std.specs.Prelude.{◌≡◌, ◌+◌, true, ◌∷◌, ◌++◌, option_map};
+ghost use Rattle.std.specs.Prelude.{◌≡◌, ◌+◌, ℕ, true, ◌∷◌, ◌++◌, option_map};
 ghost use Rattle.vx_cells.specs.Maps.{cell_on};
 ghost use Rattle.vx_geom.specs.Neighbor.{neighbor};
 ghost use Rattle.vx_geom.specs.Sizes.{is_inside};
+ghost use Rattle.vx_geom.specs.declared.pos.Pos.{Pos};
 ghost use Rattle.vx_piston.specs.Moves.{most_pushed, row, if_inside, pulled, pushing, drawing, candidate, is_restless};
 
 use crate::moves::{MAX_CELLS, Move};
@@ -17,21 +18,30 @@ use vx_power::{Leveled, active};
 const MAX_ROW: u8 = 13;
 
 /// The move of the piston at a position, if it would make one. It takes no memory.
-#[tactic(auto, unfolding(crate::specs::Moves::candidate))]
 pub fn candidate<L: Leveled>(map: &Frozen<'_>, levels: &L, p: Pos) -> Option<Move>
     ensures { result ≡ candidate map.now (L.level levels.now) p }
 {
-    let Cell::Piston {
-        facing,
-        sticky,
-        extended,
-    } = map.cell(p)
-    else {
-        return None;
-    };
-    match (extended, active(map, levels, p, Some(facing))) {
-        (false, true) => pushing(map, facing, p),
-        (true, false) => Some(drawing(map, facing, sticky, p)),
+    if is_restless(map, levels, p) {
+        asked_by(map, p)
+    } else {
+        None
+    }
+}
+
+/// What a piston that would move asks for, if what stands before it lets it. No level is looked at,
+/// and it takes no memory.
+#[tactic(auto, unfolding(crate::specs::Moves::candidate, crate::specs::Moves::is_restless))]
+pub fn asked_by(map: &Frozen<'_>, p: Pos) -> Option<Move>
+    ensures { (level : Pos → ℕ) → is_restless (cell_on map.now) level p ≡ true
+        → result ≡ candidate map.now level p }
+{
+    match map.cell(p) {
+        Cell::Piston {
+            facing,
+            sticky,
+            extended: true,
+        } => Some(drawing(map, facing, sticky, p)),
+        Cell::Piston { facing, .. } => pushing(map, facing, p),
         _ => None,
     }
 }

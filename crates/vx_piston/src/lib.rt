@@ -8,7 +8,7 @@ mod claiming;
 mod laws;
 mod moves;
 
-pub use candidates::{candidate, is_restless};
+pub use candidates::{asked_by, candidate, is_restless};
 pub use claim_laws::unbeaten_moves_share_no_cell;
 pub use claim_table::Claims;
 pub use claiming::claims;

@@ -13,6 +13,7 @@ pub mod Reach
 pub mod Reaching
 pub mod Rounds
 pub mod Showing
+pub mod Sources
 pub mod Stepping
 pub mod Tables
 pub mod Unchanged

@@ -74,6 +74,14 @@ dust_powers w level p d =
 unfoldable pub is_dust_powered : (Pos → Cell) → (Pos → ℕ) → Pos → Bool
 is_dust_powered w level p = list_any (dust_powers w level p) all_dirs
 
+-- the neighbor in that direction drives what stands at p, or is dust that powers it
+unfoldable pub is_source : (Pos → Cell) → (Pos → ℕ) → Pos → Dir → Bool
+is_source w level p d = drives_from w p d || dust_powers w level p d
+
+-- some neighbor does
+unfoldable pub has_source : (Pos → Cell) → (Pos → ℕ) → Pos → Bool
+has_source w level p = list_any (is_source w level p) all_dirs
+
 -- a conductor is powered where it is strongly powered, or dust of a level over 0 reaches it
 unfoldable pub is_powered : (Pos → Cell) → (Pos → ℕ) → Pos → Bool
 is_powered w level p = conducts (w p) && (is_driven w p || is_dust_powered w level p)

@@ -1,13 +1,15 @@
 //! What the power of dust reaches: conductors that it powers, lamps and pistons that it makes
 //! active.
-ghost use Rattle.std.specs.Prelude.{◌≡◌};
+ghost use Rattle.std.specs.Prelude.{◌≡◌, ◌&&◌, ◌||◌, nat_lt};
+ghost use Rattle.vx_block.specs.Components.{is_dust};
 ghost use Rattle.vx_cells.specs.Maps.{cell_on};
-ghost use Rattle.vx_power.specs.Signals.{reaches, dust_powers, is_dust_powered, is_powered, activates, is_front, is_active};
+ghost use Rattle.vx_geom.specs.Dirs.{opposite};
+ghost use Rattle.vx_power.specs.Signals.{reaches, gives, is_source, has_source, is_powered, activates, is_front, is_active};
 
 use crate::dust::points;
 use crate::leveled::Leveled;
-use crate::signals::{gives, is_driven};
-use vx_block::Side;
+use crate::signals::{drives, gives};
+use vx_block::{Cell, Side};
 use vx_cells::Frozen;
 use vx_geom::{Dir, Pos};
 
@@ -25,29 +27,49 @@ fn reaches(map: &Frozen<'_>, dust: Pos, dir: Dir) -> bool
     }
 }
 
-#[tactic(auto, unfolding(crate::specs::Signals::dust_powers))]
-fn dust_powers<L: Leveled>(map: &Frozen<'_>, levels: &L, p: Pos, dir: Dir) -> bool
-    ensures { result ≡ dust_powers (cell_on map.now) (L.level levels.now) p dir }
+/// Whether a conductor stands at a position that is powered, by a strong source or by dust.
+#[tactic(auto, unfolding(crate::specs::Signals::is_powered), using(crate::proofs::Sources::sources))]
+pub fn powered<L: Leveled>(map: &Frozen<'_>, levels: &L, p: Pos) -> bool
+    ensures { result ≡ is_powered (cell_on map.now) (L.level levels.now) p }
+{
+    map.has_conductor(p) && has_source(map, levels, p)
+}
+
+// Whether some neighbor drives what stands at a position, or is dust that powers it.
+#[tactic(auto, unfolding(crate::specs::Signals::has_source))]
+fn has_source<L: Leveled>(map: &Frozen<'_>, levels: &L, p: Pos) -> bool
+    ensures { result ≡ has_source (cell_on map.now) (L.level levels.now) p }
+{
+    Dir::ALL.iter().any(|dir| is_source(map, levels, p, *dir))
+}
+
+// Whether the neighbor in that direction is one of these.
+#[tactic(auto, unfolding(crate::specs::Signals::is_source, crate::specs::Signals::drives_from, crate::specs::Signals::dust_powers))]
+fn is_source<L: Leveled>(map: &Frozen<'_>, levels: &L, p: Pos, dir: Dir) -> bool
+    ensures { result ≡ is_source (cell_on map.now) (L.level levels.now) p dir }
 {
     match map.next(p, dir) {
-        Some(next) => map.has_dust(next) && 0 < levels.at(next) && reaches(map, next, dir),
+        Some(next) => {
+            let cell = map.cell(next);
+            drives(cell, dir.opposite()) || has_power_towards(map, levels, next, &cell, dir)
+        }
         None => false,
     }
 }
 
-#[tactic(auto, unfolding(crate::specs::Signals::is_dust_powered))]
-fn is_dust_powered<L: Leveled>(map: &Frozen<'_>, levels: &L, p: Pos) -> bool
-    ensures { result ≡ is_dust_powered (cell_on map.now) (L.level levels.now) p }
+// Whether this cell, which stands at a position, is dust with power that reaches the cell from
+// which it lies in that direction.
+fn has_power_towards<L: Leveled>(
+    map: &Frozen<'_>,
+    levels: &L,
+    next: Pos,
+    cell: &Cell,
+    dir: Dir,
+) -> bool
+    ensures { result ≡ (is_dust cell.now && nat_lt 0 (L.level levels.now next)
+        && reaches (cell_on map.now) next dir) }
 {
-    Dir::ALL.iter().any(|dir| dust_powers(map, levels, p, *dir))
-}
-
-/// Whether a conductor stands at a position that is powered, by a strong source or by dust.
-#[tactic(auto, unfolding(crate::specs::Signals::is_powered))]
-pub fn powered<L: Leveled>(map: &Frozen<'_>, levels: &L, p: Pos) -> bool
-    ensures { result ≡ is_powered (cell_on map.now) (L.level levels.now) p }
-{
-    map.has_conductor(p) && (is_driven(map, p) || is_dust_powered(map, levels, p))
+    cell.is_dust() && 0 < levels.at(next) && reaches(map, next, dir)
 }
 
 /// Whether what stands in that direction from a position makes a lamp, a piston or a repeater there
@@ -57,13 +79,23 @@ pub fn activates<L: Leveled>(map: &Frozen<'_>, levels: &L, p: Pos, dir: Dir) -> 
     ensures { result ≡ activates (cell_on map.now) (L.level levels.now) p dir }
 {
     match map.next(p, dir) {
-        Some(next) => {
-            gives(map.cell(next), dir.opposite())
-                || powered(map, levels, next)
-                || dust_powers(map, levels, p, dir)
-        }
+        Some(next) => acts(map, levels, next, &map.cell(next), dir),
         None => false,
     }
+}
+
+// Whether this cell, which stands at a position, makes active what it lies in that direction from.
+#[tactic(auto, unfolding(crate::specs::Signals::is_powered), using(crate::proofs::Sources::sources))]
+fn acts<L: Leveled>(map: &Frozen<'_>, levels: &L, next: Pos, cell: &Cell, dir: Dir) -> bool
+    requires { cell.now ≡ cell_on map.now next }
+    ensures { result ≡ (gives cell.now (opposite dir)
+        || is_powered (cell_on map.now) (L.level levels.now) next
+        || (is_dust cell.now && nat_lt 0 (L.level levels.now next)
+        && reaches (cell_on map.now) next dir)) }
+{
+    gives(*cell, dir.opposite())
+        || (cell.conducts() && has_source(map, levels, next))
+        || has_power_towards(map, levels, next, cell, dir)
 }
 
 /// Whether a lamp or a piston at a position is active. A piston is not made so from its front.

@@ -1,6 +1,7 @@
 //! What feeds power, and which dust and conductors it feeds.
-ghost use Rattle.std.specs.Prelude.{◌≡◌};
+ghost use Rattle.std.specs.Prelude.{◌≡◌, ◌||◌};
 ghost use Rattle.vx_cells.specs.Maps.{cell_on};
+ghost use Rattle.vx_geom.specs.Dirs.{opposite};
 ghost use Rattle.vx_power.specs.Signals.{gives, drives, drives_from, is_driven, is_strong, feeds_from, has_feeder, is_fed};
 
 use vx_block::Cell;
@@ -46,22 +47,24 @@ pub fn is_driven(map: &Frozen<'_>, p: Pos) -> bool
     Dir::ALL.iter().any(|dir| drives_from(map, p, *dir))
 }
 
-/// Whether a conductor stands at a position that is strongly powered.
-#[tactic(auto, unfolding(crate::specs::Signals::is_strong))]
-pub fn is_strong(map: &Frozen<'_>, p: Pos) -> bool
-    ensures { result ≡ is_strong (cell_on map.now) p }
-{
-    map.has_conductor(p) && is_driven(map, p)
-}
-
 #[tactic(auto, unfolding(crate::specs::Signals::feeds_from, crate::specs::Signals::is_strong))]
 fn feeds_from(map: &Frozen<'_>, p: Pos, dir: Dir) -> bool
     ensures { result ≡ feeds_from (cell_on map.now) p dir }
 {
     match map.next(p, dir) {
-        Some(next) => gives(map.cell(next), dir.opposite()) || is_strong(map, next),
+        Some(next) => feeds(map, next, &map.cell(next), dir),
         None => false,
     }
+}
+
+// Whether this cell, which stands at a position, feeds the dust from which it lies in that
+// direction.
+#[tactic(auto, unfolding(crate::specs::Signals::is_strong))]
+fn feeds(map: &Frozen<'_>, next: Pos, cell: &Cell, dir: Dir) -> bool
+    requires { cell.now ≡ cell_on map.now next }
+    ensures { result ≡ (gives cell.now (opposite dir) || is_strong (cell_on map.now) next) }
+{
+    gives(*cell, dir.opposite()) || (cell.conducts() && is_driven(map, next))
 }
 
 // Whether some neighbor feeds dust at a position.

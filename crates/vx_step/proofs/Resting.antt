@@ -1,6 +1,7 @@
 -- Where a map rests nothing changes and no piston moves, so a tick need not look there.
-use Rattle.std.proofs.Common.{◌≡◌, ℕ, zero, suc, ◌<◌, ◌≤◌, Bool, true, false, cond, List, [], ◌∷◌, Some, inl, inr, refl, sym, ap, ◌∙◌, arith}
-use Rattle.std.specs.List.{filter}
+use Rattle.std.proofs.Common.{◌≡◌, ℕ, zero, suc, ◌<◌, ◌≤◌, Bool, true, false, cond, List, [], ◌∷◌, Some, inl, inr, refl, sym, ap, ◌∙◌, subst, arith}
+use Rattle.std.specs.List.{All, filter}
+use Rattle.std.proofs.lemmas.List.Elements.{filter_passes}
 use Rattle.std.proofs.lemmas.Bool.{cases_Bool, cases_eq, and_from, false≢true, or_left, or_right}
 use Rattle.vx_geom.specs.declared.pos.Pos.{Pos}
 use Rattle.vx_geom.specs.Places.{positions}
@@ -76,6 +77,14 @@ devices_restless m level k ps exact listed =
     ∙ ap (filter (is_restless (cell_on m) (dust_level (cell_on m)))) listed
     ∙ kept_pass (λ p. is_device (cell_on m p)) (is_restless (cell_on m) (dust_level (cell_on m)))
     (no_device_still (cell_on m) (dust_level (cell_on m))) (positions m.sizes k)
+
+-- each that was found would move
+pub found_restless : (m : MapData) (level : Pos → ℕ) (ps found : List Pos)
+    → found ≡ filter (is_restless (cell_on m) level) ps
+    → All (λ p. is_restless (cell_on m) level p ≡ true) found
+found_restless m level ps found is =
+    subst (All (λ p. is_restless (cell_on m) level p ≡ true)) (sym is)
+    (filter_passes (is_restless (cell_on m) level) ps)
 
 -- those that would move ask for all that any ask for
 pub restless_ask : (m : MapData) (level : Pos → ℕ) (ps : List Pos)

@@ -1,6 +1,7 @@
-ghost use Rattle.std.specs.Prelude.{◌≡◌, ◌<◌, IfOk};
-ghost use Rattle.std.specs.List.{filter};
+ghost use Rattle.std.specs.Prelude.{◌≡◌, ◌<◌, ℕ, true, IfOk};
+ghost use Rattle.std.specs.List.{All, filter};
 ghost use Rattle.vx_cells.specs.Maps.{MapData, cell_on};
+ghost use Rattle.vx_geom.specs.declared.pos.Pos.{Pos};
 ghost use Rattle.vx_geom.specs.Sizes.{sector_count};
 ghost use Rattle.vx_piston.specs.Moves.{is_restless};
 ghost use Rattle.vx_places.specs.Places.{is_at};
@@ -14,7 +15,7 @@ use vx_block::Cell;
 use vx_cells::Frozen;
 use vx_geom::Pos;
 use vx_part::{changes_among, next_parts};
-use vx_piston::{Move, candidate, is_restless};
+use vx_piston::{Move, asked_by, is_restless};
 use vx_places::Places;
 use vx_power::{Leveled, Levels};
 
@@ -111,7 +112,7 @@ impl Found {
         let here = places.in_sector(alloc, sector)?;
         let changes = changes_among(alloc, map, levels, here.as_slice())?;
         let restless = restless_among(alloc, map, levels, here.as_slice())?;
-        let moves = moves_among(alloc, map, levels, restless.as_slice())?;
+        let moves = moves_among(alloc, map, restless.as_slice())?;
         Ok(Found {
             changes,
             restless,
@@ -138,7 +139,7 @@ impl Found {
         let changes = next_parts(alloc, map, levels, sector)?;
         let devices = map.devices(alloc, sector)?;
         let restless = restless_among(alloc, map, levels, devices.as_slice())?;
-        let moves = moves_among(alloc, map, levels, restless.as_slice())?;
+        let moves = moves_among(alloc, map, restless.as_slice())?;
         Ok(Found {
             changes,
             restless,
@@ -174,19 +175,15 @@ fn restless_among<L: Leveled>(
     Ok(found)
 }
 
-// The moves that pistons at these positions ask for, in their order.
-fn moves_among<L: Leveled>(
-    alloc: Global,
-    map: &Frozen<'_>,
-    levels: &L,
-    positions: &[Pos],
-) -> Result<Vec<Move>, AllocError>
-    ensures { IfOk result (λ moves.
-        moves.items ≡ asked map.now (L.level levels.now) positions.now) }
+// The moves that these pistons ask for, each of which would move, in their order.
+fn moves_among(alloc: Global, map: &Frozen<'_>, restless: &[Pos]) -> Result<Vec<Move>, AllocError>
+    ensures { IfOk result (λ moves. (level : Pos → ℕ)
+        → All (λ p. is_restless (cell_on map.now) level p ≡ true) restless.now
+        → moves.items ≡ asked map.now level restless.now) }
 {
     let mut moves = Vec::new(alloc);
-    for p in positions {
-        if let Some(m) = candidate(map, levels, *p) {
+    for p in restless {
+        if let Some(m) = asked_by(map, *p) {
             moves.push(m)?;
         }
     }

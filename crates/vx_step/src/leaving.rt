@@ -1,5 +1,6 @@
 //! What a tick leaves to be looked at by the next one.
-ghost use Rattle.std.specs.Prelude.{◌≡◌, ◌++◌, IfOk, OnOk};
+ghost use Rattle.std.specs.Prelude.{◌≡◌, ◌&&◌, not, [], ◌∷◌, ◌++◌, if◌then◌else◌, IfOk, OnOk};
+ghost use Rattle.vx_block.specs.Components.{is_dust};
 ghost use Rattle.vx_cells.specs.Maps.{cell_on};
 ghost use Rattle.vx_power.specs.Local.{shown};
 ghost use Rattle.vx_step.specs.Leaving.{shows_same, shown_changes, hidden_changes, places_of};
@@ -25,45 +26,46 @@ pub fn left(
     ensures besides { IfOk result (λ waking. waking.besides
         ≡ hidden_changes (cell_on map.now) changes.now ++ restless.now) }
 {
-    let mut changed = shown_changes(alloc, map, changes)?;
+    let Waking {
+        mut changed,
+        mut besides,
+    } = left_by_parts(alloc, map, changes)?;
     add_places(&mut changed, moved)?;
-    let mut besides = hidden_changes(alloc, map, changes)?;
     besides.extend_from_slice(restless)?;
     Ok(Waking { changed, besides })
 }
 
-// The positions of what shows other than what stood there.
-fn shown_changes(
+// The same after these changes alone.
+fn left_by_parts(
     alloc: Global,
     map: &Frozen<'_>,
-    puts: &[(Pos, Cell)],
-) -> Result<Vec<Pos>, AllocError>
-    ensures { IfOk result (λ found. found.items ≡ shown_changes (cell_on map.now) puts.now) }
+    changes: &[(Pos, Cell)],
+) -> Result<Waking, AllocError>
+    ensures changed { IfOk result (λ waking.
+        waking.changed ≡ shown_changes (cell_on map.now) changes.now) }
+    ensures besides { IfOk result (λ waking.
+        waking.besides ≡ hidden_changes (cell_on map.now) changes.now) }
 {
-    let mut found = Vec::new(alloc);
-    for (p, cell) in puts {
-        if !shows_same(*cell, map.cell(*p)) {
-            found.push(*p)?;
-        }
+    let mut waking = Waking::nothing(alloc);
+    for (p, cell) in changes {
+        add_change(&mut waking, *p, cell, map.cell(*p))?;
     }
-    Ok(found)
+    Ok(waking)
 }
 
-// Those of what shows the same, and is no dust.
-fn hidden_changes(
-    alloc: Global,
-    map: &Frozen<'_>,
-    puts: &[(Pos, Cell)],
-) -> Result<Vec<Pos>, AllocError>
-    ensures { IfOk result (λ found. found.items ≡ hidden_changes (cell_on map.now) puts.now) }
+// Adds a position at which one cell has become another.
+fn add_change(waking: &mut Waking, p: Pos, cell: &Cell, was: Cell) -> Result<(), AllocError>
+    ensures changed { OnOk result (waking.new.changed ≡ waking.old.changed
+        ++ (if shows_same cell.now was then [] else p ∷ [])) }
+    ensures besides { OnOk result (waking.new.besides ≡ waking.old.besides
+        ++ (if shows_same cell.now was && not (is_dust cell.now) then p ∷ [] else [])) }
 {
-    let mut found = Vec::new(alloc);
-    for (p, cell) in puts {
-        if shows_same(*cell, map.cell(*p)) && !cell.is_dust() {
-            found.push(*p)?;
-        }
+    if !shows_same(*cell, was) {
+        waking.changed.push(p)?;
+    } else if !cell.is_dust() {
+        waking.besides.push(p)?;
     }
-    Ok(found)
+    Ok(())
 }
 
 // Adds the positions of what was put down.

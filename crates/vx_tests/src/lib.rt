@@ -5,6 +5,8 @@
 #[cfg(test)]
 mod cells;
 #[cfg(test)]
+mod deciders;
+#[cfg(test)]
 mod desk;
 #[cfg(test)]
 mod files;

@@ -1,7 +1,8 @@
-use Rattle.vx_piston.proofs.Ends.{piston_inside}
+use Rattle.std.proofs.Common.{sym}
+use Rattle.vx_piston.proofs.Restless.{others_stay}
 use Rattle.vx_piston.proofs.candidates.candidate.Goals as goal
 
-pub drawing-requires : goal.drawing-requires
-drawing-requires g c =
-    piston_inside c.args.map.now c.args.p c.in-Piston.facing c.in-Piston.sticky c.in-Piston.extended
-    c.in-Piston.ensures
+pub returns-else-is_restless : goal.returns-else-is_restless
+returns-else-is_restless g c =
+    sym (others_stay c.args.map.now (g.L.Leveled.level c.args.levels.now) c.args.p
+    (sym c.if-is_restless.ensures))

@@ -6,17 +6,17 @@ use Rattle.vx_grammar.proofs.words.Words.next.Goals.{then-is_empty, else-is_empt
 
 pub returns-then-not-is_empty : goal.returns-then-not-is_empty
 returns-then-not-is_empty c =
-    let cut = words_cut _ c.in-Some.piece c.in-Some.rest c.in-Some.ensures.cases in
+    let cut = words_cut _ _ _ c.in-Some.ensures.0 c.in-Some.ensures.1 c.in-Some.ensures.2 in
     sym c.self.view_is ∙ sym c.loop-piece.invariant ∙ cut ∙ onto_words-some _ _ (sym c.if-not-is_empty.ensures)
 
 pub loop-piece-preserved : goal.loop-piece-preserved
 loop-piece-preserved c =
-    let cut = words_cut _ c.in-Some.piece c.in-Some.rest c.in-Some.ensures.cases in
+    let cut = words_cut _ _ _ c.in-Some.ensures.0 c.in-Some.ensures.1 c.in-Some.ensures.2 in
     sym (onto_words-none _ _ (sym c.if-not-is_empty.ensures)) ∙ sym cut ∙ c.loop-piece.invariant
 
 pub returns : goal.returns
 returns c =
-    let all = sym c.self.view_is ∙ sym c.loop-piece.invariant ∙ words_uncut c.loop-piece.self-inside.rest.now c.in_default.ensures.cases in
+    let all = sym c.self.view_is ∙ sym c.loop-piece.invariant ∙ words_uncut c.loop-piece.self-inside.rest.now c.in_default.ensures in
     elim c.if-is_empty.branch [
       | then-is_empty w ↦ rw w.result-is (all ∙ onto_words-none c.loop-piece.self-inside.rest.now [] (sym w.if-is_empty.ensures), words_of-nil)
       | else-is_empty w ↦ rw w.result-is (all ∙ onto_words-some c.loop-piece.self-inside.rest.now [] (sym w.if-is_empty.ensures) ∙ ap (λ words. c.loop-piece.self-inside.rest.now ∷ words) (sym words_of-nil))

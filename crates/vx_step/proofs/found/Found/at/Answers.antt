@@ -1,7 +1,7 @@
 use Rattle.std.proofs.Common.{ap, ◌∙◌}
 use Rattle.vx_places.specs.Places.{is_at}
 use Rattle.vx_step.specs.Ticks.{asked}
-use Rattle.vx_step.proofs.Resting.{kept_changes, kept_asked, kept_restless, restless_ask}
+use Rattle.vx_step.proofs.Resting.{kept_changes, kept_asked, kept_restless, found_restless, restless_ask}
 use Rattle.vx_step.proofs.found.Found.at.Goals as goal
 
 pub returns-clause-changes : goal.returns-clause-changes
@@ -25,8 +25,9 @@ returns-clause-moves g c =
     let m = c.args.map.now in
     let level = g.L.Leveled.level c.args.levels.now in
     let places = c.args.places.now in
-    c.in_ok-moves.ensures
-    ∙ ap (asked m level) (c.as_slice-3.ensures.value ∙ c.in_ok-restless.ensures)
+    let found = c.as_slice-3.ensures.value ∙ c.in_ok-restless.ensures in
+    c.in_ok-moves.ensures level (found_restless m level c.as_slice-2.result.now _ found)
+    ∙ ap (asked m level) found
     ∙ restless_ask m level c.as_slice-2.result.now
     ∙ kept_asked m level c.requires.levels (is_at places)
     c.requires.settled c.args.sector places.sizes _ c.requires.sizes

@@ -5,7 +5,7 @@ set -eu
 root=$(cd "$(dirname "$0")/.." && pwd)
 work=$(mktemp -d)
 trap 'rm -rf "$work"' EXIT
-cp -r "$root/crates" "$root/crates.txt" "$root/HANDLES" "$work/"
+cp -a "$root/crates" "$root/crates.txt" "$root/HANDLES" "$work/"
 mkdir -p "$work/crates/bench_decisions/src"
 cp "$root/bench/decisions.rt.in" "$work/crates/bench_decisions/src/main.rt"
 echo 'bench_decisions: vx_base vx_geom vx_flag vx_region vx_decide arrayvec indexmap thiserror anyhow' >>"$work/crates.txt"

@@ -10,13 +10,14 @@ root=$(cd "$(dirname "$0")/.." && pwd)
 name=$1
 work=$(mktemp -d)
 trap 'rm -rf "$work"' EXIT
-cp -r "$root/crates" "$root/crates.txt" "$root/HANDLES" "$work/"
+cp -a "$root/crates" "$root/crates.txt" "$root/HANDLES" "$work/"
 bench=$work/crates/bench_$name
 mkdir -p "$bench/src" "$bench/proofs"
 cp "$root/bench/$name.rt.in" "$bench/src/main.rt"
-cp "$root/bench/map.rt.in" "$bench/src/map.rt"
-cp "$root/bench/worlds.rt.in" "$bench/src/worlds.rt"
-echo "bench_$name: $(sed -n 's/^vx_core_tests: //p' "$root/crates.txt") anyhow" >>"$work/crates.txt"
+for module in $(sed -n 's/^mod \(.*\);$/\1/p' "$bench/src/main.rt"); do
+  cp "$root/bench/$module.rt.in" "$bench/src/$module.rt"
+done
+echo "bench_$name: $(sed -n 's/^vx_play: //p' "$root/crates.txt") vx_play anyhow" >>"$work/crates.txt"
 cd "$bench"
 rt run </dev/null >"$work/first" 2>"$work/log" || { cat "$work/log" >&2; exit 1; }
 "./out/bench_$name" | column -t

@@ -11,5 +11,6 @@ pub mod Picks
 pub mod Ranks
 pub mod Rulings
 pub mod Shortcuts
+pub mod Silent
 pub mod Sufficing
 pub mod Taken

@@ -9,4 +9,5 @@ pub mod RegionGroups
 pub mod Rulings
 pub mod Texts
 pub mod Tops
+pub mod Unset
 pub mod Verdict

@@ -1,11 +1,12 @@
-ghost use Rattle.std.specs.Prelude.{◌≡◌, is_some};
+ghost use Rattle.std.specs.Prelude.{◌≡◌, is_some, option_map};
 ghost use Rattle.vx_flag.specs.declared.association.Association.{Association};
 ghost use Rattle.vx_region.specs.Association.{association};
+ghost use Rattle.vx_region.specs.Regions.{parent_of, setting_at};
 ghost use Rattle.vx_region.specs.Subjects.{actor_of};
-ghost use Rattle.vx_decide.specs.Effective.{value_at, effective, has_value, is_allow, is_deny};
+ghost use Rattle.vx_decide.specs.Effective.{heard, value_at, effective, has_value, is_allow, is_deny};
 
 use crate::value::Value;
-use vx_flag::{Flag, State, fits};
+use vx_flag::{Flag, Setting, State, fits};
 use vx_region::{RegionNo, RegionSet, Subject};
 
 /// The value of the flag for the subject at the region of that number: the one of the nearest
@@ -21,11 +22,11 @@ pub fn effective(
 {
     let mut at = number;
     for _ in 0..u64::from(regions.last()) + 1 {
-        let value = value_at(regions, subject, flag, number, at);
+        let (value, parent) = value_at(regions, subject, flag, number, at);
         if value.is_some() {
             return value;
         }
-        match regions.parent(at) {
+        match parent {
             Some(parent) => at = parent,
             None => return None,
         }
@@ -62,7 +63,7 @@ pub fn is_allow(value: Option<Value>) -> bool
 }
 
 // The value that the region at that number sets itself, for those who are to the region `number`
-// what the subject is.
+// what the subject is; and its parent.
 #[tactic(auto, unfolding(crate::specs::Effective::value_at))]
 fn value_at(
     regions: &RegionSet,
@@ -70,11 +71,43 @@ fn value_at(
     flag: Flag,
     number: RegionNo,
     at: RegionNo,
+) -> (Option<Value>, Option<RegionNo>)
+    ensures value { result.0
+        ≡ value_at regions.now flag (association regions.now (actor_of subject.now) number.0) at.0 }
+    ensures parent { option_map (λ n. n.0) result.1 ≡ parent_of regions.now at.0 }
+{
+    let (setting, parent) = set_at(regions, flag, at);
+    (heard(regions, subject, number, at, setting), parent)
+}
+
+// What the region at that number sets for the flag itself, and its parent.
+#[tactic(auto, unfolding(vx_region::specs::Regions::setting_at, vx_region::specs::Regions::parent_of))]
+fn set_at(regions: &RegionSet, flag: Flag, at: RegionNo) -> (Option<Setting>, Option<RegionNo>)
+    ensures setting { result.0 ≡ setting_at regions.now at.0 flag }
+    ensures parent { option_map (λ n. n.0) result.1 ≡ parent_of regions.now at.0 }
+{
+    if at.0 == 0 {
+        return (regions.setting(at, flag), regions.parent(at));
+    }
+    match regions.get(at) {
+        Some(region) => (region.setting(flag), region.parent()),
+        None => (None, None),
+    }
+}
+
+// The value of what is set at that number, for those who are to the region `number` what the subject
+// is.
+fn heard(
+    regions: &RegionSet,
+    subject: &Subject,
+    number: RegionNo,
+    at: RegionNo,
+    setting: Option<Setting>,
 ) -> Option<Value>
     ensures { result
-        ≡ value_at regions.now flag (association regions.now (actor_of subject.now) number.0) at.0 }
+        ≡ heard at.0 (association regions.now (actor_of subject.now) number.0) setting }
 {
-    let setting = regions.setting(at, flag)?;
+    let setting = setting?;
     if !fits(setting.group, regions.association(subject, number)) {
         return None;
     }

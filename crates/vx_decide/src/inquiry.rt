@@ -1,22 +1,29 @@
-ghost use Rattle.std.specs.Prelude.{◌≡◌};
+ghost use Rattle.std.specs.Prelude.{◌≡◌, true};
+ghost use Rattle.std.specs.List.{All};
+ghost use Rattle.vx_region.specs.Subjects.{actor_of};
 ghost use Rattle.vx_decide.specs.Candidates.{Suffice};
+ghost use Rattle.vx_decide.specs.Effective.{effective, has_value};
+ghost use Rattle.vx_decide.specs.Unset.{IsUnset};
 
 use crate::candidates::Candidates;
-use crate::effective::{effective, has_value, is_allow};
+use crate::effective::{effective, is_allow};
 use crate::question::Question;
+use crate::value::Value;
 use vx_flag::Flag;
 use vx_geom::Pos;
 use vx_region::{Region, RegionNo, RegionSet, Subject};
 
 /// What a policy is asked: which regions, who acts, and where; and the regions that are looked at,
-/// which hold each that contains the place.
+/// which hold each that contains the place; and flags that are known to be set nowhere.
 #[derive(Drop)]
 pub struct Inquiry<'a> {
     pub regions: &'a RegionSet,
     pub subject: &'a Subject,
     pub place: Pos,
     pub candidates: Candidates<'a>,
+    pub unset: &'a [Flag],
     ghost whole: { Suffice regions.now.entries place candidates },
+    ghost silent: { All (IsUnset regions.now) unset.now },
 }
 
 impl Inquiry<'_> {
@@ -30,12 +37,43 @@ impl Inquiry<'_> {
         ensures { result ≡ has_say question (case_of self.now) number.0 }
     {
         match question {
-            Question::OnFlag(flag) => has_value(self.regions, self.subject, flag, number),
+            Question::OnFlag(flag) => self.has_value(flag, number),
             Question::OnBuilding => {
-                has_value(self.regions, self.subject, Flag::Build, number)
-                    || !is_allow(effective(self.regions, self.subject, Flag::Passthrough, number))
+                self.has_value(Flag::Build, number)
+                    || !is_allow(self.effective(Flag::Passthrough, number))
             }
         }
+    }
+
+    #[tactic(auto, unfolding(crate::specs::Effective::has_value))]
+    fn has_value(&self, flag: Flag, number: RegionNo) -> bool
+        ensures { result ≡ has_value self.now.regions.now (actor_of self.now.subject.now) flag
+            number.0 }
+    {
+        self.effective(flag, number).is_some()
+    }
+
+    // The value of the flag at the region of that number, found at once where it is set nowhere.
+    fn effective(&self, flag: Flag, number: RegionNo) -> Option<Value>
+        ensures { result ≡ effective self.now.regions.now (actor_of self.now.subject.now) flag
+            number.0 }
+    {
+        if self.is_unset(flag) {
+            return None;
+        }
+        effective(self.regions, self.subject, flag, number)
+    }
+
+    // Whether the flag is known to be set nowhere.
+    fn is_unset(&self, flag: Flag) -> bool
+        ensures { result ≡ true → IsUnset self.now.regions.now flag }
+    {
+        for unset in self.unset {
+            if *unset == flag {
+                return true;
+            }
+        }
+        false
     }
 
     /// Whether the region contains the place and has a say on the question.

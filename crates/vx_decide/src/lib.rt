@@ -14,6 +14,7 @@ mod plain;
 mod query;
 mod question;
 mod rule;
+mod unset;
 mod value;
 mod verdict;
 
@@ -26,4 +27,5 @@ pub use laws::{
 };
 pub use plain::Plain;
 pub use rule::Rule;
+pub use unset::unset_flags;
 pub use verdict::Verdict;

@@ -48,6 +48,7 @@ impl Decide for Plain<'_> {
             subject,
             place: p,
             candidates: Candidates::all(self.regions),
+            unset: &[],
         };
         inquiry.decided_by(action.flag())
     }

@@ -6,6 +6,7 @@ use Rattle.vx_geom.specs.Extent.{is_within}
 use Rattle.vx_region.specs.Regions.{Regions}
 use Rattle.vx_region.specs.Subjects.{Named}
 use Rattle.vx_decide.specs.declared.verdict.Verdict.{Verdict}
+use Rattle.vx_decide.specs.Unset.{IsUnset}
 use Rattle.vx_decide.specs.Verdict.{verdict}
 use Rattle.vx_index.specs.declared.asked.Asked.{Asked}
 use Rattle.vx_index.specs.declared.cache.Cache.{Cache}
@@ -47,4 +48,5 @@ AreVerdicts rs vs = (e : Asked × Verdict) → Contains vs e → e.1 ≡ verdict
 -- all that a cache keeps is by these regions
 pub record IsCacheOf (rs : Regions) (cache : Cache) : Type 0 where
   pub chunks : All (IsChunk rs) cache.chunks.items
+  pub unset : All (IsUnset rs) cache.unset.items
   pub verdicts : AreVerdicts rs (kept_verdicts cache.kept)

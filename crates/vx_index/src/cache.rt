@@ -14,23 +14,25 @@ use crate::kept::Kept;
 use crate::patches::{MAX_EDGE, SIDE};
 use arrayvec::ArrayVec;
 use std::alloc::Global;
-use vx_decide::Verdict;
-use vx_flag::Action;
+use vx_decide::{Verdict, unset_flags};
+use vx_flag::{Action, Flag};
 use vx_geom::Pos;
 use vx_region::{Name, RegionSet, Subject};
 
 /// A sector has at most so many chunks.
 const MAX_CHUNKS: usize = 4;
 
-/// What so few regions decide is found as fast anew as in what was kept.
-const FEW: usize = 2;
+/// What so few regions decide costs about as much as to keep it, and few questions are asked again.
+const FEW: usize = 12;
 
 /// What a sector keeps of the decisions by one set of regions: the regions near, for each of its
-/// chunks in which something was asked, and the verdicts that were asked for last. Where memory is
-/// wanting less is kept, and the answers are the same.
+/// chunks in which something was asked, the flags that are set nowhere, and the verdicts that were
+/// asked for last. Where memory is wanting less is kept, and the answers are the same.
 #[derive(Drop)]
 pub struct Cache {
     pub(crate) chunks: Vec<Chunk>,
+    // None as long as nothing was asked.
+    pub(crate) unset: Vec<Flag>,
     pub(crate) kept: Kept,
 }
 
@@ -41,6 +43,7 @@ impl Cache {
     {
         Cache {
             chunks: Vec::new(alloc),
+            unset: Vec::new(alloc),
             kept: Kept::new(),
         }
     }
@@ -56,7 +59,7 @@ impl Cache {
         let here = self.here(regions, p);
         let player = Subject::Player(*name);
         if matches!(&here, Some(here) if here.len() <= FEW) {
-            return decided(regions, &here, &player, action, p);
+            return decided(regions, &here, &self.unset, &player, action, p);
         }
         let asked = Asked {
             name: *name,
@@ -66,7 +69,7 @@ impl Cache {
         if let Some(verdict) = self.kept.recall(&asked) {
             return verdict;
         }
-        let verdict = decided(regions, &here, &player, action, p);
+        let verdict = decided(regions, &here, &self.unset, &player, action, p);
         let alloc = *self.chunks.allocator();
         self.kept.keep(alloc, &asked, verdict);
         verdict
@@ -94,7 +97,20 @@ impl Cache {
                 return Some(index);
             }
         }
+        if self.chunks.is_empty() {
+            self.find_unset(regions);
+        }
         self.add_chunk(regions, p)
+    }
+
+    // Finds the flags that are set nowhere; where memory is wanting none is known.
+    fn find_unset(&mut self, regions: &RegionSet)
+        requires { IsCacheOf regions.now self.old }
+        ensures { IsCacheOf regions.now self.new }
+    {
+        if let Ok(unset) = unset_flags(*self.chunks.allocator(), regions) {
+            self.unset = unset;
+        }
     }
 
     // Makes the chunk that holds the position, if there is room.

@@ -12,7 +12,7 @@ use vx_geom::{Extent, Pos};
 use vx_region::RegionSet;
 
 /// So many regions at one place are found by a chunk.
-pub(crate) const MAX_HERE: usize = 128;
+pub(crate) const MAX_HERE: usize = 32;
 
 /// The regions that lie in a chunk, a square of 16 by 16 columns, in the order of their numbers.
 #[derive(Debug, Drop)]

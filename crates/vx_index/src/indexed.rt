@@ -95,7 +95,7 @@ impl Decide for Indexed<'_> {
     ghost policy = { λ a. a };
 
     fn decide(&self, subject: &Subject, action: Action, p: Pos) -> Verdict {
-        decided(self.regions, &self.here(p), subject, action, p)
+        decided(self.regions, &self.here(p), &[], subject, action, p)
     }
 }
 

@@ -111,8 +111,8 @@ impl Region {
         ensures { result ≡ names (names_of role self.now) name.now.text.bytes }
     {
         match role {
-            Role::Owner => self.owners.contains(name),
-            Role::Member => self.members.contains(name),
+            Role::Owner => !self.owners.is_empty() && self.owners.contains(name),
+            Role::Member => !self.members.is_empty() && self.members.contains(name),
         }
     }
 

@@ -212,10 +212,11 @@ impl RegionSet {
     {
         let mut at = number;
         for _ in 0..u64::from(self.last()) + 1 {
-            if self.has_name(role, name, at) {
+            let (is_named, parent) = self.naming_at(role, name, at);
+            if is_named {
                 return true;
             }
-            match self.parent(at) {
+            match parent {
                 Some(parent) => at = parent,
                 None => return false,
             }
@@ -231,6 +232,18 @@ impl RegionSet {
         match self.get(number) {
             Some(region) => region.has_name(role, name),
             None => false,
+        }
+    }
+
+    // Whether the region of that number names the player in that role, and its parent.
+    #[tactic(auto, unfolding(crate::specs::Association::has_name, crate::specs::Regions::parent_of))]
+    fn naming_at(&self, role: Role, name: &Name, number: RegionNo) -> (bool, Option<RegionNo>)
+        ensures named { result.0 ≡ has_name self.now role name.now.text.bytes number.0 }
+        ensures parent { option_map (λ n. n.0) result.1 ≡ parent_of self.now number.0 }
+    {
+        match self.get(number) {
+            Some(region) => (region.has_name(role, name), region.parent()),
+            None => (false, None),
         }
     }
 

@@ -1,7 +1,5 @@
 use Rattle.vx_decide.proofs.AtPlaces.{all_suffice}
 use Rattle.vx_decide.proofs.plain.PlainDecide.decide.Goals as goal
 
-pub invariant_of-inquiry : goal.invariant_of-inquiry
-invariant_of-inquiry c = record {
-  whole = all_suffice c.self.inside.regions.now c.args.p c.all.result c.soundness.ensures.forest c.all.ensures;
-}
+pub invariant_of-inquiry-clause-whole : goal.invariant_of-inquiry-clause-whole
+invariant_of-inquiry-clause-whole c = all_suffice c.self.inside.regions.now c.args.p c.all.result c.soundness.ensures.forest c.all.ensures

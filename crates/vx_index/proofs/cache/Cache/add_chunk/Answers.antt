@@ -26,5 +26,19 @@ returns-clause-kept c =
     record {
       chunks = subst (All (IsChunk rs)) (sym pushed)
           (All-push (IsChunk rs) chunks chunk c.requires.chunks (told_by rs c.new.result chunk c.new.ensures.of c.in_ok-chunk.ensures.value));
+      unset = c.requires.unset;
+      verdicts = c.requires.verdicts;
+    }
+
+pub returns-in_err-ok-clause-kept : goal.returns-in_err-ok-clause-kept
+returns-in_err-ok-clause-kept c =
+    let rs = c.args.regions.now in
+    let chunks = c.args.self.now.chunks.items in
+    let chunk = c.in_ok-chunk.chunk in
+    let same : c.push.new.self.items ≡ chunks =
+    c.push.ensures.items ∙ ap (λ b. if b then chunks ++ chunk ∷ [] else chunks) (sym c.in_err-ok.ensures.variant) in
+    record {
+      chunks = subst (All (IsChunk rs)) (sym same) c.requires.chunks;
+      unset = c.requires.unset;
       verdicts = c.requires.verdicts;
     }

@@ -12,5 +12,6 @@ returns-clause-kept c =
     let right : AreVerdicts rs recalled = some_right rs before recalled c.here-here.ensures.kept.verdicts c.recall.ensures.kept in
     record {
       chunks = c.here-here.ensures.kept.chunks;
+      unset = c.here-here.ensures.kept.unset;
       verdicts = one_more_right rs recalled (kept_verdicts c.keep.new.self) asked c.decided-verdict.result right c.decided-verdict.ensures c.keep.ensures;
     }

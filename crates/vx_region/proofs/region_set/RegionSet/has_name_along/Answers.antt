@@ -1,4 +1,4 @@
-use Rattle.std.proofs.Common.{◌∙◌, sym, arith}
+use Rattle.std.proofs.Common.{◌∙◌, sym, ap, option_map, arith}
 use Rattle.std.specs.List.{list_any}
 use Rattle.vx_region.specs.Association.{has_name}
 use Rattle.vx_region.proofs.Walks.{begin, any_next}
@@ -12,5 +12,5 @@ loop-init c =
 pub loop-preserved : goal.loop-preserved
 loop-preserved c =
     sym (any_next (has_name c.args.self.now c.args.role c.args.name.now.text.bytes) c.args.self.now _ _ c.loop.at.0 c.in-Some.parent.0 (omega arith)
-    (sym c.has_name.ensures ∙ c.if-has_name.false) (sym c.in-Some.ensures))
+    (sym c.naming_at-is_named.ensures.named ∙ c.if-is_named.false) (sym c.naming_at-is_named.ensures.parent ∙ ap (option_map (λ n. n.0)) c.in-Some.is))
     ∙ c.loop.invariant

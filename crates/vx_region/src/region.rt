@@ -1,5 +1,6 @@
-ghost use Rattle.std.specs.Prelude.{◌≡◌, false, option_map, Some, None, OnOk, OnErr};
+ghost use Rattle.std.specs.Prelude.{◌≡◌, false, bytes_eq, option_map, Some, None, OnOk, OnErr};
 ghost use Rattle.std.specs.Bool.{Decides};
+ghost use Rattle.std.specs.List.{list_any};
 ghost use Rattle.vx_flag.specs.Settings.{setting_of, with_setting};
 ghost use Rattle.vx_geom.specs.Outline.{is_in};
 ghost use Rattle.vx_region.specs.Regions.{names, names_of, names_with, names_without, gaining, losing, fresh_region};
@@ -15,6 +16,9 @@ use std::alloc::{AllocError, Global};
 use std::marker::Model;
 use vx_flag::{Flag, Setting, Settings};
 use vx_geom::{Pos, Shape};
+
+/// So few names are few.
+const FEW: usize = 8;
 
 /// A region: where it lies, its priority and its parent, who its owners and its members are, and
 /// what it sets for each flag.
@@ -111,8 +115,8 @@ impl Region {
         ensures { result ≡ names (names_of role self.now) name.now.text.bytes }
     {
         match role {
-            Role::Owner => !self.owners.is_empty() && self.owners.contains(name),
-            Role::Member => !self.members.is_empty() && self.members.contains(name),
+            Role::Owner => is_among(&self.owners, name),
+            Role::Member => is_among(&self.members, name),
         }
     }
 
@@ -287,6 +291,29 @@ fn same_number(a: Option<RegionNo>, b: Option<RegionNo>) -> bool
     ensures { result ≡ same_number (option_map (λ n. n.0) a) (option_map (λ n. n.0) b) }
 {
     a == b
+}
+
+// Whether the name is one of these. Few are looked at one by one, which costs less than to look it
+// up.
+fn is_among(these: &IndexSet<Name>, name: &Name) -> bool
+    ensures { result ≡ list_any (λ k. bytes_eq name.now.text.bytes k.text.bytes) these.now.keys }
+{
+    if FEW < these.len() {
+        return these.contains(name);
+    }
+    is_one_of(these.as_slice(), name)
+}
+
+// The same, one by one.
+fn is_one_of(these: &[Name], name: &Name) -> bool
+    ensures { result ≡ list_any (λ k. bytes_eq name.now.text.bytes k.text.bytes) these.now }
+{
+    for other in these {
+        if name == other {
+            return true;
+        }
+    }
+    false
 }
 
 #[tactic(auto, unfolding(crate::specs::SameRegions::same_names))]

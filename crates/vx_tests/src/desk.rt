@@ -55,26 +55,58 @@ fn fixes_two(rt: &impl Abort, desk: &DeskState<Brand>) -> Result<(), Fail> {
 
 #[test]
 fn a_shared_desk_shows_its_edits(rt: HostRuntime) -> Result<(), Fail> {
-    let desk = Desk::<Brand>::new(rt.alloc(), Policy::new(rt.alloc())?);
+    let desk = shared(rt.alloc())?;
     show(&rt, rt.alloc(), &desk)
 }
 
+fn shared(alloc: Global) -> Result<Desk<Brand>, AllocError> {
+    Ok(Desk::new(alloc, Policy::new(alloc)?))
+}
+
 fn show(rt: &(impl Abort + Wait), alloc: Global, desk: &Desk<Brand>) -> Result<(), Fail> {
-    assert_eq!(rt; seen(&desk.fix(rt, 1)?), (1, 0, 0));
-    assert_eq!(rt; desk.edit(rt, alloc, define(alloc, "plot")?), told(1));
-    assert_eq!(rt; desk.edit(rt, alloc, define(alloc, "farm")?), told(2));
-    assert_eq!(rt; seen(&desk.fix(rt, 2)?), (2, 2, 2));
+    fixes(rt, desk, 1, (1, 0, 0))?;
+    tells(rt, alloc, desk, "plot", 1)?;
+    tells(rt, alloc, desk, "farm", 2)?;
+    fixes(rt, desk, 2, (2, 2, 2))
+}
+
+fn fixes(
+    rt: &(impl Abort + Wait),
+    desk: &Desk<Brand>,
+    tick: u64,
+    due: (u64, u64, u32),
+) -> Result<(), Fail> {
+    let version = desk.fix(rt, tick)?;
+    assert_eq!(rt; seen(&version), due);
+    Ok(())
+}
+
+fn tells(
+    rt: &(impl Abort + Wait),
+    alloc: Global,
+    desk: &Desk<Brand>,
+    id: &str,
+    number: u32,
+) -> Result<(), Fail> {
+    let edit = define(alloc, id)?;
+    assert_eq!(rt; desk.edit(rt, alloc, edit), told(number));
     Ok(())
 }
 
 #[test]
 fn threads_edit_one_desk(rt: HostRuntime) -> Result<(), Fail> {
-    let desk = Desk::<Brand>::new(rt.alloc(), Policy::new(rt.alloc())?);
-    let mut counts = edit_by_two(&rt, &desk);
+    let desk = shared(rt.alloc())?;
+    tells_each_once(&rt, &desk);
+    fixes(&rt, &desk, 2, (2, 8, 8))
+}
+
+fn tells_each_once<R>(rt: &R, desk: &Desk<Brand>)
+where
+    R: Abort + Threads + Wait + Sync + Alloc<A = Global>,
+{
+    let mut counts = edit_by_two(rt, desk);
     counts.sort_unstable();
     assert_eq!(rt; counts, [1, 2, 3, 4, 5, 6, 7, 8]);
-    assert_eq!(rt; seen(&desk.fix(&rt, 2)?), (2, 8, 8));
-    Ok(())
 }
 
 // The counts that two threads are told, each of four definitions.

@@ -1,4 +1,6 @@
 //! Words that no script reads or writes, or not all of them.
+use std::alloc::{AllocError, Global};
+use std::fmt::Display;
 use std::process::Abort;
 use std::test::Fail;
 use vx_block::{Cell, Delay, Kind, Lamp, Repeater, Side};
@@ -11,20 +13,25 @@ use vx_region::{BadId, BadName, Id, Name, RegionNo};
 
 #[test]
 fn refusals_that_no_script_meets_have_their_words(rt: HostRuntime) -> Result<(), Fail> {
-    let full = DeskError::HistoryFull;
-    let (edit, desk) = (EditError::NoMemory, DeskError::NoMemory);
-    let line = format!(in rt.alloc(); "{full}, {edit}, {desk}")?;
-    assert_eq!(rt;
-        line.as_str(),
-        "refused 13 history, refused 14 memory, refused 14 memory"
-    );
+    let alloc = rt.alloc();
+    is_shown(&rt, alloc, &DeskError::HistoryFull, "refused 13 history")?;
+    is_shown(&rt, alloc, &EditError::NoMemory, "refused 14 memory")?;
+    is_shown(&rt, alloc, &DeskError::NoMemory, "refused 14 memory")?;
     let known = EditRefusal::Known;
-    let (edit, desk) = (EditError::Refused(known), DeskError::Refused(known));
-    let line = format!(in rt.alloc(); "{known}, {edit}, {desk}")?;
-    assert_eq!(rt;
-        line.as_str(),
-        "refused 21 known, refused 21 known, refused 21 known"
-    );
+    is_shown(&rt, alloc, &known, "refused 21 known")?;
+    is_shown(&rt, alloc, &EditError::Refused(known), "refused 21 known")?;
+    is_shown(&rt, alloc, &DeskError::Refused(known), "refused 21 known")?;
+    Ok(())
+}
+
+fn is_shown<T: Display>(
+    rt: &impl Abort,
+    alloc: Global,
+    shown: &T,
+    due: &str,
+) -> Result<(), AllocError> {
+    let text = format!(in alloc; "{shown}")?;
+    assert_eq!(rt; text.as_str(), due);
     Ok(())
 }
 

@@ -20,9 +20,18 @@ fn edits_are_accepted_or_refused_and_versions_fixed(rt: HostRuntime) -> Result<(
 fn edit_and_fix(rt: &impl Abort, alloc: Global, desk: &mut DeskState<Brand>) -> Result<(), Fail> {
     answers(rt, alloc, desk, "plot", told(1))?;
     let first = desk.fix(1)?;
+    leave(rt, alloc, desk, &first)
+}
+
+// Later edits leave a version as it is.
+fn leave(
+    rt: &impl Abort,
+    alloc: Global,
+    desk: &mut DeskState<Brand>,
+    first: &Version,
+) -> Result<(), Fail> {
     edit_on(rt, alloc, desk)?;
-    // later edits leave it
-    assert_eq!(rt; seen(&first), (1, 1, 1));
+    assert_eq!(rt; seen(first), (1, 1, 1));
     Ok(())
 }
 
@@ -47,10 +56,15 @@ fn answers(
 }
 
 fn fixes_two(rt: &impl Abort, desk: &DeskState<Brand>) -> Result<(), Fail> {
-    assert_eq!(rt; seen(&desk.fix(2)?), (2, 2, 2));
+    has_two(rt, desk);
+    let version = desk.fix(2)?;
+    assert_eq!(rt; seen(&version), (2, 2, 2));
+    Ok(())
+}
+
+fn has_two(rt: &impl Abort, desk: &DeskState<Brand>) {
     let counts = (desk.count(), desk.accepted().len());
     assert_eq!(rt; (counts, desk.policy().regions().count()), ((2, 2), 2));
-    Ok(())
 }
 
 #[test]

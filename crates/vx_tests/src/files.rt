@@ -90,45 +90,51 @@ fn is_all_of_mill(rt: &impl Abort, regions: &RegionSet) {
 fn is_mill(rt: &impl Abort, mill: &Region) {
     assert_eq!(rt; mill.id().as_str(), "mill");
     assert_eq!(rt; (mill.priority(), mill.parent()), (-3, Some(RegionNo(2))));
-    for (x, y, z, is_in) in [
-        (1, -4, 1, true),
-        (1, 70, 1, true),
-        (1, -5, 1, false),
-        (8, 0, 8, false),
-    ] {
-        assert_eq!(rt; mill.contains(Pos::new(x, y, z)), is_in, "at {x} {y} {z}");
-    }
-    for (flag, due) in [
-        (Flag::Build, setting(State::Allow, Group::Owners)),
-        (Flag::Usage, setting(State::Deny, Group::All)),
-        (Flag::Passthrough, setting(State::Allow, Group::All)),
-        (Flag::Pistons, None),
-    ] {
-        assert_eq!(rt; mill.setting(flag), due, "{flag}");
-    }
+    contains(rt, mill, Pos::new(1, -4, 1), true);
+    contains(rt, mill, Pos::new(1, 70, 1), true);
+    contains(rt, mill, Pos::new(1, -5, 1), false);
+    contains(rt, mill, Pos::new(8, 0, 8), false);
+    sets(rt, mill, Flag::Build, setting(State::Allow, Group::Owners));
+    sets(rt, mill, Flag::Usage, setting(State::Deny, Group::All));
+    sets(
+        rt,
+        mill,
+        Flag::Passthrough,
+        setting(State::Allow, Group::All),
+    );
+    sets(rt, mill, Flag::Pistons, None);
 }
 
 fn is_town(rt: &impl Abort, town: &Region) {
     assert_eq!(rt; town.id().as_str(), "town");
     assert_eq!(rt; (town.priority(), town.parent()), (0, None));
-    for (x, y, z, is_in) in [
-        (-20, 1, -20, true),
-        (20, 9, 20, true),
-        (-21, 1, -20, false),
-        (0, 10, 0, false),
-    ] {
-        assert_eq!(rt; town.contains(Pos::new(x, y, z)), is_in, "at {x} {y} {z}");
-    }
+    contains(rt, town, Pos::new(-20, 1, -20), true);
+    contains(rt, town, Pos::new(20, 9, 20), true);
+    contains(rt, town, Pos::new(-21, 1, -20), false);
+    contains(rt, town, Pos::new(0, 10, 0), false);
+}
+
+fn contains(rt: &impl Abort, region: &Region, p: Pos, due: bool) {
+    assert_eq!(rt; region.contains(p), due, "{p:?}");
+}
+
+fn sets(rt: &impl Abort, region: &Region, flag: Flag, due: Option<Setting>) {
+    assert_eq!(rt; region.setting(flag), due, "{flag}");
 }
 
 fn is_global(rt: &impl Abort, regions: &RegionSet) {
-    for (flag, due) in [
-        (Flag::Build, setting(State::Deny, Group::Nonowners)),
-        (Flag::Pistons, setting(State::Deny, Group::All)),
-        (Flag::Usage, None),
-    ] {
-        assert_eq!(rt; regions.setting(RegionNo(0), flag), due, "{flag}");
-    }
+    sets_global(
+        rt,
+        regions,
+        Flag::Build,
+        setting(State::Deny, Group::Nonowners),
+    );
+    sets_global(rt, regions, Flag::Pistons, setting(State::Deny, Group::All));
+    sets_global(rt, regions, Flag::Usage, None);
+}
+
+fn sets_global(rt: &impl Abort, regions: &RegionSet, flag: Flag, due: Option<Setting>) {
+    assert_eq!(rt; regions.setting(RegionNo(0), flag), due, "{flag}");
 }
 
 fn is_associated(rt: &impl Abort, regions: &RegionSet, name: &str, number: u32, due: Association) {

@@ -42,7 +42,11 @@ fn rise_and_fall(
 
 // Each step of a test has its number, which is told where it fails.
 fn compares(rt: &impl Abort, policy: &Policy, other: &Policy, due: bool, step: u8) {
-    assert_eq!(rt; *policy == *other, due, "{step}");
+    assert_eq!(rt;
+        (*policy == *other, *policy != *other),
+        (due, !due),
+        "{step}"
+    );
 }
 
 fn answers(rt: &impl Abort, alloc: Global, policy: &mut Policy, edit: Edit, due: Answer, step: u8) {
@@ -102,32 +106,47 @@ fn twins(
 
 // An edit of each kind that changes something, and the number that it gives.
 fn one(alloc: Global, kind: u8) -> Result<(Edit, Option<RegionNo>), AllocError> {
-    let plot = String::from_str(alloc, "plot")?;
-    let town = String::from_str(alloc, "town")?;
-    let ann = String::from_str(alloc, "ann")?;
+    match kind {
+        0 => Ok((town(alloc)?, Some(RegionNo(2)))),
+        1 => Ok((reshaped(alloc)?, None)),
+        3 | 7 | 8 | 9 => Ok((naming(alloc, kind)?, None)),
+        _ => Ok((of_plot(kind, String::from_str(alloc, "plot")?), None)),
+    }
+}
+
+fn town(alloc: Global) -> Result<Edit, AllocError> {
     let spot = Pos::new(-1, 0, 0);
+    let town = String::from_str(alloc, "town")?;
+    Ok(Edit::Define(town, ShapeSpec::Cuboid(spot, spot)))
+}
+
+fn reshaped(alloc: Global) -> Result<Edit, AllocError> {
     let points = Vec::from_slice(alloc, &[(0, 0), (9, 0), (0, 9)])?;
-    let setting = Setting {
-        state: State::Deny,
-        group: Group::All,
-    };
-    let edit = match kind {
-        0 => return Ok((
-            Edit::Define(town, ShapeSpec::Cuboid(spot, spot)),
-            Some(RegionNo(2)),
-        )),
-        1 => Edit::Reshape(plot, ShapeSpec::Poly(points, 0, 0)),
+    let plot = String::from_str(alloc, "plot")?;
+    Ok(Edit::Reshape(plot, ShapeSpec::Poly(points, 0, 0)))
+}
+
+// Those that name a town or a player.
+fn naming(alloc: Global, kind: u8) -> Result<Edit, AllocError> {
+    let plot = String::from_str(alloc, "plot")?;
+    let named = String::from_str(alloc, if kind == 3 { "town" } else { "ann" })?;
+    Ok(match kind {
+        3 => Edit::Parent(plot, Some(named)),
+        7 => Edit::Owner(plot, Listing::Add, named),
+        8 => Edit::Member(plot, Listing::Add, named),
+        _ => Edit::Owner(plot, Listing::Drop, named),
+    })
+}
+
+fn of_plot(kind: u8, plot: String) -> Edit {
+    let (state, group) = (State::Deny, Group::All);
+    match kind {
         2 => Edit::Priority(plot, -3),
-        3 => Edit::Parent(plot, Some(town)),
         4 => Edit::Parent(plot, None),
-        5 => Edit::SetFlag(plot, Flag::Usage, setting),
+        5 => Edit::SetFlag(plot, Flag::Usage, Setting { state, group }),
         6 => Edit::ClearFlag(plot, Flag::Usage),
-        7 => Edit::Owner(plot, Listing::Add, ann),
-        8 => Edit::Member(plot, Listing::Add, ann),
-        9 => Edit::Owner(plot, Listing::Drop, ann),
         _ => Edit::Remove(plot),
-    };
-    Ok((edit, None))
+    }
 }
 
 #[test]

@@ -6,9 +6,6 @@ use vx_geom::{Bounds, Dir, Pos, Shape, ShapeSpec};
 
 #[test]
 fn steps_lead_to_the_neighbor_and_not_past_the_ends(rt: HostRuntime) {
-    let p = Pos::new(1, 2, 3);
-    let last = Pos::new(i32::MAX, i32::MAX, i32::MAX);
-    let first = Pos::new(i32::MIN, i32::MIN, i32::MIN);
     for (dir, x, y, z, is_up) in [
         (Dir::East, 2, 2, 3, true),
         (Dir::West, 0, 2, 3, false),
@@ -17,10 +14,16 @@ fn steps_lead_to_the_neighbor_and_not_past_the_ends(rt: HostRuntime) {
         (Dir::South, 1, 2, 4, true),
         (Dir::North, 1, 2, 2, false),
     ] {
-        assert_eq!(rt; p.step(dir), Some(Pos::new(x, y, z)));
-        assert_eq!(rt; last.step(dir).is_none(), is_up);
-        assert_eq!(rt; first.step(dir).is_none(), !is_up);
+        steps(&rt, dir, Pos::new(x, y, z), is_up);
     }
+}
+
+fn steps(rt: &impl Abort, dir: Dir, due: Pos, is_up: bool) {
+    assert_eq!(rt; Pos::new(1, 2, 3).step(dir), Some(due));
+    let last = Pos::new(i32::MAX, i32::MAX, i32::MAX);
+    assert_eq!(rt; last.step(dir).is_none(), is_up);
+    let first = Pos::new(i32::MIN, i32::MIN, i32::MIN);
+    assert_eq!(rt; first.step(dir).is_none(), !is_up);
 }
 
 #[test]
@@ -94,7 +97,7 @@ fn cuboids_compare(rt: &impl Abort, alloc: Global, cuboid: &Shape) -> Result<(),
 
 fn is_cuboid(rt: &impl Abort, shape: &Shape, first: Pos, last: Pos, due: bool) {
     let other = Shape::cuboid(first, last);
-    assert_eq!(rt; *shape == other, due);
+    assert_eq!(rt; (*shape == other, *shape != other), (due, !due));
 }
 
 fn is_its_copy(rt: &impl Abort, alloc: Global, shape: &Shape) -> Result<(), AllocError> {

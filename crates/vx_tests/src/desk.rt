@@ -39,7 +39,9 @@ fn edit_on(rt: &impl Abort, alloc: Global, desk: &mut DeskState<Brand>) -> Resul
     answers(rt, alloc, desk, "farm", told(2))?;
     let known = Err(DeskError::Refused(EditRefusal::Known));
     answers(rt, alloc, desk, "PLOT", known)?;
-    fixes_two(rt, desk)
+    fixes_two(rt, desk)?;
+    has_two(rt, desk);
+    Ok(())
 }
 
 // A definition under that id is answered this.
@@ -56,7 +58,6 @@ fn answers(
 }
 
 fn fixes_two(rt: &impl Abort, desk: &DeskState<Brand>) -> Result<(), Fail> {
-    has_two(rt, desk);
     let version = desk.fix(2)?;
     assert_eq!(rt; seen(&version), (2, 2, 2));
     Ok(())

@@ -77,15 +77,24 @@ fn first_tick(rt: &impl Abort, tick: &Tick) -> Result<(), Fail> {
 #[test]
 fn an_opening_has_its_parts_and_players(rt: HostRuntime) -> Result<(), Fail> {
     let mut opening = opening(rt.alloc(), 16)?;
-    let inside = Pos::new(31, 63, 15);
-    assert_eq!(rt; opening.set(inside, Part::Stone), Ok(()));
-    assert_eq!(rt;
-        opening.set(Pos::new(32, 1, 5), Part::Stone),
-        Err(Refusal::OutOfWorld)
-    );
-    assert_eq!(rt; opening.terrain().frozen().cell(inside), Cell::Stone);
+    has_parts(&rt, &mut opening);
     assert_eq!(rt; opening.names().len(), 16);
-    let many = new(rt.alloc(), 17)?;
+    are_too_many(&rt, rt.alloc(), 17)
+}
+
+fn has_parts(rt: &impl Abort, opening: &mut Opening) {
+    let inside = Pos::new(31, 63, 15);
+    is_told(rt, opening, inside, Ok(()));
+    is_told(rt, opening, Pos::new(32, 1, 5), Err(Refusal::OutOfWorld));
+    assert_eq!(rt; opening.terrain().frozen().cell(inside), Cell::Stone);
+}
+
+fn is_told(rt: &impl Abort, opening: &mut Opening, p: Pos, due: Result<(), Refusal>) {
+    assert_eq!(rt; opening.set(p, Part::Stone), due);
+}
+
+fn are_too_many(rt: &impl Abort, alloc: Global, players: usize) -> Result<(), Fail> {
+    let many = new(alloc, players)?;
     assert!(rt; matches!(many, Err(OpeningError::TooManyPlayers)));
     Ok(())
 }
@@ -101,9 +110,15 @@ fn opening(alloc: Global, players: usize) -> Result<Opening, Fail> {
 
 fn new(alloc: Global, players: usize) -> Result<Result<Opening, OpeningError>, Fail> {
     let bounds = Bounds::new(2, 1, 1).ok_or("no bounds")?;
-    let mut names = Vec::new(alloc);
-    names.resize(players, Name::read("bob")?)?;
+    let names = names(alloc, players)?;
     Ok(Opening::new(alloc, bounds, names, Policy::new(alloc)?))
+}
+
+fn names(alloc: Global, players: usize) -> Result<Vec<Name>, Fail> {
+    let bob = Name::read("bob")?;
+    let mut names = Vec::new(alloc);
+    names.resize(players, bob)?;
+    Ok(names)
 }
 
 // The definition of a plot of one column, of which bob is no member.

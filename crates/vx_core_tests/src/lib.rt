@@ -5,6 +5,8 @@
 #[cfg(test)]
 mod events;
 #[cfg(test)]
+mod maps;
+#[cfg(test)]
 mod ticks;
 #[cfg(test)]
 mod woken;

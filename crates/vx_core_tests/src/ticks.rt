@@ -1,22 +1,17 @@
 //! Ticks on several threads: what comes of them, and that they are on several.
-ghost use Rattle.std.specs.Prelude.{◌<◌, ◌≤◌};
-
+use crate::maps::{Placed, all_agree, parted, world};
 use std::alloc::{AllocError, Global};
 use std::process::Abort;
 use std::sync::atomic::{AtomicU64, Ordering};
 use std::test::Fail;
 use std::thread::Threads;
-use vx_block::Cell;
 use vx_cells::Whole;
 use vx_decide::Rule;
 use vx_file::read_policy;
-use vx_geom::{Bounds, Pos};
+use vx_geom::Pos;
 use vx_policy::{Policy, Version};
 use vx_region::RegionNo;
-use vx_step::{Fate, Gate, NoGate, Phase, Point, step_parts, step_plain};
-
-// Cells, by their texts, at x, y and z.
-type Placed<'a> = &'a [(i32, i32, i32, &'a str)];
+use vx_step::{Fate, Gate, Phase, Point, step_plain};
 
 const NO_REGION: &str = "version = 1\n";
 
@@ -90,27 +85,7 @@ fn work<R: Threads + Abort + Sync>(
     due: &[(Pos, Fate)],
 ) -> Result<(), AllocError> {
     let (next, _) = step_plain(alloc, map, version)?;
-    for workers in [1, 2, 4, 8] {
-        let (parted, fates) = parted(rt, alloc, map, version, workers, &NoGate)?;
-        assert!(rt; parted.sectors() == next.sectors());
-        assert_eq!(rt; fates.as_slice(), due);
-    }
-    Ok(())
-}
-
-fn parted<R: Threads + Sync, G: Gate + Sync>(
-    rt: &R,
-    alloc: Global,
-    map: &Whole,
-    version: &Version,
-    workers: usize,
-    gate: &G,
-) -> Result<(Whole, Vec<(Pos, Fate)>), AllocError>
-    requires { (0 < workers) × (workers ≤ 8) }
-{
-    map.soundness();
-    let bounds = map.frozen().bounds();
-    step_parts(rt, alloc, bounds, map.sectors(), version, workers, gate)
+    all_agree(rt, alloc, map, version, &[1, 2, 4, 8], &next, due)
 }
 
 fn first(policy: Policy) -> Version {
@@ -119,17 +94,6 @@ fn first(policy: Policy) -> Version {
         edits: 0,
         policy,
     }
-}
-
-// A world of four sectors of 16 by 16 columns.
-fn world(rt: &impl Abort, alloc: Global, placed: Placed) -> Result<Whole, Fail> {
-    let bounds = Bounds::new(2, 2, 1).ok_or("no bounds")?;
-    let mut map = Whole::new(alloc, bounds)?;
-    for (x, y, z, text) in placed {
-        let cell = Cell::read(text).expect(rt, "no such cell");
-        map.set(Pos::new(*x, *y, *z), cell)?;
-    }
-    Ok(map)
 }
 
 // Holds whoever works sector 0 until the last sector is worked, or gives up.
@@ -173,7 +137,16 @@ fn two_workers_of_a_tick_meet(rt: HostRuntime) -> Result<(), Fail> {
 
 fn meet<R: Threads + Abort + Sync>(rt: &R, alloc: Global, meeting: &Meeting) -> Result<(), Fail> {
     let map = world(rt, alloc, SIGNALS)?;
+    Ok(meet_on(rt, alloc, &map, meeting)?)
+}
+
+fn meet_on<R: Threads + Abort + Sync>(
+    rt: &R,
+    alloc: Global,
+    map: &Whole,
+    meeting: &Meeting,
+) -> Result<(), AllocError> {
     let version = first(Policy::new(alloc)?);
-    parted(rt, alloc, &map, &version, 2, meeting)?;
+    parted(rt, alloc, map, &version, 2, meeting)?;
     Ok(())
 }

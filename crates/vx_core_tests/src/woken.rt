@@ -1,22 +1,18 @@
 //! Ticks that look where something changed, beside ticks that look everywhere.
-ghost use Rattle.std.specs.Prelude.{◌<◌, ◌≤◌};
-
+use crate::maps::{Placed, all_agree, world};
 use std::alloc::{AllocError, Global};
 use std::marker::Brand;
 use std::process::Abort;
 use std::test::Fail;
 use std::thread::Threads;
 use vx_block::{Cell, Part};
-use vx_cells::Whole;
-use vx_geom::{Bounds, Pos, ShapeSpec};
+use vx_cells::{Cells, Whole};
+use vx_geom::{Pos, ShapeSpec};
 use vx_play::Play;
 use vx_policy::{Edit, Policy, Version};
 use vx_region::Name;
-use vx_sector::{Cmd, Seat};
-use vx_step::{Fate, NoGate, step_parts, step_plain};
-
-// Cells, by their texts, at x, y and z.
-type Placed<'a> = &'a [(i32, i32, i32, &'a str)];
+use vx_sector::{Cmd, Seat, Sector};
+use vx_step::{Fate, step_plain};
 
 // What a player leaves at a position before the tick of that number: the text of a cell.
 type Written<'a> = &'a [(u32, Pos, &'a str)];
@@ -179,29 +175,8 @@ fn stepped<R: Threads + Abort + Sync>(
     version: &Version,
 ) -> Result<(Whole, Vec<(Pos, Fate)>), AllocError> {
     let (next, fates) = step_plain(alloc, map, version)?;
-    for workers in [1, 4] {
-        agrees(rt, alloc, map, version, workers, &next, fates.as_slice())?;
-    }
+    all_agree(rt, alloc, map, version, &[1, 4], &next, fates.as_slice())?;
     Ok((next, fates))
-}
-
-fn agrees<R: Threads + Abort + Sync>(
-    rt: &R,
-    alloc: Global,
-    map: &Whole,
-    version: &Version,
-    workers: usize,
-    next: &Whole,
-    fates: &[(Pos, Fate)],
-) -> Result<(), AllocError>
-    requires { (0 < workers) × (workers ≤ 8) }
-{
-    map.soundness();
-    let bounds = map.frozen().bounds();
-    let (parted, told) = step_parts(rt, alloc, bounds, map.sectors(), version, workers, &NoGate)?;
-    assert!(rt; parted.sectors() == next.sectors());
-    assert_eq!(rt; told.as_slice(), fates);
-    Ok(())
 }
 
 // A tick of the game tells these fates.
@@ -219,8 +194,12 @@ fn told(
 // The cells of the game are those of the map.
 fn stands(rt: &impl Abort, play: &Play<Brand>, map: &Whole) {
     for (sector, cells) in play.sectors().iter().zip(map.sectors()) {
-        assert!(rt; sector.cells() == cells);
+        has_cells(rt, sector, cells);
     }
+}
+
+fn has_cells(rt: &impl Abort, sector: &Sector, cells: &Cells) {
+    assert!(rt; sector.cells() == cells);
 }
 
 // Land behind x 16 that nobody owns.
@@ -236,15 +215,4 @@ fn ann() -> Result<Name, Fail> {
 fn open(alloc: Global, map: &Whole) -> Result<Play<Brand>, Fail> {
     let names = Vec::from_slice(alloc, &[ann()?])?;
     Ok(Play::open(alloc, map.try_clone()?, names, Policy::new(alloc)?)?)
-}
-
-// A world of four sectors of 16 by 16 columns.
-fn world(rt: &impl Abort, alloc: Global, placed: Placed) -> Result<Whole, Fail> {
-    let bounds = Bounds::new(2, 2, 1).ok_or("no bounds")?;
-    let mut map = Whole::new(alloc, bounds)?;
-    for (x, y, z, text) in placed {
-        let cell = Cell::read(text).expect(rt, "no such cell");
-        map.set(Pos::new(*x, *y, *z), cell)?;
-    }
-    Ok(map)
 }

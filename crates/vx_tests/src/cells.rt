@@ -1,5 +1,5 @@
 //! The cells of a sector as a value: copies, and what is equal.
-ghost use Rattle.std.specs.Prelude.{◌<◌, ◌≤◌};
+ghost use Rattle.std.specs.Prelude.{◌≤◌};
 ghost use Rattle.vx_cells.specs.SectorCells.{IsSlot};
 
 use std::alloc::{AllocError, Global};
@@ -10,12 +10,13 @@ use vx_cells::{Cells, Slot, Stack};
 use vx_geom::{Bounds, Pos};
 
 // A sector of a world that is so many sectors wide, each of one chunk.
-fn sector(alloc: Global, sectors: u8, number: u32) -> Result<Cells, Fail>
-    requires least { 2 ≤ sectors }
-    requires there { number < 2 }
-{
+fn sector(alloc: Global, sectors: u8, number: u32) -> Result<Cells, Fail> {
     let bounds = Bounds::new(sectors, 1, 1).ok_or("no bounds")?;
-    Ok(Cells::new(alloc, bounds, number)?)
+    if number < bounds.sectors() {
+        Ok(Cells::new(alloc, bounds, number)?)
+    } else {
+        Err("no such sector")?
+    }
 }
 
 fn put(rt: &impl Abort, cells: &mut Cells, p: Pos, cell: Cell) -> Result<(), AllocError> {
@@ -45,10 +46,10 @@ fn stack(count: u8) -> Slot
 #[test]
 fn a_copy_is_the_same_until_one_changes(rt: HostRuntime) -> Result<(), Fail> {
     let mut cells = sector(rt.alloc(), 2, 0)?;
-    Ok(copy_and_change(&rt, &mut cells)?)
+    copy_and_change(&rt, &mut cells)
 }
 
-fn copy_and_change(rt: &impl Abort, cells: &mut Cells) -> Result<(), AllocError> {
+fn copy_and_change(rt: &impl Abort, cells: &mut Cells) -> Result<(), Fail> {
     put(rt, cells, Pos::new(3, 4, 5), Cell::Chest)?;
     let mut copy = cells.try_clone()?;
     change(rt, cells, &mut copy);
@@ -56,10 +57,18 @@ fn copy_and_change(rt: &impl Abort, cells: &mut Cells) -> Result<(), AllocError>
 }
 
 fn change(rt: &impl Abort, cells: &mut Cells, copy: &mut Cells) {
-    assert!(rt; *cells == *copy);
+    compares(rt, cells, copy, true);
+    fill_each(rt, cells, copy);
+    put_each(rt, cells, copy);
+}
+
+fn fill_each(rt: &impl Abort, cells: &mut Cells, copy: &mut Cells) {
     for (slot, count) in [(5, 3), (5, 4), (6, 3)] {
         fill_both(rt, cells, copy, Pos::new(3, 4, 5), slot, count);
     }
+}
+
+fn put_each(rt: &impl Abort, cells: &mut Cells, copy: &mut Cells) {
     for cell in [Cell::Stone, Cell::Glass, Cell::Chest, Cell::Air] {
         put_both(rt, cells, copy, Pos::new(4, 4, 5), cell);
     }
@@ -67,39 +76,42 @@ fn change(rt: &impl Abort, cells: &mut Cells, copy: &mut Cells) {
 
 fn fill_both(rt: &impl Abort, cells: &mut Cells, copy: &mut Cells, p: Pos, slot: u8, count: u8) {
     fill(rt, copy, p, slot, count);
-    assert!(rt; *cells != *copy);
+    compares(rt, cells, copy, false);
     fill(rt, cells, p, slot, count);
-    assert!(rt; *cells == *copy);
+    compares(rt, cells, copy, true);
 }
 
 fn put_both(rt: &impl Abort, cells: &mut Cells, copy: &mut Cells, p: Pos, cell: Cell) {
     let again = cell;
     assert!(rt; put(rt, cells, p, cell).is_ok());
-    assert!(rt; *cells != *copy);
+    compares(rt, cells, copy, false);
     assert!(rt; put(rt, copy, p, again).is_ok());
-    assert!(rt; *cells == *copy);
+    compares(rt, cells, copy, true);
+}
+
+fn compares(rt: &impl Abort, cells: &Cells, other: &Cells, due: bool) {
+    assert_eq!(rt; (*cells == *other, *cells != *other), (due, !due));
 }
 
 #[test]
 fn sectors_of_two_numbers_or_sizes_differ(rt: HostRuntime) -> Result<(), Fail> {
     let west = sector(rt.alloc(), 2, 0)?;
-    differs(&rt, &west, 2, 0, false)?;
-    differs(&rt, &west, 2, 1, true)?;
-    differs(&rt, &west, 3, 0, true)
+    for (sectors, number, due) in [(2, 0, true), (2, 1, false), (3, 0, false)] {
+        is_same(&rt, rt.alloc(), &west, sectors, number, due)?;
+    }
+    Ok(())
 }
 
-// Whether this sector is another than one of so many side by side with nothing but air.
-fn differs(
-    rt: &(impl Abort + Alloc<A = Global>),
+// Whether this sector is the one of that number, of so many side by side, with nothing but air.
+fn is_same(
+    rt: &impl Abort,
+    alloc: Global,
     west: &Cells,
     sectors: u8,
     number: u32,
     due: bool,
-) -> Result<(), Fail>
-    requires least { 2 ≤ sectors }
-    requires there { number < 2 }
-{
-    let other = sector(rt.alloc(), sectors, number)?;
-    assert_eq!(rt; *west != other, due);
+) -> Result<(), Fail> {
+    let other = sector(alloc, sectors, number)?;
+    compares(rt, west, &other, due);
     Ok(())
 }

@@ -39,29 +39,37 @@ fn by(number: u32) -> Rule {
 
 fn agree(rt: &impl Abort, alloc: Global, file: &[u8], verdict: Verdict) -> Result<(), Fail> {
     let policy = read_policy(alloc, file)?;
-    decide_alike(rt, alloc, policy.regions(), verdict)
+    decide_alike(rt, alloc, policy.regions(), &verdict)
 }
 
 fn decide_alike(
     rt: &impl Abort,
     alloc: Global,
     regions: &RegionSet,
-    verdict: Verdict,
+    verdict: &Verdict,
 ) -> Result<(), Fail> {
     let ann = ann()?;
-    assert_eq!(rt; Plain::new(regions).decide(&ann, Action::Breaking, PLACE), verdict);
+    says(rt, &Plain::new(regions), &ann, verdict);
     let indexed = Indexed::build(alloc, regions, bounds()?)?;
-    assert_eq!(rt; indexed.decide(&ann, Action::Breaking, PLACE), verdict);
+    says(rt, &indexed, &ann, verdict);
     all_say(rt, &mut Cached::new(indexed), &ann, verdict);
     Ok(())
 }
 
 // Asked first, when nothing is kept, and again.
-fn all_say(rt: &impl Abort, cached: &mut Cached<'_>, ann: &Subject, verdict: Verdict) {
-    assert_eq!(rt; cached.decide(ann, Action::Breaking, PLACE), verdict);
-    assert_eq!(rt; cached.ask(ann, Action::Breaking, PLACE), verdict);
-    assert_eq!(rt; cached.ask(ann, Action::Breaking, PLACE), verdict);
-    assert_eq!(rt; cached.decide(ann, Action::Breaking, PLACE), verdict);
+fn all_say(rt: &impl Abort, cached: &mut Cached<'_>, ann: &Subject, verdict: &Verdict) {
+    says(rt, &*cached, ann, verdict);
+    keeps(rt, cached, ann, verdict);
+    keeps(rt, cached, ann, verdict);
+    says(rt, &*cached, ann, verdict);
+}
+
+fn says<D: Decide>(rt: &impl Abort, decider: &D, ann: &Subject, verdict: &Verdict) {
+    assert_eq!(rt; decider.decide(ann, Action::Breaking, PLACE), *verdict);
+}
+
+fn keeps(rt: &impl Abort, cached: &mut Cached<'_>, ann: &Subject, verdict: &Verdict) {
+    assert_eq!(rt; cached.ask(ann, Action::Breaking, PLACE), *verdict);
 }
 
 // One more than are kept, and then the first again, which gave way to the last.
@@ -72,8 +80,8 @@ fn the_verdict_asked_for_first_gives_way(rt: HostRuntime) -> Result<(), Fail> {
 }
 
 fn ask_all(rt: &impl Abort, alloc: Global, regions: &RegionSet) -> Result<(), Fail> {
-    let ann = ann()?;
-    let indexed = Indexed::build(alloc, regions, bounds()?)?;
+    let (ann, bounds) = (ann()?, bounds()?);
+    let indexed = Indexed::build(alloc, regions, bounds)?;
     ask_each(rt, &mut Cached::new(indexed), &Plain::new(regions), &ann);
     Ok(())
 }
@@ -85,13 +93,7 @@ fn ask_each(rt: &impl Abort, cached: &mut Cached<'_>, plain: &Plain<'_>, ann: &S
     ask_at(rt, cached, plain, ann, 0);
 }
 
-fn ask_at(
-    rt: &impl Abort,
-    cached: &mut Cached<'_>,
-    plain: &Plain<'_>,
-    ann: &Subject,
-    number: u32,
-) {
+fn ask_at(rt: &impl Abort, cached: &mut Cached<'_>, plain: &Plain<'_>, ann: &Subject, number: u32) {
     let p = Pos::new(
         (number % 16) as i32,
         (number / 256) as i32,

@@ -20,9 +20,18 @@ fn edits_are_accepted_or_refused_and_versions_fixed(rt: HostRuntime) -> Result<(
 fn edit_and_fix(rt: &impl Abort, alloc: Global, desk: &mut DeskState<Brand>) -> Result<(), Fail> {
     answers(rt, alloc, desk, "plot", told(1))?;
     let first = desk.fix(1)?;
+    leave(rt, alloc, desk, &first)
+}
+
+// Later edits leave a version as it is.
+fn leave(
+    rt: &impl Abort,
+    alloc: Global,
+    desk: &mut DeskState<Brand>,
+    first: &Version,
+) -> Result<(), Fail> {
     edit_on(rt, alloc, desk)?;
-    // later edits leave it
-    assert_eq!(rt; seen(&first), (1, 1, 1));
+    assert_eq!(rt; seen(first), (1, 1, 1));
     Ok(())
 }
 
@@ -30,7 +39,9 @@ fn edit_on(rt: &impl Abort, alloc: Global, desk: &mut DeskState<Brand>) -> Resul
     answers(rt, alloc, desk, "farm", told(2))?;
     let known = Err(DeskError::Refused(EditRefusal::Known));
     answers(rt, alloc, desk, "PLOT", known)?;
-    fixes_two(rt, desk)
+    fixes_two(rt, desk)?;
+    has_two(rt, desk);
+    Ok(())
 }
 
 // A definition under that id is answered this.
@@ -47,34 +58,70 @@ fn answers(
 }
 
 fn fixes_two(rt: &impl Abort, desk: &DeskState<Brand>) -> Result<(), Fail> {
-    assert_eq!(rt; seen(&desk.fix(2)?), (2, 2, 2));
+    let version = desk.fix(2)?;
+    assert_eq!(rt; seen(&version), (2, 2, 2));
+    Ok(())
+}
+
+fn has_two(rt: &impl Abort, desk: &DeskState<Brand>) {
     let counts = (desk.count(), desk.accepted().len());
     assert_eq!(rt; (counts, desk.policy().regions().count()), ((2, 2), 2));
-    Ok(())
 }
 
 #[test]
 fn a_shared_desk_shows_its_edits(rt: HostRuntime) -> Result<(), Fail> {
-    let desk = Desk::<Brand>::new(rt.alloc(), Policy::new(rt.alloc())?);
+    let desk = shared(rt.alloc())?;
     show(&rt, rt.alloc(), &desk)
 }
 
+fn shared(alloc: Global) -> Result<Desk<Brand>, AllocError> {
+    Ok(Desk::new(alloc, Policy::new(alloc)?))
+}
+
 fn show(rt: &(impl Abort + Wait), alloc: Global, desk: &Desk<Brand>) -> Result<(), Fail> {
-    assert_eq!(rt; seen(&desk.fix(rt, 1)?), (1, 0, 0));
-    assert_eq!(rt; desk.edit(rt, alloc, define(alloc, "plot")?), told(1));
-    assert_eq!(rt; desk.edit(rt, alloc, define(alloc, "farm")?), told(2));
-    assert_eq!(rt; seen(&desk.fix(rt, 2)?), (2, 2, 2));
+    fixes(rt, desk, 1, (1, 0, 0))?;
+    tells(rt, alloc, desk, "plot", 1)?;
+    tells(rt, alloc, desk, "farm", 2)?;
+    fixes(rt, desk, 2, (2, 2, 2))
+}
+
+fn fixes(
+    rt: &(impl Abort + Wait),
+    desk: &Desk<Brand>,
+    tick: u64,
+    due: (u64, u64, u32),
+) -> Result<(), Fail> {
+    let version = desk.fix(rt, tick)?;
+    assert_eq!(rt; seen(&version), due);
+    Ok(())
+}
+
+fn tells(
+    rt: &(impl Abort + Wait),
+    alloc: Global,
+    desk: &Desk<Brand>,
+    id: &str,
+    number: u32,
+) -> Result<(), Fail> {
+    let edit = define(alloc, id)?;
+    assert_eq!(rt; desk.edit(rt, alloc, edit), told(number));
     Ok(())
 }
 
 #[test]
 fn threads_edit_one_desk(rt: HostRuntime) -> Result<(), Fail> {
-    let desk = Desk::<Brand>::new(rt.alloc(), Policy::new(rt.alloc())?);
-    let mut counts = edit_by_two(&rt, &desk);
+    let desk = shared(rt.alloc())?;
+    tells_each_once(&rt, &desk);
+    fixes(&rt, &desk, 2, (2, 8, 8))
+}
+
+fn tells_each_once<R>(rt: &R, desk: &Desk<Brand>)
+where
+    R: Abort + Threads + Wait + Sync + Alloc<A = Global>,
+{
+    let mut counts = edit_by_two(rt, desk);
     counts.sort_unstable();
     assert_eq!(rt; counts, [1, 2, 3, 4, 5, 6, 7, 8]);
-    assert_eq!(rt; seen(&desk.fix(&rt, 2)?), (2, 8, 8));
-    Ok(())
 }
 
 // The counts that two threads are told, each of four definitions.

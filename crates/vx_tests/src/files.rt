@@ -1,5 +1,5 @@
 //! The regions file, which no program reads yet.
-use std::alloc::Global;
+use std::alloc::{AllocError, Global};
 use std::process::Abort;
 use std::test::Fail;
 use vx_base::Unread;
@@ -56,81 +56,91 @@ fn decides(
     cases: &[(&str, Action, Verdict)],
 ) -> Result<(), Fail> {
     let policy = read_policy(alloc, file.as_bytes())?;
-    let decider = Plain::new(policy.regions());
+    each_is_told(rt, &Plain::new(policy.regions()), cases);
+    Ok(())
+}
+
+fn each_is_told(rt: &impl Abort, decider: &Plain<'_>, cases: &[(&str, Action, Verdict)]) {
     for (name, action, verdict) in cases {
-        let player = Subject::Player(Name::read(name)?);
+        let player = Subject::Player(Name::read(name).expect(rt, "no such name"));
         let told = decider.decide(&player, *action, Pos::new(4, 1, 4));
         assert_eq!(rt; told, *verdict, "{name} {action:?}");
     }
-    Ok(())
 }
 
 #[test]
 fn a_file_of_all_that_can_be_said(rt: HostRuntime) -> Result<(), Fail> {
-    let [ann, bob] = [Name::read("ann")?, Name::read("bob")?];
     let policy = read_policy(rt.alloc(), MILL.as_bytes())?;
-    is_mill(
-        &rt,
-        policy.regions(),
-        &Subject::Player(ann),
-        &Subject::Player(bob),
-    );
-    is_town(
-        &rt,
-        policy.regions(),
-        &Subject::Player(ann),
-        &Subject::Player(bob),
-    );
+    is_all_of_mill(&rt, policy.regions());
     Ok(())
 }
 
-fn is_mill(rt: &impl Abort, regions: &RegionSet, ann: &Subject, bob: &Subject) {
+fn is_all_of_mill(rt: &impl Abort, regions: &RegionSet) {
     assert_eq!(rt; [regions.count(), regions.last()], [2, 2]);
-    let mill = region(rt, regions, 1);
-    assert_eq!(rt; mill.id().as_str(), "mill");
-    assert!(rt; mill.contains(Pos::new(1, -4, 1)) && mill.contains(Pos::new(1, 70, 1)));
-    assert!(rt; !mill.contains(Pos::new(1, -5, 1)) && !mill.contains(Pos::new(8, 0, 8)));
-    assert_eq!(rt; (mill.priority(), mill.parent()), (-3, Some(RegionNo(2))));
-    assert_eq!(rt; regions.association(bob, RegionNo(1)), Association::Member);
+    is_mill(rt, region(rt, regions, 1));
+    is_town(rt, region(rt, regions, 2));
+    is_global(rt, regions);
+    is_associated(rt, regions, "bob", 1, Association::Member);
     // Ann is named in the parent.
-    assert_eq!(rt; regions.association(ann, RegionNo(1)), Association::Owner);
-    has_flags(rt, mill);
+    is_associated(rt, regions, "ann", 1, Association::Owner);
+    is_associated(rt, regions, "ann", 2, Association::Owner);
+    is_associated(rt, regions, "bob", 2, Association::Stranger);
 }
 
-fn has_flags(rt: &impl Abort, mill: &Region) {
-    assert_eq!(rt;
-        mill.setting(Flag::Build),
-        setting(State::Allow, Group::Owners)
+fn is_mill(rt: &impl Abort, mill: &Region) {
+    assert_eq!(rt; mill.id().as_str(), "mill");
+    assert_eq!(rt; (mill.priority(), mill.parent()), (-3, Some(RegionNo(2))));
+    contains(rt, mill, Pos::new(1, -4, 1), true);
+    contains(rt, mill, Pos::new(1, 70, 1), true);
+    contains(rt, mill, Pos::new(1, -5, 1), false);
+    contains(rt, mill, Pos::new(8, 0, 8), false);
+    sets(rt, mill, Flag::Build, setting(State::Allow, Group::Owners));
+    sets(rt, mill, Flag::Usage, setting(State::Deny, Group::All));
+    sets(
+        rt,
+        mill,
+        Flag::Passthrough,
+        setting(State::Allow, Group::All),
     );
-    assert_eq!(rt; mill.setting(Flag::Usage), setting(State::Deny, Group::All));
-    assert_eq!(rt;
-        mill.setting(Flag::Passthrough),
-        setting(State::Allow, Group::All)
-    );
-    assert_eq!(rt; mill.setting(Flag::Pistons), None);
+    sets(rt, mill, Flag::Pistons, None);
 }
 
-fn is_town(rt: &impl Abort, regions: &RegionSet, ann: &Subject, bob: &Subject) {
-    let town = region(rt, regions, 2);
+fn is_town(rt: &impl Abort, town: &Region) {
     assert_eq!(rt; town.id().as_str(), "town");
-    assert!(rt; town.contains(Pos::new(-20, 1, -20)) && town.contains(Pos::new(20, 9, 20)));
-    assert!(rt; !town.contains(Pos::new(-21, 1, -20)) && !town.contains(Pos::new(0, 10, 0)));
     assert_eq!(rt; (town.priority(), town.parent()), (0, None));
-    assert_eq!(rt; regions.association(ann, RegionNo(2)), Association::Owner);
-    assert_eq!(rt;
-        regions.association(bob, RegionNo(2)),
-        Association::Stranger
+    contains(rt, town, Pos::new(-20, 1, -20), true);
+    contains(rt, town, Pos::new(20, 9, 20), true);
+    contains(rt, town, Pos::new(-21, 1, -20), false);
+    contains(rt, town, Pos::new(0, 10, 0), false);
+}
+
+fn contains(rt: &impl Abort, region: &Region, p: Pos, due: bool) {
+    assert_eq!(rt; region.contains(p), due, "{p:?}");
+}
+
+fn sets(rt: &impl Abort, region: &Region, flag: Flag, due: Option<Setting>) {
+    assert_eq!(rt; region.setting(flag), due, "{flag}");
+}
+
+fn is_global(rt: &impl Abort, regions: &RegionSet) {
+    sets_global(
+        rt,
+        regions,
+        Flag::Build,
+        setting(State::Deny, Group::Nonowners),
     );
-    let world = RegionNo(0);
-    assert_eq!(rt;
-        regions.setting(world, Flag::Build),
-        setting(State::Deny, Group::Nonowners)
-    );
-    assert_eq!(rt;
-        regions.setting(world, Flag::Pistons),
-        setting(State::Deny, Group::All)
-    );
-    assert_eq!(rt; regions.setting(world, Flag::Usage), None);
+    sets_global(rt, regions, Flag::Pistons, setting(State::Deny, Group::All));
+    sets_global(rt, regions, Flag::Usage, None);
+}
+
+fn sets_global(rt: &impl Abort, regions: &RegionSet, flag: Flag, due: Option<Setting>) {
+    assert_eq!(rt; regions.setting(RegionNo(0), flag), due, "{flag}");
+}
+
+fn is_associated(rt: &impl Abort, regions: &RegionSet, name: &str, number: u32, due: Association) {
+    let player = Subject::Player(Name::read(name).expect(rt, "no such name"));
+    let association = regions.association(&player, RegionNo(number));
+    assert_eq!(rt; association, due, "{name} {number}");
 }
 
 fn setting(state: State, group: Group) -> Option<Setting> {
@@ -195,109 +205,118 @@ fn files_with_few_regions(rt: HostRuntime) -> Result<(), Fail> {
 // A region that is whole.
 const WHOLE: &str = "version = 1\n[[region]]\nid = 'a'\ncuboid = [0, 0, 0, 1, 1, 1]\n";
 
+// What may not stand behind it.
+const WRONG: &[&str] = &[
+    "colour = 'red'",
+    "y = [0, 1]",
+    "polygon = [0, 0, 9, 0, 0, 9]",
+    "polygon = [0, 0, 9, 0, 0, 9]\ny = [0, 1]",
+    "id = 'b'",
+    "priority = 2147483648",
+    "priority = -2147483649",
+    "priority = 4294967296",
+    "priority = 1.0",
+    "priority = '1'",
+    "priority = true",
+    "priority = [1]",
+    "parent = '*'",
+    "parent = 'b'",
+    "parent = 'a'",
+    "parent = '__global__'",
+    "parent = 1",
+    "owners = 'ann'",
+    "owners = [1]",
+    "owners = ['ann', 'no-name']",
+    "members = ['']",
+    "members = ['abcdefghijklmnopq']",
+    "members = { ann = 1 }",
+    "flags = 'use'",
+    "flags = [{ use = 'deny' }]",
+    "flags = { usage = 'deny' }",
+    "flags = { use = 'deny', colour = 'deny' }",
+    "flags = { use = true }",
+    "flags = { use = '' }",
+    "flags = { use = 'Allow' }",
+    "flags = { use = 'maybe' }",
+    "flags = { use = ' allow' }",
+    "flags = { use = 'allow ' }",
+    "flags = { use = 'allow  nonmembers' }",
+    "flags = { use = 'allow nonmembers ' }",
+    "flags = { use = 'allow Members' }",
+    "flags = { use = 'allow strangers' }",
+    "flags = { use = 'allow members owners' }",
+    "flags = { use = 'members' }",
+    "[region.colours]",
+    "[[region]]\nid = 'A'\ncuboid = [0, 0, 0, 1, 1, 1]",
+    "parent = 'b'\n[[region]]\nid = 'b'\ncuboid = [0, 0, 0, 1, 1, 1]\nparent = 'a'",
+    "[global]\ncolour = 'deny'",
+    "[global]\nuse = 'deny no'",
+    "[world]",
+    "# a comment\nthis is no document",
+];
+
 #[test]
 fn what_may_not_stand_in_a_region(rt: HostRuntime) -> Result<(), Fail> {
-    let alloc = rt.alloc();
-    counts(&rt, alloc, WHOLE, 1)?;
-    for more in [
-        "colour = 'red'",
-        "y = [0, 1]",
-        "polygon = [0, 0, 9, 0, 0, 9]",
-        "polygon = [0, 0, 9, 0, 0, 9]\ny = [0, 1]",
-        "id = 'b'",
-        "priority = 2147483648",
-        "priority = -2147483649",
-        "priority = 4294967296",
-        "priority = 1.0",
-        "priority = '1'",
-        "priority = true",
-        "priority = [1]",
-        "parent = '*'",
-        "parent = 'b'",
-        "parent = 'a'",
-        "parent = '__global__'",
-        "parent = 1",
-        "owners = 'ann'",
-        "owners = [1]",
-        "owners = ['ann', 'no-name']",
-        "members = ['']",
-        "members = ['abcdefghijklmnopq']",
-        "members = { ann = 1 }",
-        "flags = 'use'",
-        "flags = [{ use = 'deny' }]",
-        "flags = { usage = 'deny' }",
-        "flags = { use = 'deny', colour = 'deny' }",
-        "flags = { use = true }",
-        "flags = { use = '' }",
-        "flags = { use = 'Allow' }",
-        "flags = { use = 'maybe' }",
-        "flags = { use = ' allow' }",
-        "flags = { use = 'allow ' }",
-        "flags = { use = 'allow  nonmembers' }",
-        "flags = { use = 'allow nonmembers ' }",
-        "flags = { use = 'allow Members' }",
-        "flags = { use = 'allow strangers' }",
-        "flags = { use = 'allow members owners' }",
-        "flags = { use = 'members' }",
-        "[region.colours]",
-        "[[region]]\nid = 'A'\ncuboid = [0, 0, 0, 1, 1, 1]",
-        "parent = 'b'\n[[region]]\nid = 'b'\ncuboid = [0, 0, 0, 1, 1, 1]\nparent = 'a'",
-        "[global]\ncolour = 'deny'",
-        "[global]\nuse = 'deny no'",
-        "[world]",
-        "# a comment\nthis is no document",
-    ] {
-        let mut text = String::from_str(alloc, WHOLE)?;
-        text.push_str(more)?;
-        refused(&rt, alloc, text.as_bytes());
+    counts(&rt, rt.alloc(), WHOLE, 1)?;
+    for more in WRONG {
+        refused_with(&rt, rt.alloc(), more)?;
     }
     Ok(())
 }
 
+fn refused_with(rt: &impl Abort, alloc: Global, more: &str) -> Result<(), AllocError> {
+    let mut text = String::from_str(alloc, WHOLE)?;
+    text.push_str(more)?;
+    refused(rt, alloc, text.as_bytes());
+    Ok(())
+}
+
+const LACKING: &[&str] = &[
+    " \n# nothing\n",
+    "[[region]]\nid = 'a'\ncuboid = [0, 0, 0, 1, 1, 1]\n",
+    "version = 2",
+    "version = 0",
+    "version = -1",
+    "version = '1'",
+    "version = 1.0",
+    "version = [1]",
+    "version = 1\nname = 'a'",
+    "version = 1\nregion = 1",
+    "version = 1\nregion = [1]",
+    "version = 1\nregion = [[]]",
+    "version = 1\nglobal = 1",
+    "version = 1\n[[global]]",
+    "version = 1\n[region]\nid = 'a'\ncuboid = [0, 0, 0, 1, 1, 1]\n",
+    "version = 1\n[[region]]",
+    "version = 1\n[[region]]\nid = 'a'",
+    "version = 1\n[[region]]\nid = 'a'\ny = [0, 1]",
+    "version = 1\n[[region]]\nid = 'a'\npolygon = [0, 0, 9, 0, 0, 9]",
+    "version = 1\n[[region]]\ncuboid = [0, 0, 0, 1, 1, 1]",
+    "version = 1\n[[region]]\nid = 1\ncuboid = [0, 0, 0, 1, 1, 1]",
+    "version = 1\n[[region]]\nid = ''\ncuboid = [0, 0, 0, 1, 1, 1]",
+    "version = 1\n[[region]]\nid = 'no id'\ncuboid = [0, 0, 0, 1, 1, 1]",
+    "version = 1\n[[region]]\nid = '__global__'\ncuboid = [0, 0, 0, 1, 1, 1]",
+    "version = 1\n[[region]]\nid = 'abcdefghijklmnopqrstuvwxyzabcdefg'\ncuboid = [0, 0, 0, 1, 1, 1]",
+    "version = 1\n[[region]]\nid = 'a'\ncuboid = 1",
+    "version = 1\n[[region]]\nid = 'a'\ncuboid = [0, 0, 0, 1, 1]",
+    "version = 1\n[[region]]\nid = 'a'\ncuboid = [0, 0, 0, 1, 1, 1, 1]",
+    "version = 1\n[[region]]\nid = 'a'\ncuboid = [[0, 0, 0], [1, 1, 1]]",
+    "version = 1\n[[region]]\nid = 'a'\ncuboid = [0, 0, 0, 1, 1, 2147483648]",
+    "version = 1\n[[region]]\nid = 'a'\ncuboid = [0, 0, 0, 1, 1, 1.0]",
+    "version = 1\n[[region]]\nid = 'a'\ncuboid = [0, 0, 0, 1, 1, '1']",
+    "version = 1\n[[region]]\nid = 'a'\ny = [0, 1]\npolygon = [0, 0, 9, 0, 0, 9, 5]",
+    "version = 1\n[[region]]\nid = 'a'\ny = [0, 1]\npolygon = [0, 0, 9, 0]",
+    "version = 1\n[[region]]\nid = 'a'\ny = [0, 1]\npolygon = []",
+    "version = 1\n[[region]]\nid = 'a'\ny = [0, 1]\npolygon = [0, 0, 9, 0, 0, 4294967296]",
+    "version = 1\n[[region]]\nid = 'a'\ny = [0]\npolygon = [0, 0, 9, 0, 0, 9]",
+    "version = 1\n[[region]]\nid = 'a'\ny = [0, 1, 2]\npolygon = [0, 0, 9, 0, 0, 9]",
+    "version = 1\n[[region]]\nid = 'a'\ny = 1\npolygon = [0, 0, 9, 0, 0, 9]",
+    "version = 1\n[[region]]\nid = 'a'\ny = [1, 0]\npolygon = [0, 0, 9, 0, 0, 9]",
+];
+
 #[test]
 fn files_that_lack_something(rt: HostRuntime) {
-    for text in [
-        " \n# nothing\n",
-        "[[region]]\nid = 'a'\ncuboid = [0, 0, 0, 1, 1, 1]\n",
-        "version = 2",
-        "version = 0",
-        "version = -1",
-        "version = '1'",
-        "version = 1.0",
-        "version = [1]",
-        "version = 1\nname = 'a'",
-        "version = 1\nregion = 1",
-        "version = 1\nregion = [1]",
-        "version = 1\nregion = [[]]",
-        "version = 1\nglobal = 1",
-        "version = 1\n[[global]]",
-        "version = 1\n[region]\nid = 'a'\ncuboid = [0, 0, 0, 1, 1, 1]\n",
-        "version = 1\n[[region]]",
-        "version = 1\n[[region]]\nid = 'a'",
-        "version = 1\n[[region]]\nid = 'a'\ny = [0, 1]",
-        "version = 1\n[[region]]\nid = 'a'\npolygon = [0, 0, 9, 0, 0, 9]",
-        "version = 1\n[[region]]\ncuboid = [0, 0, 0, 1, 1, 1]",
-        "version = 1\n[[region]]\nid = 1\ncuboid = [0, 0, 0, 1, 1, 1]",
-        "version = 1\n[[region]]\nid = ''\ncuboid = [0, 0, 0, 1, 1, 1]",
-        "version = 1\n[[region]]\nid = 'no id'\ncuboid = [0, 0, 0, 1, 1, 1]",
-        "version = 1\n[[region]]\nid = '__global__'\ncuboid = [0, 0, 0, 1, 1, 1]",
-        "version = 1\n[[region]]\nid = 'abcdefghijklmnopqrstuvwxyzabcdefg'\ncuboid = [0, 0, 0, 1, 1, 1]",
-        "version = 1\n[[region]]\nid = 'a'\ncuboid = 1",
-        "version = 1\n[[region]]\nid = 'a'\ncuboid = [0, 0, 0, 1, 1]",
-        "version = 1\n[[region]]\nid = 'a'\ncuboid = [0, 0, 0, 1, 1, 1, 1]",
-        "version = 1\n[[region]]\nid = 'a'\ncuboid = [[0, 0, 0], [1, 1, 1]]",
-        "version = 1\n[[region]]\nid = 'a'\ncuboid = [0, 0, 0, 1, 1, 2147483648]",
-        "version = 1\n[[region]]\nid = 'a'\ncuboid = [0, 0, 0, 1, 1, 1.0]",
-        "version = 1\n[[region]]\nid = 'a'\ncuboid = [0, 0, 0, 1, 1, '1']",
-        "version = 1\n[[region]]\nid = 'a'\ny = [0, 1]\npolygon = [0, 0, 9, 0, 0, 9, 5]",
-        "version = 1\n[[region]]\nid = 'a'\ny = [0, 1]\npolygon = [0, 0, 9, 0]",
-        "version = 1\n[[region]]\nid = 'a'\ny = [0, 1]\npolygon = []",
-        "version = 1\n[[region]]\nid = 'a'\ny = [0, 1]\npolygon = [0, 0, 9, 0, 0, 4294967296]",
-        "version = 1\n[[region]]\nid = 'a'\ny = [0]\npolygon = [0, 0, 9, 0, 0, 9]",
-        "version = 1\n[[region]]\nid = 'a'\ny = [0, 1, 2]\npolygon = [0, 0, 9, 0, 0, 9]",
-        "version = 1\n[[region]]\nid = 'a'\ny = 1\npolygon = [0, 0, 9, 0, 0, 9]",
-        "version = 1\n[[region]]\nid = 'a'\ny = [1, 0]\npolygon = [0, 0, 9, 0, 0, 9]",
-    ] {
+    for text in LACKING {
         refused(&rt, rt.alloc(), text.as_bytes());
     }
     refused(&rt, rt.alloc(), b"version = 1\n# \xff\n");

@@ -6,7 +6,10 @@ use vx_file::read_policy;
 use vx_flag::{Flag, Group, Setting, State};
 use vx_geom::{Pos, ShapeSpec};
 use vx_policy::{Edit, EditError, EditRefusal, Listing, Policy, Version};
-use vx_region::RegionNo;
+use vx_region::{RegionNo, RegionSet};
+
+// What an edit is answered.
+type Answer = Result<Option<RegionNo>, EditError>;
 
 const PLOT: &[u8] = b"version = 1\n[[region]]\nid = 'plot'\ncuboid = [1, 0, 1, 1, 63, 1]\n";
 
@@ -27,31 +30,49 @@ fn rise_and_fall(
     policy: &mut Policy,
     copy: &Policy,
 ) -> Result<(), Fail> {
-    assert!(rt; *policy == *copy);
-    let rise = Edit::Priority(String::from_str(alloc, "PLOT")?, 1);
-    assert_eq!(rt; policy.apply(alloc, rise), Ok(None));
-    assert!(rt; *policy != *copy);
-    let cycle = Edit::Parent(
-        String::from_str(alloc, "plot")?,
-        Some(String::from_str(alloc, "plot")?),
-    );
+    compares(rt, policy, copy, true, 0);
+    answers(rt, alloc, policy, rise(alloc, "PLOT", 1)?, Ok(None), 1);
+    compares(rt, policy, copy, false, 1);
     let refused = Err(EditError::Refused(EditRefusal::Cycle));
-    assert_eq!(rt; policy.apply(alloc, cycle), refused);
-    let fall = Edit::Priority(String::from_str(alloc, "plot")?, 0);
-    assert_eq!(rt; policy.apply(alloc, fall), Ok(None));
-    assert!(rt; *policy == *copy);
+    answers(rt, alloc, policy, cycle(alloc)?, refused, 2);
+    answers(rt, alloc, policy, rise(alloc, "plot", 0)?, Ok(None), 3);
+    compares(rt, policy, copy, true, 3);
     Ok(())
+}
+
+// Each step of a test has its number, which is told where it fails.
+fn compares(rt: &impl Abort, policy: &Policy, other: &Policy, due: bool, step: u8) {
+    assert_eq!(rt;
+        (*policy == *other, *policy != *other),
+        (due, !due),
+        "{step}"
+    );
+}
+
+fn answers(rt: &impl Abort, alloc: Global, policy: &mut Policy, edit: Edit, due: Answer, step: u8) {
+    assert_eq!(rt; policy.apply(alloc, edit), due, "{step}");
+}
+
+fn rise(alloc: Global, id: &str, priority: i32) -> Result<Edit, AllocError> {
+    Ok(Edit::Priority(String::from_str(alloc, id)?, priority))
+}
+
+fn cycle(alloc: Global) -> Result<Edit, AllocError> {
+    let plot = String::from_str(alloc, "plot")?;
+    Ok(Edit::Parent(plot, Some(String::from_str(alloc, "plot")?)))
 }
 
 #[test]
 fn a_copy_of_a_set_of_regions_is_equal(rt: HostRuntime) -> Result<(), Fail> {
-    let (plot, town) = (
-        read_policy(rt.alloc(), PLOT)?,
-        read_policy(rt.alloc(), TOWN)?,
-    );
-    let copy = town.regions().try_clone()?;
-    assert!(rt; copy == *town.regions());
-    assert!(rt; copy != *plot.regions());
+    let town = read_policy(rt.alloc(), TOWN)?;
+    let plot = read_policy(rt.alloc(), PLOT)?;
+    Ok(copied(&rt, town.regions(), plot.regions())?)
+}
+
+fn copied(rt: &impl Abort, regions: &RegionSet, others: &RegionSet) -> Result<(), AllocError> {
+    let copy = regions.try_clone()?;
+    assert!(rt; copy == *regions);
+    assert!(rt; copy != *others);
     Ok(())
 }
 
@@ -76,51 +97,75 @@ fn twins(
 ) -> Result<(), Fail> {
     let (edit, answer) = one(alloc, kind)?;
     let copy = edit.try_clone(alloc)?;
-    assert_eq!(rt; policy.apply(alloc, edit), Ok(answer), "{kind}");
-    assert!(rt; *policy != *twin, "{kind}");
-    assert_eq!(rt; twin.apply(alloc, copy), Ok(answer), "{kind}");
-    assert!(rt; *policy == *twin, "{kind}");
+    answers(rt, alloc, policy, edit, Ok(answer), kind);
+    compares(rt, policy, twin, false, kind);
+    answers(rt, alloc, twin, copy, Ok(answer), kind);
+    compares(rt, policy, twin, true, kind);
     Ok(())
 }
 
 // An edit of each kind that changes something, and the number that it gives.
 fn one(alloc: Global, kind: u8) -> Result<(Edit, Option<RegionNo>), AllocError> {
-    let plot = String::from_str(alloc, "plot")?;
-    let town = String::from_str(alloc, "town")?;
-    let ann = String::from_str(alloc, "ann")?;
+    match kind {
+        0 => Ok((town(alloc)?, Some(RegionNo(2)))),
+        1 => Ok((reshaped(alloc)?, None)),
+        3 | 7 | 8 | 9 => Ok((naming(alloc, kind)?, None)),
+        _ => Ok((of_plot(kind, String::from_str(alloc, "plot")?), None)),
+    }
+}
+
+fn town(alloc: Global) -> Result<Edit, AllocError> {
     let spot = Pos::new(-1, 0, 0);
+    let town = String::from_str(alloc, "town")?;
+    Ok(Edit::Define(town, ShapeSpec::Cuboid(spot, spot)))
+}
+
+fn reshaped(alloc: Global) -> Result<Edit, AllocError> {
     let points = Vec::from_slice(alloc, &[(0, 0), (9, 0), (0, 9)])?;
-    let setting = Setting {
-        state: State::Deny,
-        group: Group::All,
-    };
-    let edit = match kind {
-        0 => return Ok((
-            Edit::Define(town, ShapeSpec::Cuboid(spot, spot)),
-            Some(RegionNo(2)),
-        )),
-        1 => Edit::Reshape(plot, ShapeSpec::Poly(points, 0, 0)),
+    let plot = String::from_str(alloc, "plot")?;
+    Ok(Edit::Reshape(plot, ShapeSpec::Poly(points, 0, 0)))
+}
+
+// Those that name a town or a player.
+fn naming(alloc: Global, kind: u8) -> Result<Edit, AllocError> {
+    let plot = String::from_str(alloc, "plot")?;
+    let named = String::from_str(alloc, if kind == 3 { "town" } else { "ann" })?;
+    Ok(match kind {
+        3 => Edit::Parent(plot, Some(named)),
+        7 => Edit::Owner(plot, Listing::Add, named),
+        8 => Edit::Member(plot, Listing::Add, named),
+        _ => Edit::Owner(plot, Listing::Drop, named),
+    })
+}
+
+fn of_plot(kind: u8, plot: String) -> Edit {
+    let (state, group) = (State::Deny, Group::All);
+    match kind {
         2 => Edit::Priority(plot, -3),
-        3 => Edit::Parent(plot, Some(town)),
         4 => Edit::Parent(plot, None),
-        5 => Edit::SetFlag(plot, Flag::Usage, setting),
+        5 => Edit::SetFlag(plot, Flag::Usage, Setting { state, group }),
         6 => Edit::ClearFlag(plot, Flag::Usage),
-        7 => Edit::Owner(plot, Listing::Add, ann),
-        8 => Edit::Member(plot, Listing::Add, ann),
-        9 => Edit::Owner(plot, Listing::Drop, ann),
         _ => Edit::Remove(plot),
-    };
-    Ok((edit, None))
+    }
 }
 
 #[test]
 fn versions_differ_in_each_part(rt: HostRuntime) -> Result<(), Fail> {
     let first = version(rt.alloc(), 1, 0, PLOT)?;
-    let copy = first.try_clone()?;
-    assert!(rt; first == copy);
+    is_its_copy(&rt, &first)?;
+    each_differs(&rt, rt.alloc(), &first)
+}
+
+fn is_its_copy(rt: &impl Abort, version: &Version) -> Result<(), AllocError> {
+    let copy = version.try_clone()?;
+    assert!(rt; *version == copy);
+    Ok(())
+}
+
+fn each_differs(rt: &impl Abort, alloc: Global, first: &Version) -> Result<(), Fail> {
     for (tick, edits, file) in [(2, 0, PLOT), (1, 1, PLOT), (1, 0, TOWN)] {
-        let other = version(rt.alloc(), tick, edits, file)?;
-        assert!(rt; first != other);
+        let other = version(alloc, tick, edits, file)?;
+        assert!(rt; *first != other);
     }
     Ok(())
 }

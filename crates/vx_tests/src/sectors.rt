@@ -1,7 +1,7 @@
 //! The windows of a sector, by its calls.
 ghost use Rattle.std.specs.Prelude.{◌≡◌, IfOk};
 
-use std::alloc::Global;
+use std::alloc::{AllocError, Global};
 use std::process::Abort;
 use std::test::Fail;
 use vx_block::Cell;
@@ -27,13 +27,16 @@ const HOME: &[u8] = b"version = 1\n[[region]]\nid = 'home'\ncuboid = [6, 0, 5, 6
 // Bob is a stranger where the first version judges, and nobody is where the second does.
 #[test]
 fn a_window_is_judged_by_its_version(rt: HostRuntime) -> Result<(), Fail> {
-    let policy = read_policy(rt.alloc(), HOME)?;
-    let mut sector = opened(&rt, rt.alloc(), Cell::Stone, policy)?;
     let bob = bob()?;
+    let mut sector = opened(&rt, rt.alloc())?;
     two_windows(&rt, rt.alloc(), &mut sector, &bob)?;
-    let left = sector.into_entries();
-    assert_eq!(&rt; left.as_slice(), [done(&bob)].as_slice());
+    leaves(&rt, sector, &bob);
     Ok(())
+}
+
+fn leaves(rt: &impl Abort, sector: Sector, bob: &Seat) {
+    let left = sector.into_entries();
+    assert_eq!(rt; left.as_slice(), [done(bob)].as_slice());
 }
 
 fn two_windows(
@@ -68,26 +71,32 @@ fn done(bob: &Seat) -> Entry {
 }
 
 fn judged_anew(rt: &impl Abort, sector: &mut Sector, calls: &[Entry]) {
-    assert_eq!(rt;
-        (sector.closed(), sector.count(), sector.version().tick),
-        (2, 2, 2)
-    );
-    assert!(rt; *sector.base() == *sector.cells());
+    stands(rt, sector, (2, 2, 2), true);
     play(rt, sector, calls);
+    stands(rt, sector, (2, 3, 2), false);
+}
+
+// The entries of closed windows and of all, the number of the version, and whether the cells are
+// those with which the window began.
+fn stands(rt: &impl Abort, sector: &Sector, due: (u64, u64, u64), is_base: bool) {
     assert_eq!(rt;
         (sector.closed(), sector.count(), sector.version().tick),
-        (2, 3, 2)
+        due
     );
-    assert!(rt; *sector.base() != *sector.cells());
+    assert_eq!(rt; *sector.base() == *sector.cells(), is_base);
 }
 
 // Gives the commands one after another, compares the answers, and finds them in the record.
 fn play(rt: &impl Abort, sector: &mut Sector, calls: &[Entry]) {
     for call in calls {
-        let cmd = call.cmd;
-        assert_eq!(rt; sector.act(call.seat, cmd), call.answer, "{cmd:?}");
+        answers(rt, sector, call);
     }
     assert_eq!(rt; sector.entries(), calls);
+}
+
+fn answers(rt: &impl Abort, sector: &mut Sector, call: &Entry) {
+    let cmd = call.cmd;
+    assert_eq!(rt; sector.act(call.seat, cmd), call.answer, "{cmd:?}");
 }
 
 // The second window over these cells, under a policy without regions.
@@ -98,19 +107,27 @@ fn next_of(alloc: Global, cells: &Cells) -> Result<Fresh, Fail>
     begun(alloc, cells, &version)
 }
 
-// A sector of one chunk with this cell at one place, and air everywhere else.
-fn opened(rt: &impl Abort, alloc: Global, cell: Cell, policy: Policy) -> Result<Sector, Fail> {
-    let version = version(1, policy);
-    let start = with_cell(rt, alloc, cell)?;
-    Ok(Sector::new(begun(alloc, &start, &version)?))
+// A sector of one chunk with a stone at one place, and air everywhere else.
+fn opened(rt: &impl Abort, alloc: Global) -> Result<Sector, Fail> {
+    let mut start = air(alloc)?;
+    put_stone(rt, &mut start)?;
+    first_window(alloc, &start)
 }
 
-fn with_cell(rt: &impl Abort, alloc: Global, cell: Cell) -> Result<Cells, Fail> {
+fn air(alloc: Global) -> Result<Cells, Fail> {
     let bounds = Bounds::new(1, 1, 1).ok_or("no bounds")?;
-    let mut start = Cells::new(alloc, bounds, 0)?;
-    assert!(rt; start.holds(PLACE));
-    start.set(PLACE, cell)?;
-    Ok(start)
+    Ok(Cells::new(alloc, bounds, 0)?)
+}
+
+fn put_stone(rt: &impl Abort, cells: &mut Cells) -> Result<(), AllocError> {
+    assert!(rt; cells.holds(PLACE));
+    cells.set(PLACE, Cell::Stone)
+}
+
+// The first window over these cells, judged by the policy of a file.
+fn first_window(alloc: Global, cells: &Cells) -> Result<Sector, Fail> {
+    let version = version(1, read_policy(alloc, HOME)?);
+    Ok(Sector::new(begun(alloc, cells, &version)?))
 }
 
 // A window over these cells.

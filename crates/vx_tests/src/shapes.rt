@@ -1,13 +1,11 @@
 //! Positions, bounds and shapes where no world lies, and their copies.
-use std::alloc::Global;
+use std::alloc::{AllocError, Global};
+use std::process::Abort;
 use std::test::Fail;
 use vx_geom::{Bounds, Dir, Pos, Shape, ShapeSpec};
 
 #[test]
 fn steps_lead_to_the_neighbor_and_not_past_the_ends(rt: HostRuntime) {
-    let p = Pos::new(1, 2, 3);
-    let last = Pos::new(i32::MAX, i32::MAX, i32::MAX);
-    let first = Pos::new(i32::MIN, i32::MIN, i32::MIN);
     for (dir, x, y, z, is_up) in [
         (Dir::East, 2, 2, 3, true),
         (Dir::West, 0, 2, 3, false),
@@ -16,10 +14,16 @@ fn steps_lead_to_the_neighbor_and_not_past_the_ends(rt: HostRuntime) {
         (Dir::South, 1, 2, 4, true),
         (Dir::North, 1, 2, 2, false),
     ] {
-        assert_eq!(rt; p.step(dir), Some(Pos::new(x, y, z)));
-        assert_eq!(rt; last.step(dir).is_none(), is_up);
-        assert_eq!(rt; first.step(dir).is_none(), !is_up);
+        steps(&rt, dir, Pos::new(x, y, z), is_up);
     }
+}
+
+fn steps(rt: &impl Abort, dir: Dir, due: Pos, is_up: bool) {
+    assert_eq!(rt; Pos::new(1, 2, 3).step(dir), Some(due));
+    let last = Pos::new(i32::MAX, i32::MAX, i32::MAX);
+    assert_eq!(rt; last.step(dir).is_none(), is_up);
+    let first = Pos::new(i32::MIN, i32::MIN, i32::MIN);
+    assert_eq!(rt; first.step(dir).is_none(), !is_up);
 }
 
 #[test]
@@ -61,13 +65,44 @@ fn distances_may_be_as_great_as_the_numbers(rt: HostRuntime) -> Result<(), Fail>
 #[test]
 fn shapes_are_equal_where_their_parts_are(rt: HostRuntime) -> Result<(), Fail> {
     let triangle = polygon(rt.alloc(), &[(2, 2), (10, 2), (2, 10)], 0, 63)?;
-    assert!(rt; triangle == triangle.try_clone(rt.alloc())?);
-    assert!(rt; triangle != polygon(rt.alloc(), &[(10, 2), (2, 10), (2, 2)], 0, 63)?);
-    assert!(rt; triangle != polygon(rt.alloc(), &[(2, 2), (10, 2), (2, 10)], 0, 62)?);
+    polygons_compare(&rt, rt.alloc(), &triangle)?;
     let cuboid = Shape::cuboid(Pos::new(2, 0, 2), Pos::new(10, 63, 10));
-    assert!(rt; cuboid == Shape::cuboid(Pos::new(10, 0, 10), Pos::new(2, 63, 2)));
-    assert!(rt; cuboid != Shape::cuboid(Pos::new(2, 0, 2), Pos::new(10, 63, 11)));
-    assert!(rt; cuboid != triangle && cuboid == cuboid.try_clone(rt.alloc())?);
+    assert!(rt; cuboid != triangle);
+    cuboids_compare(&rt, rt.alloc(), &cuboid)
+}
+
+fn polygons_compare(rt: &impl Abort, alloc: Global, triangle: &Shape) -> Result<(), Fail> {
+    is_its_copy(rt, alloc, triangle)?;
+    differs(rt, alloc, triangle, &[(10, 2), (2, 10), (2, 2)], 63)?;
+    differs(rt, alloc, triangle, &[(2, 2), (10, 2), (2, 10)], 62)
+}
+
+fn differs(
+    rt: &impl Abort,
+    alloc: Global,
+    shape: &Shape,
+    points: &[(i32, i32)],
+    high: i32,
+) -> Result<(), Fail> {
+    let other = polygon(alloc, points, 0, high)?;
+    assert!(rt; *shape != other);
+    Ok(())
+}
+
+fn cuboids_compare(rt: &impl Abort, alloc: Global, cuboid: &Shape) -> Result<(), Fail> {
+    is_cuboid(rt, cuboid, Pos::new(10, 0, 10), Pos::new(2, 63, 2), true);
+    is_cuboid(rt, cuboid, Pos::new(2, 0, 2), Pos::new(10, 63, 11), false);
+    Ok(is_its_copy(rt, alloc, cuboid)?)
+}
+
+fn is_cuboid(rt: &impl Abort, shape: &Shape, first: Pos, last: Pos, due: bool) {
+    let other = Shape::cuboid(first, last);
+    assert_eq!(rt; (*shape == other, *shape != other), (due, !due));
+}
+
+fn is_its_copy(rt: &impl Abort, alloc: Global, shape: &Shape) -> Result<(), AllocError> {
+    let copy = shape.try_clone(alloc)?;
+    assert!(rt; *shape == copy);
     Ok(())
 }
 
@@ -75,16 +110,29 @@ fn shapes_are_equal_where_their_parts_are(rt: HostRuntime) -> Result<(), Fail> {
 fn a_copy_of_what_is_written_makes_the_same_shape(rt: HostRuntime) -> Result<(), Fail> {
     let alloc = rt.alloc();
     let cuboid = ShapeSpec::Cuboid(Pos::new(3, 1, 4), Pos::new(1, 5, 9));
-    let copy = cuboid.try_clone(alloc)?;
-    assert!(rt; copy.shape()? == cuboid.shape()?);
-    let points = Vec::from_slice(alloc, &[(0, 0), (9, 0), (0, 9)])?;
-    let triangle = ShapeSpec::Poly(points, 2, 6);
-    let copy = triangle.try_clone(alloc)?;
-    assert!(rt; triangle.is_shape() && copy.is_shape());
-    assert!(rt; copy.shape()? == triangle.shape()?);
-    let line = ShapeSpec::Poly(Vec::from_slice(alloc, &[(0, 0), (9, 0)])?, 2, 6);
-    assert!(rt; !line.is_shape() && line.shape().is_err());
+    makes_the_same(&rt, alloc, cuboid)?;
+    makes_the_same(&rt, alloc, written(alloc, &[(0, 0), (9, 0), (0, 9)])?)?;
+    is_no_shape(&rt, written(alloc, &[(0, 0), (9, 0)])?);
     Ok(())
+}
+
+fn makes_the_same(rt: &impl Abort, alloc: Global, spec: ShapeSpec) -> Result<(), Fail> {
+    let copy = spec.try_clone(alloc)?;
+    assert!(rt; spec.is_shape() && copy.is_shape());
+    are_one(rt, &copy.shape()?, &spec.shape()?);
+    Ok(())
+}
+
+fn are_one(rt: &impl Abort, shape: &Shape, other: &Shape) {
+    assert!(rt; *shape == *other);
+}
+
+fn is_no_shape(rt: &impl Abort, spec: ShapeSpec) {
+    assert!(rt; !spec.is_shape() && spec.shape().is_err());
+}
+
+fn written(alloc: Global, points: &[(i32, i32)]) -> Result<ShapeSpec, AllocError> {
+    Ok(ShapeSpec::Poly(Vec::from_slice(alloc, points)?, 2, 6))
 }
 
 fn polygon(alloc: Global, points: &[(i32, i32)], low: i32, high: i32) -> Result<Shape, Fail> {

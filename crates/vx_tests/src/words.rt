@@ -1,4 +1,6 @@
 //! Words that no script reads or writes, or not all of them.
+use std::alloc::{AllocError, Global};
+use std::fmt::Display;
 use std::process::Abort;
 use std::test::Fail;
 use vx_block::{Cell, Delay, Kind, Lamp, Repeater, Side};
@@ -11,69 +13,104 @@ use vx_region::{BadId, BadName, Id, Name, RegionNo};
 
 #[test]
 fn refusals_that_no_script_meets_have_their_words(rt: HostRuntime) -> Result<(), Fail> {
-    let full = DeskError::HistoryFull;
-    let (edit, desk) = (EditError::NoMemory, DeskError::NoMemory);
-    let line = format!(in rt.alloc(); "{full}, {edit}, {desk}")?;
-    assert_eq!(rt;
-        line.as_str(),
-        "refused 13 history, refused 14 memory, refused 14 memory"
-    );
+    let alloc = rt.alloc();
+    is_shown(&rt, alloc, &DeskError::HistoryFull, "refused 13 history")?;
+    is_shown(&rt, alloc, &EditError::NoMemory, "refused 14 memory")?;
+    is_shown(&rt, alloc, &DeskError::NoMemory, "refused 14 memory")?;
     let known = EditRefusal::Known;
-    let (edit, desk) = (EditError::Refused(known), DeskError::Refused(known));
-    let line = format!(in rt.alloc(); "{known}, {edit}, {desk}")?;
-    assert_eq!(rt;
-        line.as_str(),
-        "refused 21 known, refused 21 known, refused 21 known"
-    );
+    is_shown(&rt, alloc, &known, "refused 21 known")?;
+    is_shown(&rt, alloc, &EditError::Refused(known), "refused 21 known")?;
+    is_shown(&rt, alloc, &DeskError::Refused(known), "refused 21 known")?;
+    Ok(())
+}
+
+fn is_shown<T: Display>(
+    rt: &impl Abort,
+    alloc: Global,
+    shown: &T,
+    due: &str,
+) -> Result<(), AllocError> {
+    let text = format!(in alloc; "{shown}")?;
+    assert_eq!(rt; text.as_str(), due);
     Ok(())
 }
 
 #[test]
 fn edits_and_rules_have_their_words(rt: HostRuntime) -> Result<(), Fail> {
-    let (at, from, region) = (RegionNo(4_294_967_295), RegionNo(0), Some(RegionNo(7)));
-    let flag = Flag::Pistons;
-    let (flag, build) = (Rule::Flag { at, from, flag }, Rule::Build { at, from });
-    let (member, default) = (Rule::Member { at }, Rule::Default);
-    let line = format!(in rt.alloc(); "{flag}, {build}, {member}, {default}")?;
-    assert_eq!(rt;
-        line.as_str(),
-        "flag pistons at 4294967295 from 0, build at 4294967295 from 0, member at 4294967295, default"
-    );
-    let (defined, other) = (
-        Edited {
-            count: 1_099_511_627_776,
-            region,
-        },
-        Edited {
-            count: 2,
-            region: None,
-        },
-    );
-    let line = format!(in rt.alloc(); "{defined}, {other}")?;
-    assert_eq!(rt; line.as_str(), "edit 1099511627776 region 7, edit 2");
+    let alloc = rt.alloc();
+    let (at, from, flag) = (RegionNo(4_294_967_295), RegionNo(0), Flag::Pistons);
+    is_rule(
+        &rt,
+        alloc,
+        &Rule::Flag { at, from, flag },
+        "flag pistons at 4294967295 from 0",
+    )?;
+    is_rule(
+        &rt,
+        alloc,
+        &Rule::Build { at, from },
+        "build at 4294967295 from 0",
+    )?;
+    is_rule(&rt, alloc, &Rule::Member { at }, "member at 4294967295")?;
+    is_rule(&rt, alloc, &Rule::Default, "default")?;
+    is_edited(
+        &rt,
+        alloc,
+        1_099_511_627_776,
+        Some(RegionNo(7)),
+        "edit 1099511627776 region 7",
+    )?;
+    is_edited(&rt, alloc, 2, None, "edit 2")?;
     Ok(())
+}
+
+fn is_rule(rt: &impl Abort, alloc: Global, rule: &Rule, due: &str) -> Result<(), AllocError> {
+    is_shown(rt, alloc, rule, due)
+}
+
+fn is_edited(
+    rt: &impl Abort,
+    alloc: Global,
+    count: u64,
+    region: Option<RegionNo>,
+    due: &str,
+) -> Result<(), AllocError> {
+    is_shown(rt, alloc, &Edited { count, region }, due)
 }
 
 #[test]
 fn ids_and_names_are_shown_in_lower_case(rt: HostRuntime) -> Result<(), Fail> {
+    let alloc = rt.alloc();
     let long = Id::read("ABCDEFGHIJKLMNOPQRSTUVWXYZ-_1234")?;
-    let name = Name::read("ABCDEFGHIJ_12345")?;
-    let line = format!(in rt.alloc(); "{long}, {name}, {BadId}, {BadName}, {BadShape}")?;
-    assert_eq!(rt;
-        line.as_str(),
-        "abcdefghijklmnopqrstuvwxyz-_1234, abcdefghij_12345, bad id, bad name, bad shape"
-    );
+    is_shown(&rt, alloc, &long, "abcdefghijklmnopqrstuvwxyz-_1234")?;
+    is_shown(
+        &rt,
+        alloc,
+        &Name::read("ABCDEFGHIJ_12345")?,
+        "abcdefghij_12345",
+    )?;
+    is_shown(&rt, alloc, &BadId, "bad id")?;
+    is_shown(&rt, alloc, &BadName, "bad name")?;
+    is_shown(&rt, alloc, &BadShape, "bad shape")?;
     for text in ["", "abcdefghijklmnopqrstuvwxyz-_12345", "a b", "é"] {
-        assert_eq!(rt; Id::read(text), Err(BadId), "at {text:?}");
-        assert_eq!(rt; Name::read(text), Err(BadName), "at {text:?}");
+        is_neither(&rt, text);
     }
     Ok(())
 }
 
+fn is_neither(rt: &impl Abort, text: &str) {
+    assert_eq!(rt; Id::read(text), Err(BadId), "at {text:?}");
+    assert_eq!(rt; Name::read(text), Err(BadName), "at {text:?}");
+}
+
 fn has_text(rt: &impl Abort, cell: &Cell, kind: Kind, text: &str) {
     assert_eq!(rt; cell.kind(), kind, "{text}");
-    assert_eq!(rt; cell.text().as_str(), text);
+    is_written(rt, cell, text);
     assert_eq!(rt; Cell::read(text), Some(*cell), "{text}");
+}
+
+fn is_written(rt: &impl Abort, cell: &Cell, text: &str) {
+    assert_eq!(rt; cell.text().as_str(), text);
 }
 
 // A text is read back as its cell, also where no part begins as that.

@@ -9,7 +9,11 @@ use Rattle.vx_region.specs.Association.{association}
 use Rattle.vx_region.specs.Ancestry.{ancestors}
 use Rattle.vx_region.specs.Regions.{Entry, Regions, region_at, setting_at}
 use Rattle.vx_region.specs.Subjects.{Actor}
-use Rattle.vx_decide.specs.Effective.{heard, value_at, first_of, effective}
+use Rattle.vx_decide.specs.declared.question.Question.{Question}
+use Rattle.vx_decide.specs.declared.question.Question.TheVariants.{OnFlag}
+use Rattle.vx_decide.specs.Cases.{Case}
+use Rattle.vx_decide.specs.Effective.{region_no, heard, value_at, first_of, effective}
+use Rattle.vx_decide.specs.Query.{flag_of_question, decider, answer_at, decided, query}
 use Rattle.vx_decide.specs.Unset.{IsUnset, sets}
 
 -- where none answers, none is the first that does
@@ -58,3 +62,19 @@ pub unset_has_none : (rs : Regions) (s : Actor) (f : Flag) (n : ℕ) → IsUnset
 unfolding effective value_at
 unset_has_none rs s f n unset =
     first_silent (value_at rs f (association rs s n)) (λ k. ap (heard k (association rs s n)) (setting_silent rs f k unset)) (ancestors rs n)
+
+-- nor does anything decide by it
+pub unset_decides : (q : Question) (a : Case) → IsUnset a.regions (flag_of_question q) → decided q a ≡ None
+unfolding decided answer_at
+unset_decides q a unset = by (decider q a)
+  where
+    by : (o : Option ℕ) → option_and_then (answer_at a (flag_of_question q)) o ≡ None
+    by None = refl
+    by (Some n) = ap (option_map (λ v. record { at = region_no n; value = v })) (unset_has_none a.regions a.actor (flag_of_question q) n unset)
+
+-- nor does a query on it find anything
+pub unset_says : (f : Flag) (a : Case) → IsUnset a.regions f → query f a ≡ None
+unfolding query answer_at
+unset_says f a unset =
+    ap (λ o. option_or o (answer_at a f 0)) (unset_decides (OnFlag f) a unset)
+    ∙ ap (option_map (λ v. record { at = region_no 0; value = v })) (unset_has_none a.regions a.actor f 0 unset)

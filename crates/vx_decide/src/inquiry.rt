@@ -64,8 +64,8 @@ impl Inquiry<'_> {
         effective(self.regions, self.subject, flag, number)
     }
 
-    // Whether the flag is known to be set nowhere.
-    fn is_unset(&self, flag: Flag) -> bool
+    /// Whether the flag is known to be set nowhere.
+    pub fn is_unset(&self, flag: Flag) -> bool
         ensures { result ≡ true → IsUnset self.now.regions.now flag }
     {
         for unset in self.unset {

@@ -20,6 +20,9 @@ impl Inquiry<'_> {
     pub fn query(&self, flag: Flag) -> Option<Answer>
         ensures { result ≡ query flag (case_of self.now) }
     {
+        if self.is_unset(flag) {
+            return None;
+        }
         let decided = self.contest(Question::OnFlag(flag)).decided();
         if decided.is_some() {
             return decided;
@@ -88,6 +91,9 @@ impl Contest<'_> {
         ensures { result ≡ decided self.now.question (case_of self.now.inquiry.now) }
     {
         if self.best.is_none() {
+            return None;
+        }
+        if self.inquiry.is_unset(self.question.flag()) {
             return None;
         }
         let decider = self.decider()?;

@@ -1,3 +1,4 @@
 pub mod Adding
 pub mod Decided
+pub mod Fronts
 pub mod Showing

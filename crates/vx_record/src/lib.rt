@@ -4,7 +4,9 @@
 
 mod call;
 mod lists;
+mod saying;
 mod spare;
 
 pub use call::Call;
 pub use lists::Lists;
+pub use saying::says;

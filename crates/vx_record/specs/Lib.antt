@@ -1,3 +1,4 @@
+pub mod Archives
 pub mod Calls
 pub mod Said
 pub mod Spares

@@ -2,11 +2,15 @@
 //! and how many entries of each sector are closed.
 #![tactic(auto)]
 
+mod archive;
 mod call;
+mod laws;
 mod lists;
 mod saying;
 mod spare;
 
+pub use archive::Archive;
 pub use call::Call;
+pub use laws::counts_go_on;
 pub use lists::Lists;
 pub use saying::says;

@@ -4,13 +4,21 @@
 
 mod archive;
 mod call;
+mod caller;
+mod fault;
 mod laws;
 mod lists;
+mod place;
 mod saying;
+mod settling;
 mod spare;
 
 pub use archive::Archive;
 pub use call::Call;
+pub use caller::Caller;
+pub use fault::Fault;
 pub use laws::counts_go_on;
 pub use lists::Lists;
+pub use place::Place;
 pub use saying::says;
+pub use settling::disagreement;

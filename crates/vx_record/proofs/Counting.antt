@@ -1,14 +1,16 @@
 -- Counts of the entries of each sector, with one tick more.
-use Rattle.std.proofs.Common.{◌≡◌, ℕ, zero, suc, ◌+◌, ◌≤◌, ◌<◌, List, [], ◌∷◌, ◌++◌, length, get_or, refl, sym, ap, ◌∙◌, arith, length-append, add_comm, subst, take}
+use Rattle.std.proofs.Common.{◌≡◌, ℕ, zero, suc, ◌+◌, ◌≤◌, ◌<◌, List, [], ◌∷◌, ◌++◌, length, map, get_or, refl, sym, ap, ◌∙◌, arith, length-append, add_comm, subst, take}
 use Rattle.std.proofs.Math.ListN.{set}
 use Rattle.std.specs.List.{All}
 use Rattle.std.proofs.lemmas.Option.{unwrap_or-slice_get}
-use Rattle.vx_sector.specs.SectorData.{EntryData}
-use Rattle.vx_sector.specs.Windows.{most_entries}
+use Rattle.std.proofs.lemmas.List.Elements.{All-same, All-map}
+use Rattle.vx_sector.specs.SectorData.{SectorData, EntryData}
+use Rattle.vx_sector.specs.Windows.{count_of, most_entries, renewed}
+use Rattle.vx_play.specs.Plays.{entries_of}
 use Rattle.vx_core.specs.Chronicles.{TickData, ChronicleData, IsTickOn, map_after}
 use Rattle.vx_core.proofs.Growing.{ticks_one_more}
 use Rattle.vx_record.specs.Said.{window_at, closed_at}
-use Rattle.vx_record.specs.Archives.{IsCounted, IsArchive, IsNextTick, next_counts, CountsGoOn}
+use Rattle.vx_record.specs.Archives.{closed_of, IsCounted, IsArchive, IsNextTick, next_counts, CountsGoOn, CountsAgreeAgain}
 use Rattle.vx_record.proofs.Fronts.{closed_more}
 
 pub next_none : (counts : List ℕ) → next_counts counts [] ≡ counts
@@ -95,3 +97,18 @@ archive_grown c counts tick archive next =
 pub counts_go_on : CountsGoOn
 counts_go_on [] = refl
 counts_go_on (s ∷ sectors) = λ i. add_comm s.closed (length s.entries) i ∷ counts_go_on sectors i
+
+pub counts_agree_again : CountsAgreeAgain
+unfolding renewed
+counts_agree_again version [] cells = refl
+counts_agree_again version (s ∷ sectors) [] =
+    ap (λ ns. count_of s ∷ ns) (counts_agree_again version sectors [])
+counts_agree_again version (s ∷ sectors) (c ∷ cells) =
+    ap (λ ns. count_of s ∷ ns) (counts_agree_again version sectors cells)
+
+-- the counts after sectors' windows fit where each sector's count does
+pub counts_fit : (sectors : List SectorData) → All (λ (s : SectorData). count_of s ≤ most_entries) sectors
+    → All (λ n. n ≤ most_entries) (next_counts (map closed_of sectors) (map entries_of sectors))
+counts_fit sectors all =
+    All-same (λ n. n ≤ most_entries) _ _ (counts_go_on sectors)
+    (All-map (λ n. n ≤ most_entries) count_of sectors all)

@@ -1,8 +1,10 @@
 -- The chronicle of a world, and how many entries of each sector are closed in it.
 use Rattle.std.specs.Prelude.{◌≡◌, ℕ, ◌+◌, ◌<◌, Bool, List, [], ◌∷◌, length, map, slice_index}
+use Rattle.vx_cells.specs.SectorCells.{SectorCells}
+use Rattle.vx_policy.specs.declared.version.Version.{Version}
 use Rattle.vx_sector.specs.SectorData.{SectorData, EntryData}
 use Rattle.vx_sector.specs.Windows.{count_of}
-use Rattle.vx_play.specs.Plays.{entries_of}
+use Rattle.vx_play.specs.Plays.{entries_of, all_renewed}
 use Rattle.vx_core.specs.Chronicles.{TickData, ChronicleData, IsRun, IsTickOn, map_after}
 use Rattle.vx_record.specs.Said.{closed_at}
 
@@ -44,3 +46,8 @@ closed_of s = s.closed
 abbrev pub CountsGoOn : Type 0
 CountsGoOn = (sectors : List SectorData)
     → next_counts (map closed_of sectors) (map entries_of sectors) ≡ map count_of sectors
+
+-- and agree with them again as they begin their next windows
+abbrev pub CountsAgreeAgain : Type 0
+CountsAgreeAgain = (version : Version) (sectors : List SectorData) (cells : List SectorCells)
+    → map closed_of (all_renewed version sectors cells) ≡ map count_of sectors

@@ -1,7 +1,10 @@
-//! Tests of what only a call can show, of ticks on several threads and of the core machine. They
-//! stand apart from those of `vx_tests`, which are proved while the crates of machines are.
+//! Tests of what only a call can show, of ticks on several threads, of the core machine and of the
+//! record of calls. They stand apart from those of `vx_tests`, which are proved while the crates of
+//! machines are.
 #![tactic(auto)]
 
+#[cfg(test)]
+mod calls;
 #[cfg(test)]
 mod events;
 #[cfg(test)]

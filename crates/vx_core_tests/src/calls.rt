@@ -1,0 +1,253 @@
+//! The calls of a player, beside the record of a sector.
+use std::alloc::Global;
+use std::process::Abort;
+use std::test::Fail;
+use vx_block::Part;
+use vx_cells::Cells;
+use vx_core::Opening;
+use vx_decide::Rule;
+use vx_geom::{Bounds, Pos};
+use vx_policy::{Policy, Version};
+use vx_record::{
+    Archive, Call, Caller, Fault, Lists, Place, are_seated, began_with, disagreement, says,
+};
+use vx_region::Name;
+use vx_sector::{Cmd, Fresh, Refusal, Reply, Seat, Sector};
+
+// A player's list for the one sector of a world.
+#[derive(Drop)]
+struct Pass {
+    seat: u8,
+    lists: Lists,
+}
+
+impl Caller for Pass {
+    ghost caller = { λ p. record { seat = p.seat; lists = p.lists } };
+
+    fn seat(&self) -> u8 {
+        self.seat
+    }
+
+    fn lists(&self) -> &Lists {
+        &self.lists
+    }
+}
+
+// The place of a sector.
+#[derive(Drop)]
+struct Slot {
+    home: Option<Sector>,
+}
+
+// What the one sector is to be.
+#[derive(Drop)]
+struct Known {
+    base: Cells,
+    version: Version,
+    closed: u64,
+}
+
+impl Place for Slot {
+    type Keeper = Known;
+
+    ghost sector = { λ s. s.home };
+
+    ghost known = { λ keeper k.
+        record { base = keeper.base; version = keeper.version; closed = keeper.closed } };
+
+    fn sector(&self) -> Option<&Sector> {
+        self.home.as_ref()
+    }
+
+    fn is_known(&self, _at: usize, keeper: &Known) -> bool {
+        match &self.home {
+            Some(sector) => began_with(sector, &keeper.base, &keeper.version, keeper.closed),
+            None => false,
+        }
+    }
+}
+
+// A list has the recorded calls alone, with what a chest showed, and the record says them.
+#[test]
+fn a_list_has_what_the_record_says(rt: HostRuntime) -> Result<(), Fail> {
+    let opening = opening(rt.alloc())?;
+    let mut sector = sector(rt.alloc(), &opening)?;
+    let mut lists = Lists::new(rt.alloc(), 1)?;
+    called(&rt, &mut lists, &mut sector)?;
+    told(&rt, &lists, &sector)?;
+    let archive = Archive::new(rt.alloc(), opening)?;
+    kept(&rt, archive, &lists, &sector)
+}
+
+fn called(rt: &impl Abort, lists: &mut Lists, sector: &mut Sector) -> Result<(), Fail> {
+    let at = Pos::new(5, 1, 5);
+    let seat = bob()?;
+    assert_eq!(rt; lists.len(), 1);
+    let placed = lists.act(0, sector, seat, Cmd::Place(at, Part::Chest));
+    assert_eq!(rt; placed, Ok(Reply::Done(Rule::Default)));
+    assert_eq!(rt; lists.len(), 1);
+    let opened = lists.act(0, sector, seat, Cmd::OpenChest(at));
+    assert!(rt; matches!(opened, Ok(Reply::Opened(Rule::Default, _))));
+    assert_eq!(rt; lists.len(), 1);
+    let outside = lists.act(0, sector, seat, Cmd::Look(Pos::new(99, 1, 5)));
+    assert_eq!(rt; outside, Err(Refusal::OutOfWorld));
+    assert_eq!(rt; lists.len(), 1);
+    let dug = lists.act(0, sector, seat, Cmd::Break(Pos::new(6, 1, 5)));
+    assert_eq!(rt; dug, Err(Refusal::Nothing));
+    Ok(())
+}
+
+fn told(rt: &impl Abort, lists: &Lists, sector: &Sector) -> Result<(), Fail> {
+    assert_eq!(rt; lists.len(), 1);
+    let calls = lists.calls(0);
+    assert_eq!(rt; (calls.len(), sector.entries().len()), (3, 3));
+    let all = calls.iter().zip(sector.entries());
+    for (call, entry) in all {
+        assert!(rt; call.is_in(entry));
+    }
+    assert!(rt; says(calls, 0, 0, &[], sector.entries()));
+    assert!(rt; !says(calls, 1, 0, &[], sector.entries()));
+    assert!(rt; !says(&calls[1..], 0, 0, &[], sector.entries()));
+    Ok(())
+}
+
+fn kept(rt: &impl Abort, archive: Archive, lists: &Lists, sector: &Sector) -> Result<(), Fail> {
+    let mut archive = archive;
+    archive.reserve()?;
+    assert!(rt; archive.ticks().is_empty());
+    assert!(rt; archive.says(first(lists), 0, 0, sector.entries()));
+    assert!(rt; are_seated(archive.opening(), sector.entries()));
+    let chronicle = archive.into_chronicle();
+    assert!(rt; chronicle.ticks.is_empty());
+    Ok(())
+}
+
+fn first(lists: &Lists) -> &[Call] {
+    if lists.len() == 0 {
+        return &[];
+    }
+    lists.calls(0)
+}
+
+// One sector of air, for bob.
+fn opening(alloc: Global) -> Result<Opening, Fail> {
+    let bounds = Bounds::new(1, 1, 1).ok_or("no bounds")?;
+    let mut names = Vec::new(alloc);
+    names.push(Name::read("bob")?)?;
+    let policy = Policy::new(alloc)?;
+    match Opening::new(alloc, bounds, names, policy) {
+        Ok(opening) => Ok(opening),
+        Err(_) => Err("no opening")?,
+    }
+}
+
+// That sector in its first window.
+fn sector(alloc: Global, opening: &Opening) -> Result<Sector, Fail> {
+    let Some(cells) = opening.terrain().sectors().first() else {
+        return Err("no sector")?;
+    };
+    let version = version(opening)?;
+    let fresh = Fresh::over(alloc, cells.try_clone()?, &version)?;
+    Ok(Sector::new(fresh))
+}
+
+fn version(opening: &Opening) -> Result<Version, Fail> {
+    Ok(Version {
+        tick: 1,
+        edits: 0,
+        policy: opening.policy().try_clone()?,
+    })
+}
+
+fn bob() -> Result<Seat, Fail> {
+    Ok(Seat {
+        number: 0,
+        name: Name::read("bob")?,
+    })
+}
+
+// Where all agree nothing is found; else what does not agree.
+#[test]
+fn a_settlement_finds_what_does_not_agree(rt: HostRuntime) -> Result<(), Fail> {
+    let opening = opening(rt.alloc())?;
+    judged(&rt, rt.alloc(), &opening)
+}
+
+fn judged(rt: &impl Abort, alloc: Global, opening: &Opening) -> Result<(), Fail> {
+    let known = what_is_known(opening)?;
+    filed(rt, alloc, opening, &known)
+}
+
+fn filed(rt: &impl Abort, alloc: Global, opening: &Opening, known: &Known) -> Result<(), Fail> {
+    let archive = Archive::new(alloc, opening.try_clone()?)?;
+    acted(rt, alloc, opening, known, &archive)
+}
+
+fn acted(
+    rt: &impl Abort,
+    alloc: Global,
+    opening: &Opening,
+    known: &Known,
+    archive: &Archive,
+) -> Result<(), Fail> {
+    let (pass, home) = played(rt, alloc, opening)?;
+    compared(rt, alloc, &pass, &home, known, archive)
+}
+
+fn compared(
+    rt: &impl Abort,
+    alloc: Global,
+    pass: &Pass,
+    home: &Slot,
+    known: &Known,
+    archive: &Archive,
+) -> Result<(), Fail> {
+    let silent = silent(alloc)?;
+    assert_eq!(rt; found(pass, home, known, archive), None);
+    assert_eq!(rt;
+        found(&silent, home, known, archive),
+        Some(Fault::ListsDiffer(0, 0))
+    );
+    let away = [Slot { home: None }];
+    assert_eq!(rt; found(pass, &away[0], known, archive), Some(Fault::Torn(0)));
+    let nobody: [Pass; 0] = [];
+    assert_eq!(rt;
+        disagreement(&nobody, 1, &away, known, archive),
+        Some(Fault::PassMissing)
+    );
+    Ok(())
+}
+
+fn silent(alloc: Global) -> Result<Pass, Fail> {
+    let lists = Lists::new(alloc, 1)?;
+    Ok(Pass { seat: 0, lists })
+}
+
+fn played(rt: &impl Abort, alloc: Global, opening: &Opening) -> Result<(Pass, Slot), Fail> {
+    let mut sector = sector(alloc, opening)?;
+    let mut lists = Lists::new(alloc, 1)?;
+    called(rt, &mut lists, &mut sector)?;
+    let home = Some(sector);
+    Ok((Pass { seat: 0, lists }, Slot { home }))
+}
+
+// What is found of one pass and one sector.
+fn found(pass: &Pass, slot: &Slot, known: &Known, archive: &Archive) -> Option<Fault> {
+    let passes = std::slice::from_ref(pass);
+    let places = std::slice::from_ref(slot);
+    if pass.lists.len() != 1 {
+        return None;
+    }
+    disagreement(passes, 1, places, known, archive)
+}
+
+fn what_is_known(opening: &Opening) -> Result<Known, Fail> {
+    let Some(cells) = opening.terrain().sectors().first() else {
+        return Err("no sector")?;
+    };
+    Ok(Known {
+        base: cells.try_clone()?,
+        version: version(opening)?,
+        closed: 0,
+    })
+}

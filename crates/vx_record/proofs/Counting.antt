@@ -1,0 +1,114 @@
+-- Counts of the entries of each sector, with one tick more.
+use Rattle.std.proofs.Common.{◌≡◌, ℕ, zero, suc, ◌+◌, ◌≤◌, ◌<◌, List, [], ◌∷◌, ◌++◌, length, map, get_or, refl, sym, ap, ◌∙◌, arith, length-append, add_comm, subst, take}
+use Rattle.std.proofs.Math.ListN.{set}
+use Rattle.std.specs.List.{All}
+use Rattle.std.proofs.lemmas.Option.{unwrap_or-slice_get}
+use Rattle.std.proofs.lemmas.List.Elements.{All-same, All-map}
+use Rattle.vx_sector.specs.SectorData.{SectorData, EntryData}
+use Rattle.vx_sector.specs.Windows.{count_of, most_entries, renewed}
+use Rattle.vx_play.specs.Plays.{entries_of}
+use Rattle.vx_core.specs.Chronicles.{TickData, ChronicleData, IsTickOn, map_after}
+use Rattle.vx_core.proofs.Growing.{ticks_one_more}
+use Rattle.vx_record.specs.Said.{window_at, closed_at}
+use Rattle.vx_record.specs.Archives.{closed_of, IsCounted, IsArchive, IsNextTick, next_counts, CountsGoOn, CountsAgreeAgain}
+use Rattle.vx_record.proofs.Fronts.{closed_more}
+
+pub next_none : (counts : List ℕ) → next_counts counts [] ≡ counts
+next_none [] = refl
+next_none (n ∷ counts) = refl
+
+-- there are as many counts as before
+pub length_next : (counts : List ℕ) (windows : List (List EntryData))
+    → length (next_counts counts windows) ≡ length counts
+length_next [] windows = refl
+length_next (n ∷ counts) [] = refl
+length_next (n ∷ counts) (window ∷ windows) = ap suc (length_next counts windows)
+
+-- each is the count before and the entries of the window
+pub next_at : (counts : List ℕ) (windows : List (List EntryData)) (k : ℕ) → k < length counts
+    → get_or (next_counts counts windows) k 0 ≡ get_or counts k 0 + length (get_or windows k [])
+next_at [] windows k within = absurd (omega arith)
+next_at (n ∷ counts) [] k within = omega arith
+next_at (n ∷ counts) (window ∷ windows) zero within = refl
+next_at (n ∷ counts) (window ∷ windows) (suc k) within = next_at counts windows k (omega arith)
+
+-- the entries of one window more
+pub next_more : (counts : List ℕ) (windows : List (List EntryData)) (window : List EntryData)
+    → next_counts counts (windows ++ window ∷ [])
+    ≡ set (next_counts counts windows) (length windows)
+    (get_or (next_counts counts windows) (length windows) 0 + length window)
+next_more [] windows window = refl
+next_more (n ∷ counts) [] window = ap (λ rest. (n + length window) ∷ rest) (next_none counts)
+next_more (n ∷ counts) (first ∷ windows) window =
+    ap (λ rest. (n + length first) ∷ rest) (next_more counts windows window)
+
+-- the same where the number of the window is told
+pub next_more_at : (counts : List ℕ) (windows : List (List EntryData)) (window : List EntryData)
+    (k : ℕ) → length windows ≡ k
+    → next_counts counts (windows ++ window ∷ [])
+    ≡ set (next_counts counts windows) k (get_or (next_counts counts windows) k 0 + length window)
+next_more_at counts windows window k long =
+    subst (λ n. next_counts counts (windows ++ window ∷ [])
+    ≡ set (next_counts counts windows) n (get_or (next_counts counts windows) n 0 + length window))
+    long (next_more counts windows window)
+
+-- no window so far has changed the count at hand
+pub not_yet : (counts : List ℕ) (windows : List (List EntryData)) (k : ℕ)
+    → get_or (next_counts counts (take k windows)) k 0 ≡ get_or counts k 0
+not_yet [] windows k = refl
+not_yet (n ∷ counts) windows zero = refl
+not_yet (n ∷ counts) [] (suc k) = refl
+not_yet (n ∷ counts) (window ∷ windows) (suc k) = not_yet counts windows k
+
+-- so its entries have room where each count has in the end
+pub fits_at : (counts : List ℕ) (windows : List (List EntryData)) (k : ℕ) → k < length counts
+    → All (λ n. n ≤ most_entries) (next_counts counts windows)
+    → get_or (next_counts counts (take k windows)) k 0 + length (get_or windows k []) ≤ most_entries
+fits_at counts windows k within most =
+    let here : k < length (next_counts counts windows) =
+    omega (arith, length_next counts windows) in
+    omega (arith, most k 0 here, next_at counts windows k within, not_yet counts windows k)
+
+-- with one tick more, each count is still the number of that sector's entries
+pub counted_more : (counts : List ℕ) (ticks : List TickData) (tick : TickData)
+    → IsCounted counts ticks → IsCounted (next_counts counts tick.windows) (ticks ++ tick ∷ [])
+counted_more counts ticks tick counted k within =
+    let here : k < length counts = omega (arith, length_next counts tick.windows) in
+    next_at counts tick.windows k here
+    ∙ ap (λ n. n + length (get_or tick.windows k [])) (counted k here)
+    ∙ ap (λ w. length (closed_at k ticks) + length w) (sym (unwrap_or-slice_get tick.windows k []))
+    ∙ sym (length-append (closed_at k ticks) (window_at k tick))
+    ∙ ap length (sym (closed_more k ticks tick))
+
+-- an archive with its next tick is one
+pub archive_grown : (c : ChronicleData) (counts : List ℕ) (tick : TickData) → IsArchive c counts
+    → IsNextTick c tick
+    → IsArchive (record c { ticks = c.ticks ++ tick ∷ [] }) (next_counts counts tick.windows)
+archive_grown c counts tick archive next =
+    let names = c.opening.names in
+    let here : IsTickOn names (map_after c.opening.terrain c.ticks) (1 + length c.ticks) tick =
+    subst (λ n. IsTickOn names (map_after c.opening.terrain c.ticks) n tick) (add_comm (length c.ticks) 1) next in
+    record {
+      run = ticks_one_more names c.opening.terrain 1 c.ticks tick archive.run here;
+      each = length_next counts tick.windows ∙ archive.each;
+      counted = counted_more counts c.ticks tick archive.counted;
+    }
+
+pub counts_go_on : CountsGoOn
+counts_go_on [] = refl
+counts_go_on (s ∷ sectors) = λ i. add_comm s.closed (length s.entries) i ∷ counts_go_on sectors i
+
+pub counts_agree_again : CountsAgreeAgain
+unfolding renewed
+counts_agree_again version [] cells = refl
+counts_agree_again version (s ∷ sectors) [] =
+    ap (λ ns. count_of s ∷ ns) (counts_agree_again version sectors [])
+counts_agree_again version (s ∷ sectors) (c ∷ cells) =
+    ap (λ ns. count_of s ∷ ns) (counts_agree_again version sectors cells)
+
+-- the counts after sectors' windows fit where each sector's count does
+pub counts_fit : (sectors : List SectorData) → All (λ (s : SectorData). count_of s ≤ most_entries) sectors
+    → All (λ n. n ≤ most_entries) (next_counts (map closed_of sectors) (map entries_of sectors))
+counts_fit sectors all =
+    All-same (λ n. n ≤ most_entries) _ _ (counts_go_on sectors)
+    (All-map (λ n. n ≤ most_entries) count_of sectors all)

@@ -1,0 +1,5 @@
+pub mod Adding
+pub mod Counting
+pub mod Decided
+pub mod Fronts
+pub mod Showing

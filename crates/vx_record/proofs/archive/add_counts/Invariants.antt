@@ -1,0 +1,8 @@
+use Rattle.std.proofs.Common.{◌≡◌, map, take}
+use Rattle.vx_play.specs.Plays.{entries_in}
+use Rattle.vx_record.specs.Archives.{next_counts}
+use Rattle.vx_record.proofs.archive.add_counts.Given as goal
+
+-- the entries of the windows so far are counted
+abbrev pub invariant-loop-at : goal.invariant-loop-at
+invariant-loop-at l = l.counts ≡ next_counts l.fn.counts (map entries_in (take l.at l.windows))

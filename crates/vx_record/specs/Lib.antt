@@ -1,0 +1,5 @@
+pub mod Archives
+pub mod Calls
+pub mod Said
+pub mod Settling
+pub mod Spares

@@ -1,0 +1,30 @@
+//! The record of calls: what each player's own lists say, what the world's record says of a player,
+//! and how many entries of each sector are closed.
+#![tactic(auto)]
+
+mod archive;
+mod call;
+mod caller;
+mod fault;
+mod fitting;
+mod knowing;
+mod laws;
+mod lists;
+mod place;
+mod saying;
+mod seated;
+mod settling;
+mod spare;
+
+pub use archive::Archive;
+pub use call::Call;
+pub use caller::Caller;
+pub use fault::Fault;
+pub use fitting::counts_fit;
+pub use knowing::began_with;
+pub use laws::counts_go_on;
+pub use lists::Lists;
+pub use place::Place;
+pub use saying::says;
+pub use seated::are_seated;
+pub use settling::disagreement;

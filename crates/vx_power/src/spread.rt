@@ -344,6 +344,7 @@ impl Spread {
     }
 
     /// Reaches a position, if there is one.
+    #[inline(always)]
     pub fn reach_found<R: Region>(
         &mut self,
         region: &R,

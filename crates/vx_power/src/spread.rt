@@ -364,6 +364,7 @@ impl Spread {
     }
 
     // Gives a position this level, if the region has it and it has none.
+    #[inline(always)]
     fn reach<R: Region>(&mut self, region: &R, p: Pos, level: u8) -> Result<(), AllocError>
         requires place { is_place p ≡ true }
         requires some { 0 < level }

@@ -95,6 +95,7 @@ impl Cells {
     }
 
     /// The cell at a position of this sector.
+    #[inline(always)]
     pub fn get(&self, p: Pos) -> Cell
         requires { holds self.now p ≡ true }
         ensures { result ≡ cell_at self.now p }

@@ -122,6 +122,7 @@ impl<'a> Frozen<'a> {
     }
 
     /// The next position on that side, where the world has one.
+    #[inline(always)]
     #[tactic(auto, using(vx_base::proofs::Signed::signed))]
     pub fn next(&self, p: Pos, dir: Dir) -> Option<Pos>
         ensures value { SomeIff result (is_inside self.now.sizes (neighbor p dir) ≡ true)
@@ -140,6 +141,7 @@ impl<'a> Frozen<'a> {
     }
 
     /// The position over the next one on that side, where the world has one.
+    #[inline(always)]
     #[tactic(auto, using(vx_base::proofs::Signed::signed))]
     pub fn next_above(&self, p: Pos, dir: Dir) -> Option<Pos>
         ensures value { let over = neighbor (neighbor p dir) Up in
@@ -158,6 +160,7 @@ impl<'a> Frozen<'a> {
     }
 
     /// The position under the next one on that side, where the world has one.
+    #[inline(always)]
     #[tactic(auto, using(vx_base::proofs::Signed::signed))]
     pub fn next_below(&self, p: Pos, dir: Dir) -> Option<Pos>
         ensures value { let under = neighbor (neighbor p dir) Down in

@@ -36,6 +36,7 @@ pub fn fed_here(map: &Frozen<'_>, p: Pos) -> Option<Pos>
 }
 
 /// The dust at the next position in that direction.
+#[inline(always)]
 #[tactic(auto, unfolding(crate::specs::Spreading::dust_at), using(crate::proofs::Stepping::dust_place))]
 pub fn dust_at(map: &Frozen<'_>, p: Pos, dir: Dir) -> Option<Pos>
     ensures found { option_to_list result ≡ dust_at (cell_on map.now) p dir }
@@ -49,6 +50,7 @@ pub fn dust_at(map: &Frozen<'_>, p: Pos, dir: Dir) -> Option<Pos>
 }
 
 /// The dust to which dust at a position climbs on that side.
+#[inline(always)]
 #[tactic(auto, unfolding(crate::specs::Dust::links_up), using(crate::proofs::Stepping::dust_place))]
 pub fn dust_over(map: &Frozen<'_>, p: Pos, side: Side) -> Option<Pos>
     ensures found { option_to_list result
@@ -63,6 +65,7 @@ pub fn dust_over(map: &Frozen<'_>, p: Pos, side: Side) -> Option<Pos>
 }
 
 /// The dust to which dust at a position runs down on that side.
+#[inline(always)]
 #[tactic(auto, unfolding(crate::specs::Dust::links_down), using(crate::proofs::Stepping::dust_place))]
 pub fn dust_under(map: &Frozen<'_>, p: Pos, side: Side) -> Option<Pos>
     ensures found { option_to_list result

@@ -74,6 +74,7 @@ fn has_power_towards<L: Leveled>(
 
 /// Whether what stands in that direction from a position makes a lamp, a piston or a repeater there
 /// active.
+#[inline(always)]
 #[tactic(auto, unfolding(crate::specs::Signals::activates, crate::specs::Signals::is_powered, crate::specs::Signals::dust_powers))]
 pub fn activates<L: Leveled>(map: &Frozen<'_>, levels: &L, p: Pos, dir: Dir) -> bool
     ensures { result ≡ activates (cell_on map.now) (L.level levels.now) p dir }

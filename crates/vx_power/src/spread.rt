@@ -344,6 +344,7 @@ impl Spread {
     }
 
     /// Reaches a position, if there is one.
+    #[inline(always)]
     pub fn reach_found<R: Region>(
         &mut self,
         region: &R,
@@ -363,6 +364,7 @@ impl Spread {
     }
 
     // Gives a position this level, if the region has it and it has none.
+    #[inline(always)]
     fn reach<R: Region>(&mut self, region: &R, p: Pos, level: u8) -> Result<(), AllocError>
         requires place { is_place p ≡ true }
         requires some { 0 < level }

@@ -3,40 +3,27 @@ use Rattle.std.proofs.Common.{◌≡◌, ℕ, ◌+◌, ◌<◌, Bool, true, fals
 use Rattle.std.specs.List.{filter}
 use Rattle.std.specs.Option.{option_to_list}
 use Rattle.vx_geom.specs.declared.pos.Pos.{Pos}
-use Rattle.vx_geom.specs.Places.{positions}
-use Rattle.vx_block.specs.declared.cell.Cell.{Cell}
-use Rattle.vx_block.specs.declared.cell.Cell.TheVariants as cell
-use Rattle.vx_block.specs.Components.{is_device}
-use Rattle.vx_cells.specs.Listed.{devices_on}
 use Rattle.vx_cells.specs.Maps.{MapData, cell_on}
 use Rattle.vx_power.specs.Laws.{dust_level}
 use Rattle.vx_power.specs.Levels.{AreAllLevels}
 use Rattle.vx_part.specs.Changes.{changes}
-use Rattle.vx_piston.specs.Moves.{Moving, move_of, candidate}
+use Rattle.vx_piston.specs.Moves.{Moving, candidate}
 use Rattle.vx_step.specs.Ticks.{asked_before, asked}
 
-module _ (m : MapData) (level : Pos → ℕ) where
-  -- what is no device asks for nothing
-  asks_nothing : (p : Pos) (c : Cell) → is_device c ≡ false → move_of m level p c ≡ None
-  asks_nothing p (cell.Piston d sticky extended) is = cc
-  asks_nothing p (cell.Torch facing lit) is = cc
-  asks_nothing p (cell.Lever facing on) is = cc
-  asks_nothing p (cell.Repeater r) is = cc
-  asks_nothing p (cell.Lamp lamp) is = cc
-  asks_nothing p cell.Air is = refl
-  asks_nothing p cell.Stone is = refl
-  asks_nothing p cell.Dirt is = refl
-  asks_nothing p cell.Planks is = refl
-  asks_nothing p cell.Glass is = refl
-  asks_nothing p cell.Obsidian is = refl
-  asks_nothing p cell.Bedrock is = refl
-  asks_nothing p cell.Chest is = refl
-  asks_nothing p (cell.Dust l) is = refl
-  asks_nothing p (cell.Head facing sticky) is = refl
+-- a move, where there is one, before joined lists
+before_joined : (found : Option Moving) (xs ys : List Moving)
+    → asked_before found (xs ++ ys) ≡ asked_before found xs ++ ys
+before_joined None xs ys = refl
+before_joined (Some move) xs ys = refl
 
-  no_move : (p : Pos) → is_device (cell_on m p) ≡ false → candidate m level p ≡ None
-  unfolding candidate
-  no_move p is = asks_nothing p (cell_on m p) is
+module _ (m : MapData) (level : Pos → ℕ) where
+  -- what those of joined lists ask for is joined
+  pub asked_joined : (ps qs : List Pos)
+      → asked m level (ps ++ qs) ≡ asked m level ps ++ asked m level qs
+  asked_joined [] qs = refl
+  asked_joined (p ∷ ps) qs =
+      ap (asked_before (candidate m level p)) (asked_joined ps qs)
+      ∙ before_joined (candidate m level p) (asked m level ps) (asked m level qs)
 
   module _ (keep : Pos → Bool) (none : (p : Pos) → keep p ≡ false → candidate m level p ≡ None) where
     -- one more position before others, kept or not
@@ -51,23 +38,7 @@ module _ (m : MapData) (level : Pos → ℕ) where
     kept_ask [] = refl
     kept_ask (p ∷ ps) = more p ps (keep p) refl (kept_ask ps)
 
-  -- so others than devices may be
-  devices_ask : (ps : List Pos)
-      → asked m level (filter (λ p. is_device (cell_on m p)) ps) ≡ asked m level ps
-  devices_ask = kept_ask (λ p. is_device (cell_on m p)) no_move
-
-  -- the devices of a sector ask for what all its positions do
-  pub all_asked : (k : ℕ) (ps qs : List Pos) → ps ≡ qs → qs ≡ devices_on m k
-      → asked m level ps ≡ asked m level (positions m.sizes k)
-  unfolding devices_on
-  all_asked k ps qs given listed =
-      ap (asked m level) (given ∙ listed) ∙ devices_ask (positions m.sizes k)
-
   -- by levels that are those of the map, all is as by these
-  pub asked_exact : (ps : List Pos) → AreAllLevels m level
-      → asked m level ps ≡ asked m (dust_level (cell_on m)) ps
-  asked_exact ps same = λ i. asked m (λ p. same p i) ps
-
   pub changes_exact : (ps : List Pos) → AreAllLevels m level
       → changes (cell_on m) level ps ≡ changes (cell_on m) (dust_level (cell_on m)) ps
   changes_exact ps same = λ i. changes (cell_on m) (λ p. same p i) ps

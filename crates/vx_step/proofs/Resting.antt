@@ -1,15 +1,15 @@
 -- Where a map rests nothing changes and no piston moves, so a tick need not look there.
-use Rattle.std.proofs.Common.{◌≡◌, ℕ, zero, suc, ◌<◌, ◌≤◌, Bool, true, false, cond, List, [], ◌∷◌, Some, inl, inr, refl, sym, ap, ◌∙◌, subst, arith}
+use Rattle.std.proofs.Common.{◌≡◌, ℕ, zero, suc, ◌<◌, ◌≤◌, Bool, true, false, cond, List, [], ◌∷◌, ◌++◌, Some, inl, inr, refl, sym, ap, ◌∙◌, subst, arith}
 use Rattle.std.specs.List.{All, filter}
-use Rattle.std.proofs.lemmas.List.Elements.{filter_passes}
-use Rattle.std.proofs.lemmas.Bool.{cases_Bool, cases_eq, and_from, false≢true, or_left, or_right}
+use Rattle.std.proofs.lemmas.List.Elements.{All-append, filter_passes}
+use Rattle.std.proofs.lemmas.Bool.{cases_Bool, cases_eq, and_from, false≢true, or_parts, or_left, or_right}
 use Rattle.vx_geom.specs.declared.pos.Pos.{Pos}
 use Rattle.vx_geom.specs.Places.{positions}
 use Rattle.vx_geom.specs.Sizes.{Sizes, AreSizes, is_inside, sector_count, sector_number, sector_of}
 use Rattle.vx_block.specs.declared.cell.Cell.{Cell}
 use Rattle.vx_block.specs.declared.cell.Cell.TheVariants as cell
-use Rattle.vx_block.specs.Components.{is_device}
-use Rattle.vx_cells.specs.Listed.{devices_on}
+use Rattle.vx_block.specs.Components.{is_component, is_device, is_dust}
+use Rattle.vx_cells.specs.Listed.{components_on}
 use Rattle.vx_cells.specs.Maps.{MapData, cell_on}
 use Rattle.vx_cells.proofs.Indices.{numbered, number_below}
 use Rattle.vx_cells.proofs.MapLemmas.{outside_is_air}
@@ -18,12 +18,12 @@ use Rattle.vx_power.specs.Levels.{AreAllLevels, has}
 use Rattle.vx_power.proofs.Feeding.{is_listed}
 use Rattle.vx_power.proofs.Having.{has_filter, has_from, has_joined}
 use Rattle.vx_part.specs.Changes.{changes}
-use Rattle.vx_part.proofs.Changing.{kept_change}
+use Rattle.vx_part.proofs.Changing.{components_change, kept_change}
 use Rattle.vx_piston.specs.Moves.{is_restless, restless_as}
 use Rattle.vx_piston.proofs.Restless.{others_stay}
-use Rattle.vx_step.specs.Pieces.{asked_in, changed_in, restless_in, restless_up_to}
-use Rattle.vx_step.specs.Ticks.{asked}
-use Rattle.vx_step.proofs.Asking.{kept_ask, asked_exact, changes_exact}
+use Rattle.vx_step.specs.Pieces.{changed_in, restless_in, restless_up_to}
+use Rattle.vx_step.specs.Ticks.{asked, asked_up_to}
+use Rattle.vx_step.proofs.Asking.{asked_joined, kept_ask, changes_exact}
 use Rattle.vx_wake.specs.Waking.{IsSettled}
 
 -- what is left out passes no test, so it may be left out before the test
@@ -68,15 +68,29 @@ pub restless_exact : (m : MapData) (level : Pos → ℕ) (ps : List Pos) → Are
     ≡ filter (is_restless (cell_on m) (dust_level (cell_on m))) ps
 restless_exact m level ps same = λ i. filter (is_restless (cell_on m) (λ p. same p i)) ps
 
--- the devices of a sector that would move are all of the sector that would
-pub devices_restless : (m : MapData) (level : Pos → ℕ) (k : ℕ) (ps : List Pos) → AreAllLevels m level
-    → ps ≡ devices_on m k → filter (is_restless (cell_on m) level) ps ≡ restless_in m k
-unfolding devices_on
-devices_restless m level k ps exact listed =
-    restless_exact m level ps exact
-    ∙ ap (filter (is_restless (cell_on m) (dust_level (cell_on m)))) listed
-    ∙ kept_pass (λ p. is_device (cell_on m p)) (is_restless (cell_on m) (dust_level (cell_on m)))
-    (no_device_still (cell_on m) (dust_level (cell_on m))) (positions m.sizes k)
+-- what is no component is no device
+no_device : (c : Cell) → is_component c ≡ false → is_device c ≡ false
+no_device c is = (or_parts (is_dust c) (is_device c) is).1
+
+module _ (m : MapData) (level : Pos → ℕ) (k : ℕ) (ps : List Pos) (exact : AreAllLevels m level)
+    (listed : ps ≡ components_on m k) where
+  -- the components of a sector that would move are all of the sector that would
+  pub components_restless : filter (is_restless (cell_on m) level) ps ≡ restless_in m k
+  unfolding components_on
+  components_restless =
+      restless_exact m level ps exact
+      ∙ ap (filter (is_restless (cell_on m) (dust_level (cell_on m)))) listed
+      ∙ kept_pass (λ p. is_component (cell_on m p)) (is_restless (cell_on m) (dust_level (cell_on m)))
+      (λ p is. no_device_still (cell_on m) (dust_level (cell_on m)) p (no_device (cell_on m p) is))
+      (positions m.sizes k)
+
+  -- what changes among them is all that changes there
+  pub components_changes : changes (cell_on m) level ps ≡ changed_in m k
+  unfolding components_on
+  components_changes =
+      changes_exact m level ps exact
+      ∙ ap (changes (cell_on m) (dust_level (cell_on m))) listed
+      ∙ components_change (cell_on m) (dust_level (cell_on m)) (positions m.sizes k)
 
 -- each that was found would move
 pub found_restless : (m : MapData) (level : Pos → ℕ) (ps found : List Pos)
@@ -91,6 +105,23 @@ pub restless_ask : (m : MapData) (level : Pos → ℕ) (ps : List Pos)
     → asked m level (filter (is_restless (cell_on m) level) ps) ≡ asked m level ps
 restless_ask m level = kept_ask m level (is_restless (cell_on m) level) (others_stay m level)
 
+-- those of the first sectors that would move ask for all that any there ask for
+pub all_restless_ask : (m : MapData) (n : ℕ)
+    → asked m (dust_level (cell_on m)) (restless_up_to m n) ≡ asked_up_to m n
+all_restless_ask m zero = refl
+all_restless_ask m (suc n) =
+    let level = dust_level (cell_on m) in
+    asked_joined m level (restless_up_to m n) (restless_in m n)
+    ∙ (λ i. all_restless_ask m n i ++ restless_ask m level (positions m.sizes n) i)
+
+-- and each of them would
+pub all_would_move : (m : MapData) (n : ℕ)
+    → All (λ p. is_restless (cell_on m) (dust_level (cell_on m)) p ≡ true) (restless_up_to m n)
+all_would_move m zero = found_restless m (dust_level (cell_on m)) [] [] refl
+all_would_move m (suc n) =
+    All-append (λ p. is_restless (cell_on m) (dust_level (cell_on m)) p ≡ true) (restless_up_to m n) (restless_in m n) (all_would_move m n)
+    (filter_passes (is_restless (cell_on m) (dust_level (cell_on m))) (positions m.sizes n))
+
 module _ (m : MapData) (level : Pos → ℕ) (exact : AreAllLevels m level) (keep : Pos → Bool)
     (settled : IsSettled m keep) (k : ℕ) (v : Sizes) (ps : List Pos) (sizes : v ≡ m.sizes)
     (kept : ps ≡ filter keep (positions v k)) where
@@ -103,15 +134,6 @@ module _ (m : MapData) (level : Pos → ℕ) (exact : AreAllLevels m level) (kee
       changes_exact m level ps exact
       ∙ ap (changes (cell_on m) (dust_level (cell_on m))) these
       ∙ kept_change (cell_on m) (dust_level (cell_on m)) keep (λ p away. (settled p away).part)
-      (positions m.sizes k)
-
-  -- and what pistons there ask for is all that any of the sector asks for
-  pub kept_asked : asked m level ps ≡ asked_in m k
-  kept_asked =
-      asked_exact m level ps exact
-      ∙ ap (asked m (dust_level (cell_on m))) these
-      ∙ kept_ask m (dust_level (cell_on m)) keep
-      (λ p away. others_stay m (dust_level (cell_on m)) p (settled p away).piston)
       (positions m.sizes k)
 
   -- and those that would move are all of the sector that would

@@ -1,5 +1,5 @@
 ghost use Rattle.std.specs.Prelude.{◌≡◌, ◌<◌, ℕ, true, IfOk};
-ghost use Rattle.std.specs.List.{All, filter};
+ghost use Rattle.std.specs.List.{All};
 ghost use Rattle.vx_cells.specs.Maps.{MapData, cell_on};
 ghost use Rattle.vx_geom.specs.declared.pos.Pos.{Pos};
 ghost use Rattle.vx_geom.specs.Sizes.{sector_count};
@@ -10,12 +10,12 @@ ghost use Rattle.vx_wake.specs.Waking.{IsSettled};
 ghost use Rattle.vx_step.specs.Pieces.{asked_in, changed_in, restless_in, restless_up_to};
 ghost use Rattle.vx_step.specs.Ticks.{asked, asked_up_to, changed_up_to, AreMoves};
 
+use crate::seen::Seen;
 use std::alloc::{AllocError, Global};
 use vx_block::Cell;
 use vx_cells::Frozen;
 use vx_geom::Pos;
-use vx_part::{changes_among, next_parts};
-use vx_piston::{Move, asked_by, is_restless};
+use vx_piston::{Move, asked_by};
 use vx_places::Places;
 use vx_power::{Leveled, Levels};
 
@@ -41,21 +41,11 @@ impl Found {
             found.restless.items ≡ restless_up_to map.now (sector_count map.now.sizes)) }
         ensures moves { IfOk result (λ found. AreMoves map.now found.moves.items) }
     {
-        let mut changes = Vec::new(alloc);
-        let mut restless = Vec::new(alloc);
-        let mut moves = Vec::new(alloc);
+        let mut seen = Seen::nothing(alloc);
         for sector in 0..map.bounds().sectors() {
-            let mut found = Found::in_sector(alloc, map, levels, sector)?;
-            changes.append(&mut found.changes)?;
-            restless.append(&mut found.restless)?;
-            moves.append(&mut found.moves)?;
+            seen.add_sector(alloc, map, levels, sector)?;
         }
-        sort(&mut moves);
-        Ok(Found {
-            changes,
-            restless,
-            moves,
-        })
+        Found::by(alloc, map, seen)
     }
 
     /// The same by the places outside which a map rests. It costs what those are.
@@ -74,45 +64,28 @@ impl Found {
             found.restless.items ≡ restless_up_to map.now (sector_count map.now.sizes)) }
         ensures moves { IfOk result (λ found. AreMoves map.now found.moves.items) }
     {
-        let mut changes = Vec::new(alloc);
-        let mut restless = Vec::new(alloc);
-        let mut moves = Vec::new(alloc);
+        let mut seen = Seen::nothing(alloc);
         for number in 0..map.bounds().sectors() {
-            let mut here = Found::at(alloc, map, levels, places, number)?;
-            changes.append(&mut here.changes)?;
-            restless.append(&mut here.restless)?;
-            moves.append(&mut here.moves)?;
+            seen.add_places(alloc, map, levels, places, number)?;
         }
-        sort(&mut moves);
-        Ok(Found {
-            changes,
-            restless,
-            moves,
-        })
+        Found::by(alloc, map, seen)
     }
 
-    // What a tick finds in a sector by those places.
-    fn at<L: Leveled>(
-        alloc: Global,
-        map: &Frozen<'_>,
-        levels: &L,
-        places: &Places,
-        sector: u32,
-    ) -> Result<Found, AllocError>
-        requires there { sector < sector_count map.now.sizes }
-        requires levels { AreAllLevels map.now (L.level levels.now) }
-        requires sizes { places.now.sizes ≡ map.now.sizes }
-        requires settled { IsSettled map.now (is_at places.now) }
+    // The same by what was seen in all sectors.
+    fn by(alloc: Global, map: &Frozen<'_>, seen: Seen) -> Result<Found, AllocError>
+        requires changes { seen.changes.items
+            ≡ changed_up_to map.now (sector_count map.now.sizes) }
+        requires restless { seen.restless.items
+            ≡ restless_up_to map.now (sector_count map.now.sizes) }
         ensures changes { IfOk result (λ found.
-            found.changes.items ≡ changed_in map.now sector) }
+            found.changes.items ≡ changed_up_to map.now (sector_count map.now.sizes)) }
         ensures restless { IfOk result (λ found.
-            found.restless.items ≡ restless_in map.now sector) }
-        ensures moves { IfOk result (λ found. found.moves.items ≡ asked_in map.now sector) }
+            found.restless.items ≡ restless_up_to map.now (sector_count map.now.sizes)) }
+        ensures moves { IfOk result (λ found. AreMoves map.now found.moves.items) }
     {
-        let here = places.in_sector(alloc, sector)?;
-        let changes = changes_among(alloc, map, levels, here.as_slice())?;
-        let restless = restless_among(alloc, map, levels, here.as_slice())?;
-        let moves = moves_among(alloc, map, restless.as_slice())?;
+        let Seen { changes, restless } = seen;
+        let mut moves = moves_among(alloc, map, restless.as_slice())?;
+        sort(&mut moves);
         Ok(Found {
             changes,
             restless,
@@ -136,9 +109,9 @@ impl Found {
             found.restless.items ≡ restless_in map.now sector) }
         ensures moves { IfOk result (λ found. found.moves.items ≡ asked_in map.now sector) }
     {
-        let changes = next_parts(alloc, map, levels, sector)?;
-        let devices = map.devices(alloc, sector)?;
-        let restless = restless_among(alloc, map, levels, devices.as_slice())?;
+        let mut here = Seen::nothing(alloc);
+        here.add_sector(alloc, map, levels, sector)?;
+        let Seen { changes, restless } = here;
         let moves = moves_among(alloc, map, restless.as_slice())?;
         Ok(Found {
             changes,
@@ -156,32 +129,13 @@ pub fn sort(moves: &mut Vec<Move>)
     moves.sort_unstable_by_key(|m| m.at);
 }
 
-// The pistons at these positions that would move, in their order.
-fn restless_among<L: Leveled>(
-    alloc: Global,
-    map: &Frozen<'_>,
-    levels: &L,
-    positions: &[Pos],
-) -> Result<Vec<Pos>, AllocError>
-    ensures { IfOk result (λ found. found.items
-        ≡ filter (is_restless (cell_on map.now) (L.level levels.now)) positions.now) }
-{
-    let mut found = Vec::new(alloc);
-    for p in positions {
-        if is_restless(map, levels, *p) {
-            found.push(*p)?;
-        }
-    }
-    Ok(found)
-}
-
 // The moves that these pistons ask for, each of which would move, in their order.
 fn moves_among(alloc: Global, map: &Frozen<'_>, restless: &[Pos]) -> Result<Vec<Move>, AllocError>
     ensures { IfOk result (λ moves. (level : Pos → ℕ)
         → All (λ p. is_restless (cell_on map.now) level p ≡ true) restless.now
         → moves.items ≡ asked map.now level restless.now) }
 {
-    let mut moves = Vec::new(alloc);
+    let mut moves = Vec::with_capacity(alloc, restless.len())?;
     for p in restless {
         if let Some(m) = asked_by(map, *p) {
             moves.push(m)?;

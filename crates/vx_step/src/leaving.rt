@@ -48,9 +48,23 @@ fn left_by_parts(
 {
     let mut waking = Waking::nothing(alloc);
     for (p, cell) in changes {
-        add_change(&mut waking, *p, cell, map.cell(*p))?;
+        look(&mut waking, map, *p, cell)?;
     }
     Ok(waking)
+}
+
+// Adds a position at which this cell stands now. Dust in place of dust shows the same, and the cell
+// that was there is not looked up.
+fn look(waking: &mut Waking, map: &Frozen<'_>, p: Pos, cell: &Cell) -> Result<(), AllocError>
+    ensures changed { OnOk result (waking.new.changed ≡ waking.old.changed
+        ++ shown_changes (cell_on map.now) ((p, cell.now) ∷ [])) }
+    ensures besides { OnOk result (waking.new.besides ≡ waking.old.besides
+        ++ hidden_changes (cell_on map.now) ((p, cell.now) ∷ [])) }
+{
+    if cell.is_dust() && map.has_dust(p) {
+        return Ok(());
+    }
+    add_change(waking, p, cell, map.cell(p))
 }
 
 // Adds a position at which one cell has become another.

@@ -19,6 +19,7 @@ mod phase;
 mod planned;
 mod planning;
 mod point;
+mod seen;
 mod shares;
 mod standing;
 mod stepping;

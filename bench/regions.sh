@@ -90,7 +90,7 @@ row() {
     "$program" <"$script" >"$work/theirs"
     "$server" <"$script" >"$work/ours"
     cmp -s "$work/ours" "$work/theirs" || line="$line replies_differ"
-    for turn in 1 2 3 4 5; do
+    for turn in $(seq 15); do
       echo "$(microseconds "$server" "$script") $(microseconds "$program" "$script")"
     done >"$work/times"
     line="$line $(awk '{ if (NR == 1 || $1 < a) a = $1; if (NR == 1 || $2 < b) b = $2 } END { printf "%d %d %.2f", a, b, a / b }' "$work/times")"

@@ -7,7 +7,7 @@ use vx_flag::Flag;
 use vx_region::{RegionNo, RegionSet};
 
 /// The flags that no region sets, nor the world at large. It costs a look at each region for each
-/// flag.
+/// flag. That none of these is left out is not said: only costs rest on it.
 pub fn unset_flags(alloc: Global, regions: &RegionSet) -> Result<Vec<Flag>, AllocError>
     ensures { IfOk result (λ unset. All (IsUnset regions.now) unset.items) }
 {

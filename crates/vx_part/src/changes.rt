@@ -35,9 +35,9 @@ pub fn next_parts<L: Leveled>(
     changes_among(alloc, map, levels, components.as_slice())
 }
 
-/// The cells at these positions that are others after the tick, pistons left out, each beside its
-/// position, in their order.
-pub fn changes_among<L: Leveled>(
+// The cells at these positions that are others after the tick, pistons left out, each beside its
+// position, in their order.
+fn changes_among<L: Leveled>(
     alloc: Global,
     map: &Frozen<'_>,
     levels: &L,
@@ -48,20 +48,22 @@ pub fn changes_among<L: Leveled>(
 {
     let mut found = Vec::new(alloc);
     for p in positions {
-        if let Some(cell) = change(map, levels, *p) {
+        if let Some(cell) = change(map, levels, *p, &map.cell(*p)) {
             found.push((*p, cell))?;
         }
     }
     Ok(found)
 }
 
-// What stands at a position after the tick, where that is another cell.
-fn change<L: Leveled>(map: &Frozen<'_>, levels: &L, p: Pos) -> Option<Cell>
+/// What this cell, which stands at a position, is after the tick, pistons left out, where that is
+/// another cell. It takes no memory.
+#[tactic(auto, unfolding(crate::specs::Changes::change_at))]
+pub fn change<L: Leveled>(map: &Frozen<'_>, levels: &L, p: Pos, cell: &Cell) -> Option<Cell>
+    requires { cell.now ≡ cell_on map.now p }
     ensures { result ≡ change_at (cell_on map.now) (L.level levels.now) p }
 {
-    let now = map.cell(p);
-    let next = next_of(map, levels, p, now);
-    if is_same(&next, &now) {
+    let next = next_of(map, levels, p, *cell);
+    if is_same(&next, cell) {
         return None;
     }
     Some(next)

@@ -6,7 +6,7 @@ mod laws;
 mod parts;
 mod repeaters;
 
-pub use changes::{changes_among, next_parts};
+pub use changes::{change, next_parts};
 pub use laws::{
     dust_keeps_torches_invert, lamps_go_out_late, other_cells_stay, parts_read_four_steps,
     parts_read_what_is_shown, repeaters_delay_and_lock,

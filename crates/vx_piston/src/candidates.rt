@@ -21,7 +21,7 @@ const MAX_ROW: u8 = 13;
 pub fn candidate<L: Leveled>(map: &Frozen<'_>, levels: &L, p: Pos) -> Option<Move>
     ensures { result ≡ candidate map.now (L.level levels.now) p }
 {
-    if is_restless(map, levels, p) {
+    if is_restless(map, levels, p, &map.cell(p)) {
         asked_by(map, p)
     } else {
         None
@@ -46,12 +46,14 @@ pub fn asked_by(map: &Frozen<'_>, p: Pos) -> Option<Move>
     }
 }
 
-/// Whether the piston at a position would move, if what stands before it let it. It takes no memory.
+/// Whether this cell, which stands at a position, is a piston that would move, if what stands
+/// before it let it. It takes no memory.
 #[tactic(auto, unfolding(crate::specs::Moves::is_restless))]
-pub fn is_restless<L: Leveled>(map: &Frozen<'_>, levels: &L, p: Pos) -> bool
+pub fn is_restless<L: Leveled>(map: &Frozen<'_>, levels: &L, p: Pos, cell: &Cell) -> bool
+    requires { cell.now ≡ cell_on map.now p }
     ensures { result ≡ is_restless (cell_on map.now) (L.level levels.now) p }
 {
-    match map.cell(p) {
+    match *cell {
         Cell::Piston {
             facing,
             extended,

@@ -44,7 +44,8 @@ impl Policy {
         &self.regions
     }
 
-    /// Whether another copy shares the regions now, so that the first change would copy the set.
+    /// Whether another copy shares the regions now, so that the first change would copy the set. No
+    /// clause says so: only costs rest on it.
     pub fn is_shared(&self) -> bool {
         1 < Arc::strong_count(&self.regions)
     }

@@ -17,7 +17,7 @@ use std::marker::Model;
 use vx_flag::{Flag, Setting, Settings};
 use vx_geom::{Pos, Shape};
 
-/// So few names are few.
+/// Up to so many names are compared one by one.
 const FEW: usize = 8;
 
 /// A region: where it lies, its priority and its parent, who its owners and its members are, and

@@ -13,11 +13,11 @@ ghost use Rattle.vx_step.specs.Pieces.{changed_in, restless_in};
 
 use std::alloc::{AllocError, Global};
 use vx_block::{Cell, Level};
-use vx_cells::{Frozen, is_same};
+use vx_cells::Frozen;
 use vx_geom::Pos;
-use vx_part::next_part;
+use vx_piston::is_restless;
 use vx_places::Places;
-use vx_power::{Leveled, active};
+use vx_power::Leveled;
 
 /// What a tick sees at some positions of a map as it begins, in their order.
 #[derive(Drop)]
@@ -118,23 +118,6 @@ impl Seen {
     }
 }
 
-// Whether this cell, which stands at a position, is a piston that would move, if what stands before
-// it let it.
-#[tactic(auto, unfolding(vx_piston::specs::Moves::is_restless))]
-fn is_restless<L: Leveled>(map: &Frozen<'_>, levels: &L, p: Pos, cell: &Cell) -> bool
-    requires { cell.now ≡ cell_on map.now p }
-    ensures { result ≡ is_restless (cell_on map.now) (L.level levels.now) p }
-{
-    match *cell {
-        Cell::Piston {
-            facing,
-            extended,
-            ..
-        } => extended != active(map, levels, p, Some(facing)),
-        _ => false,
-    }
-}
-
 // What this cell, which stands at a position, is after the tick, pistons left out, where that is
 // another cell.
 #[tactic(auto, unfolding(vx_part::specs::Changes::change_at, vx_part::specs::Parts::next_of))]
@@ -145,7 +128,7 @@ fn change<L: Leveled>(map: &Frozen<'_>, levels: &L, p: Pos, cell: &Cell) -> Opti
     match *cell {
         Cell::Dust(level) => changed_dust(level, levels.at(p)),
         Cell::Piston { .. } => None,
-        _ => changed_part(map, levels, p, cell),
+        _ => vx_part::change(map, levels, p, cell),
     }
 }
 
@@ -159,19 +142,5 @@ fn changed_dust(was: Level, now: u8) -> Option<Cell>
         None
     } else {
         Some(Cell::Dust(Level::new(now)))
-    }
-}
-
-// The same of any cell, which is compared with its next part.
-#[tactic(auto, unfolding(vx_part::specs::Changes::change_at))]
-fn changed_part<L: Leveled>(map: &Frozen<'_>, levels: &L, p: Pos, cell: &Cell) -> Option<Cell>
-    requires { cell.now ≡ cell_on map.now p }
-    ensures { result ≡ change_at (cell_on map.now) (L.level levels.now) p }
-{
-    let next = next_part(map, levels, p);
-    if is_same(&next, cell) {
-        None
-    } else {
-        Some(next)
     }
 }

@@ -8,7 +8,7 @@ use Rattle.std.proofs.lemmas.Option.{slice_get_past, slice_get_read}
 use Rattle.vx_block.specs.declared.cell.Cell.TheVariants.{Air}
 use Rattle.vx_geom.specs.declared.pos.Pos.{Pos}
 use Rattle.vx_geom.specs.Sizes.{Sizes, AreSizes, is_below, is_inside, sector_number, sector_of}
-use Rattle.vx_geom.proofs.SectorLemmas.{below_from, inside_at}
+use Rattle.vx_geom.proofs.SectorLemmas.{below_from, held_at, in_sector, inside_at}
 use Rattle.vx_cells.specs.SectorCells.{SectorCells, holds, cell_at}
 use Rattle.vx_cells.specs.Maps.{MapData, AreFrom, AreSectors, sector_at, cell_in, cell_on, far, is_near}
 
@@ -32,6 +32,12 @@ pub there : (cs : List SectorCells) (k : ℕ) (c : SectorCells)
     → true ≡ nat_lt k (length cs) → c ≡ get_or cs k c → slice_get cs k ≡ Some c
 there cs k c within value =
     slice_get_read cs (length cs) k c refl (ltb-true k (length cs) (sym within)) value
+
+-- the sector of a position's number is there
+pub is_there : (sizes : Sizes) (cs : List SectorCells) (p : Pos) (k : ℕ) → sector_of sizes p ≡ Some k → AreSectors sizes cs → k < length cs
+is_there sizes cs p k found whole =
+    let below = (in_sector sizes p k whole.valid (held_at sizes p k whole.valid found)).0 in
+    omega (arith, below, whole.all)
 
 module _ (m : MapData) (p : Pos) (k : ℕ) (in_sector : sector_of m.sizes p ≡ Some k) where
   -- the sector of a position's number holds it

@@ -7,6 +7,7 @@ mod code;
 mod frozen;
 mod laws;
 mod marked;
+mod puts;
 mod stack;
 mod whole;
 
@@ -15,5 +16,6 @@ pub use code::is_same;
 pub use frozen::Frozen;
 pub use laws::{equal_is_the_same, other_blocks_stay, put_cell_is_read, set_block_is_read};
 pub use marked::marked_places;
+pub use puts::put_all;
 pub use stack::{MAX_COUNT, SLOTS, Slot, Stack};
 pub use whole::Whole;

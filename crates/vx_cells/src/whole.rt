@@ -4,6 +4,7 @@ ghost use Rattle.vx_cells.specs.Wholes.{airs, bare, with_cell_on, IsMap};
 
 use crate::cells::Cells;
 use crate::frozen::Frozen;
+use crate::puts::{set, set_all};
 use std::alloc::{AllocError, Global};
 use std::marker::Model;
 use vx_block::Cell;
@@ -66,23 +67,12 @@ impl Whole {
 
     /// Puts a cell down at a position, in place of what was there before; a chest begins empty.
     /// `Ok(false)` outside the world.
-    #[tactic(auto, unfolding(crate::specs::Wholes::with_cell_on))]
     pub fn set(&mut self, p: Pos, cell: Cell) -> Result<bool, AllocError>
         ensures set { result ≡ Ok true → with_cell_on self.old p cell ≡ Some self.new }
         ensures outside { result ≡ Ok false → with_cell_on self.old p cell ≡ None }
         ensures kept { result ≢ Ok true → self.new ≡ self.old }
     {
-        let Some(number) = self.bounds.sector_of(p) else {
-            return Ok(false);
-        };
-        let Some(cells) = self.sectors.get_mut(number as usize) else {
-            return Ok(false);
-        };
-        if !cells.holds(p) {
-            return Ok(false);
-        }
-        cells.set(p, cell)?;
-        Ok(true)
+        set(self.bounds, &mut self.sectors, p, cell)
     }
 
     /// Puts these cells down one after another, and leaves out those outside the world. Where
@@ -90,10 +80,7 @@ impl Whole {
     pub fn set_all(&mut self, cells: &[(Pos, Cell)]) -> Result<(), AllocError>
         ensures { OnOk result (self.new ≡ with_cells_on self.old cells.now) }
     {
-        for (p, cell) in cells {
-            self.set(*p, *cell)?;
-        }
-        Ok(())
+        set_all(self.bounds, &mut self.sectors, cells)
     }
 
     /// The map as it stands. Nothing is copied.

@@ -1,0 +1,68 @@
+//! Cells put down on the sectors of a world that stand in a slice.
+ghost use Rattle.std.specs.Prelude.{◌≡◌, ◌≢◌, true, false, Some, None, Ok, IsOk, OnOk};
+ghost use Rattle.std.specs.List.{All};
+ghost use Rattle.vx_cells.specs.Maps.{AreSectors};
+ghost use Rattle.vx_cells.specs.SectorCells.{is_chest};
+ghost use Rattle.vx_cells.specs.Wholes.{with_cell_on, with_cells_on};
+
+use crate::cells::Cells;
+use std::alloc::AllocError;
+use vx_block::Cell;
+use vx_geom::{Bounds, Pos};
+
+/// Puts these cells down one after another on the sectors of a world of this size, and leaves out
+/// those outside it. No chest is among them, so it takes no memory.
+pub fn put_all(bounds: Bounds, sectors: &mut [Cells], puts: &[(Pos, Cell)])
+    requires sectors { AreSectors bounds sectors.old }
+    requires chests { All (λ put. is_chest put.1 ≡ false) puts.now }
+    ensures put { record { sizes = bounds; sectors = sectors.new }
+        ≡ with_cells_on (record { sizes = bounds; sectors = sectors.old }) puts.now }
+    ensures placed { AreSectors bounds sectors.new }
+{
+    let _ = set_all(bounds, sectors, puts);
+}
+
+// Puts these cells down one after another, and leaves out those outside the world. Where memory is
+// wanted, the first of them may be put down; chests alone want it.
+pub(crate) fn set_all(
+    bounds: Bounds,
+    sectors: &mut [Cells],
+    cells: &[(Pos, Cell)],
+) -> Result<(), AllocError>
+    requires { AreSectors bounds sectors.old }
+    ensures set { OnOk result (record { sizes = bounds; sectors = sectors.new }
+        ≡ with_cells_on (record { sizes = bounds; sectors = sectors.old }) cells.now) }
+    ensures always { All (λ put. is_chest put.1 ≡ false) cells.now → IsOk result }
+    ensures placed { AreSectors bounds sectors.new }
+{
+    for (p, cell) in cells {
+        set(bounds, sectors, *p, *cell)?;
+    }
+    Ok(())
+}
+
+// Puts a cell down at a position, in place of what was there before; a chest begins empty, and it
+// alone wants memory. `Ok(false)` outside the world.
+#[tactic(auto, unfolding(crate::specs::Wholes::with_cell_on))]
+pub(crate) fn set(
+    bounds: Bounds,
+    sectors: &mut [Cells],
+    p: Pos,
+    cell: Cell,
+) -> Result<bool, AllocError>
+    requires { AreSectors bounds sectors.old }
+    ensures set { result ≡ Ok true
+        → with_cell_on (record { sizes = bounds; sectors = sectors.old }) p cell
+        ≡ Some (record { sizes = bounds; sectors = sectors.new }) }
+    ensures outside { result ≡ Ok false
+        → with_cell_on (record { sizes = bounds; sectors = sectors.old }) p cell ≡ None }
+    ensures kept { result ≢ Ok true → sectors.new ≡ sectors.old }
+    ensures always { is_chest cell ≡ false → IsOk result }
+    ensures placed { AreSectors bounds sectors.new }
+{
+    let Some(number) = bounds.sector_of(p) else {
+        return Ok(false);
+    };
+    sectors[number as usize].set(p, cell)?;
+    Ok(true)
+}

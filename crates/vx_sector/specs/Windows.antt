@@ -106,11 +106,15 @@ IsCovered base cells (entry ∷ entries) =
     → is_chest (cell_at base (place_of entry.cmd)) ≡ true)
     × IsCovered base cells entries
 
--- the base that was made suits a sector: a copy of its cells, or none where each chest that a
--- command left stands over one of the base
+-- what was made brings the base up to the cells that the entries leave: a copy of them, or none
+-- where each chest that an entry left stands over one of the base
+abbrev pub Suits : Option SectorCells → SectorCells → SectorCells → List EntryData → Type 0
+Suits None base cells entries = IsCovered base cells entries
+Suits (Some copy) base cells entries = copy ≡ cells
+
+-- the base that was made suits a sector
 abbrev pub IsNextBase : Option SectorCells → SectorData → Type 0
-IsNextBase None s = IsCovered s.base s.cells s.entries
-IsNextBase (Some base) s = base ≡ s.cells
+IsNextBase next s = Suits next s.base s.cells s.entries
 
 -- what is made for the next window suits a sector as it is: a copy of the cells takes the base's
 -- place, or the base is brought up to the cells where it takes no memory
@@ -124,3 +128,11 @@ gone_on s version = renewed s (record { cells = s.cells; version = version })
 -- the sector with a cell put down as its window begins, by a machine
 abbrev pub put_in : SectorData → Pos → Cell → SectorData
 put_in s p cell = record s { base = with_cell s.cells p cell; cells = with_cell s.cells p cell }
+
+-- a cell may be put down in base and cells where the position is of the sector, nothing is recorded
+-- in its window, and no chest is put down or replaced
+pub record CanTamper (s : SectorData) (p : Pos) (cell : Cell) : Type 0 where
+  pub held : holds s.cells p ≡ true
+  pub nothing : s.entries ≡ []
+  pub put : is_chest cell ≡ false
+  pub there : is_chest (cell_at s.cells p) ≡ false

@@ -2,6 +2,7 @@
 #![tactic(auto)]
 
 mod acting;
+mod bringing;
 mod chests;
 mod cmd;
 mod contents;

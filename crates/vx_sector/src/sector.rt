@@ -1,11 +1,13 @@
-ghost use Rattle.std.specs.Prelude.{◌≡◌, ◌≤◌, ◌<◌, ◌⊎◌, ◌↔◌, true, false, [], map, Err, IfOk, IfErr, OnOk, OnErr};
+ghost use Rattle.std.specs.Prelude.{◌≡◌, ◌≤◌, ◌<◌, ◌⊎◌, ◌↔◌, true, false, [], map, option_map, Err, IfOk, IfErr, OnOk, OnErr};
+ghost use Rattle.vx_block.specs.Part.{part_cell};
 ghost use Rattle.vx_cells.specs.SectorCells.{holds, is_chest, with_cell};
 ghost use Rattle.vx_sector.specs.Acting.{rules_answer, effect_by, Fits};
 ghost use Rattle.vx_sector.specs.Commands.{place_of};
 ghost use Rattle.vx_sector.specs.SectorData.{seat_of, entry_of};
-ghost use Rattle.vx_sector.specs.Windows.{IsWindow, cells_after, most_entries, count_of, is_recorded, is_full, HoldsPlaces, IsCovered, IsNextOf, gone_on, put_in};
+ghost use Rattle.vx_sector.specs.Windows.{IsWindow, cells_after, most_entries, count_of, is_recorded, is_full, IsCovered, IsNextBase, IsNextOf, gone_on, put_in, CanTamper};
 
 use crate::acting::outcome_of;
+use crate::bringing::{are_covered, bring_up};
 use crate::cmd::Cmd;
 use crate::effect::Effect;
 use crate::entry::Entry;
@@ -19,7 +21,7 @@ use crate::seat::Seat;
 use std::alloc::AllocError;
 use std::marker::Model;
 use std::mem;
-use vx_block::Cell;
+use vx_block::{Cell, Part};
 use vx_cells::Cells;
 use vx_geom::Pos;
 use vx_policy::Version;
@@ -100,16 +102,34 @@ impl Sector {
         ensures suits { IfOk result (λ next. IsNextOf next self.now) }
         ensures version { IfOk result (λ next. next.version ≡ version.now) }
     {
-        let base = if self.is_covered() {
-            None
-        } else {
-            Some(self.copied_cells()?)
-        };
         Ok(Next {
-            base,
+            base: self.next_base()?,
             judge: Judge::new(*self.entries.allocator(), version)?,
             entries: Vec::new(*self.entries.allocator()),
         })
+    }
+
+    /// What brings a copy of the base up to the cells: nothing, or a copy of the cells, as bytes,
+    /// where a chest was left at a place that had none.
+    pub fn next_base(&self) -> Result<Option<Box<Cells>>, AllocError>
+        ensures { IfOk result (λ next.
+            IsNextBase (option_map (λ b. b.value) next) self.now) }
+    {
+        if self.is_covered() {
+            return Ok(None);
+        }
+        let copy = self.cells.try_clone()?;
+        Ok(Some(Box::new(*self.entries.allocator(), copy)?))
+    }
+
+    /// Brings a copy of the base up to the cells, by what was made for it. It takes no memory, and
+    /// copies at most what stands at the places of the record.
+    pub fn bring_up(&self, base: &mut Cells, next: Option<Box<Cells>>)
+        requires copy { base.old ≡ self.now.base }
+        requires suits { IsNextBase (option_map (λ b. b.value) next) self.now }
+        ensures { base.new ≡ self.now.cells }
+    {
+        bring_up(base, next, &self.entries, &self.cells);
     }
 
     /// Goes on with the next window over the cells as they are, and hands out the record of the
@@ -126,10 +146,7 @@ impl Sector {
             judge: judging,
             entries: empty,
         } = next;
-        match base {
-            Some(copy) => self.base = Box::into_inner(copy),
-            None => bring_up(&mut self.base, &self.entries, &self.cells),
-        }
+        bring_up(&mut self.base, base, &self.entries, &self.cells);
         self.judge = judging;
         let recorded = mem::replace(&mut self.entries, empty);
         self.closed += recorded.len() as u64;
@@ -145,6 +162,22 @@ impl Sector {
     {
         put_down_always(&mut self.base, p, &cell);
         put_down_always(&mut self.cells, p, &cell);
+    }
+
+    /// Puts a part down in base and cells, as no rule does: it is there for tests. It says whether
+    /// it did: where the position is of the sector, nothing is recorded in its window, and no chest
+    /// is put down or replaced.
+    pub fn tamper(&mut self, p: Pos, part: Part) -> bool
+        ensures when { (result ≡ true) ↔ CanTamper self.old p (part_cell part) }
+        ensures tampered { result ≡ true → self.new ≡ put_in self.old p (part_cell part) }
+        ensures kept { result ≡ false → self.new ≡ self.old }
+    {
+        let cell = part.cell();
+        if !self.can_tamper(p, &cell) {
+            return false;
+        }
+        self.put(p, cell);
+        true
     }
 
     /// The cells as the window began.
@@ -253,19 +286,22 @@ impl Sector {
         Ok(())
     }
 
-    // A copy of the cells, in a place of its own.
-    fn copied_cells(&self) -> Result<Box<Cells>, AllocError>
-        ensures { IfOk result (λ copy. copy.value ≡ self.now.cells) }
-    {
-        let copy = self.cells.try_clone()?;
-        Ok(Box::new(*self.entries.allocator(), copy)?)
-    }
-
     // Whether the base has a chest wherever the commands of the window left one.
     fn is_covered(&self) -> bool
         ensures { result ≡ true → IsCovered self.now.base self.now.cells self.now.entries }
     {
         are_covered(&self.base, &self.cells, &self.entries)
+    }
+
+    // Whether this cell may be put down at a position in base and cells: it and what stands there
+    // are no chests, and nothing is recorded.
+    fn can_tamper(&self, p: Pos, cell: &Cell) -> bool
+        ensures { (result ≡ true) ↔ CanTamper self.now p cell.now }
+    {
+        self.entries.is_empty()
+            && self.cells.holds(p)
+            && *cell != Cell::Chest
+            && self.cells.get(p) != Cell::Chest
     }
 
     // Whether as many commands were recorded as may be.
@@ -309,33 +345,4 @@ fn put_down_always(cells: &mut Cells, p: Pos, cell: &Cell)
     ensures { cells.new ≡ with_cell cells.old p cell.now }
 {
     let _ = cells.set(p, *cell);
-}
-
-// Whether the base has a chest at each place of the entries where the cells have one.
-fn are_covered(base: &Cells, cells: &Cells, entries: &[Entry]) -> bool
-    requires base { HoldsPlaces base.now (map entry_of entries.now) }
-    requires cells { HoldsPlaces cells.now (map entry_of entries.now) }
-    ensures { result ≡ true → IsCovered base.now cells.now (map entry_of entries.now) }
-{
-    for entry in entries {
-        let p = entry.cmd.place();
-        if cells.get(p) == Cell::Chest && base.get(p) != Cell::Chest {
-            return false;
-        }
-    }
-    true
-}
-
-// Brings cells up to those that the entries leave, place by place. It takes no memory.
-fn bring_up(base: &mut Cells, entries: &[Entry], cells: &Cells)
-    requires after { cells.now ≡ cells_after base.old (map entry_of entries.now) }
-    requires held { HoldsPlaces base.old (map entry_of entries.now) }
-    requires covered { IsCovered base.old cells.now (map entry_of entries.now) }
-    ensures { base.new ≡ cells.now }
-{
-    cells.bounds().soundness();
-    for entry in entries {
-        base.soundness();
-        base.copy_at(entry.cmd.place(), cells);
-    }
 }

@@ -1,7 +1,7 @@
 use Rattle.std.proofs.Common.{drop, map}
 use Rattle.vx_sector.specs.SectorData.{entry_of}
 use Rattle.vx_sector.specs.Windows.{HoldsPlaces, IsCovered}
-use Rattle.vx_sector.proofs.sector.are_covered.Given as goal
+use Rattle.vx_sector.proofs.bringing.are_covered.Given as goal
 
 -- where what is left is covered, all is
 abbrev pub invariant-loop-entry : goal.invariant-loop-entry

@@ -2,7 +2,7 @@ use Rattle.std.proofs.Common.{◌≡◌, drop, map}
 use Rattle.vx_sector.specs.SectorData.{entry_of}
 use Rattle.vx_sector.specs.Windows.{HoldsPlaces, IsCovered}
 use Rattle.vx_sector.proofs.Catching.{copied_at}
-use Rattle.vx_sector.proofs.sector.bring_up.Given as goal
+use Rattle.vx_sector.proofs.bringing.catch_up.Given as goal
 
 -- what is left to be copied leads to the cells, and can be
 abbrev pub invariant-loop-entry : goal.invariant-loop-entry

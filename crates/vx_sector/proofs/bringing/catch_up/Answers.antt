@@ -7,7 +7,7 @@ use Rattle.vx_sector.specs.Commands.{place_of}
 use Rattle.vx_sector.specs.SectorData.{entry_of}
 use Rattle.vx_sector.specs.Windows.{HoldsPlaces, IsCovered}
 use Rattle.vx_sector.proofs.Catching.{copied_at, with_bounds, with_sector, after_bounds, after_sector, caught_up, places_too, still_covered}
-use Rattle.vx_sector.proofs.sector.bring_up.Goals as goal
+use Rattle.vx_sector.proofs.bringing.catch_up.Goals as goal
 
 pub loop-entry-init : goal.loop-entry-init
 loop-entry-init c =

@@ -1,4 +1,5 @@
 pub mod Advancing
+pub mod AllFound
 pub mod Asking
 pub mod Dividing
 pub mod Gathering

@@ -12,10 +12,11 @@ use Rattle.vx_part.specs.Changes.{changes}
 use Rattle.vx_part.proofs.Changing.{kept_change}
 use Rattle.vx_piston.proofs.Restless.{others_stay}
 use Rattle.vx_region.specs.Regions.{Regions}
-use Rattle.vx_step.specs.Leaving.{IsWorked}
+use Rattle.vx_step.specs.declared.planned.Plan.{Plan}
+use Rattle.vx_step.specs.Leaving.{IsPlanned, IsWorked}
 use Rattle.vx_step.specs.Ticks.{asked, asked_up_to, changed_up_to, stepped, AreMoves}
 use Rattle.vx_step.proofs.Asking.{kept_ask}
-use Rattle.vx_step.proofs.Plans.{all_puts, is_worked}
+use Rattle.vx_step.proofs.Plans.{all_puts, is_worked, no_chests}
 use Rattle.vx_wake.specs.Laws.{with_changed}
 use Rattle.vx_wake.specs.Waking.{Rests, RestsBut, WakingData}
 use Rattle.vx_wake.proofs.Nothing.{nothing_awake}
@@ -60,21 +61,32 @@ module _ (m : MapData) (rests : (p : Pos) → Rests m p) where
   pub nothing_stepped : (rs : Regions) → IsFilled m → stepped rs m ≡ m
   nothing_stepped rs filled = all_puts rs m [] [] [] [] (nothing_worked rs filled) refl
 
-pub none_listed : (ps : List Pos) → length ps ≡ 0 → ps ≡ []
+none_listed : (ps : List Pos) → length ps ≡ 0 → ps ≡ []
 none_listed [] none = refl
 none_listed (p ∷ ps) none = absurd (omega (arith, none))
 
 -- where nothing is told and nothing was written, everything rests
 pub all_rests : (m : MapData) (waking : WakingData) (written : List Pos)
-    → waking ≡ record { changed = []; besides = [] } → written ≡ []
+    → waking ≡ record { changed = []; besides = [] } → length written ≡ 0
     → RestsBut m (with_changed waking written) → (p : Pos) → Rests m p
 all_rests m waking written none empty rests =
-    nothing_awake m (subst (RestsBut m) (λ i. with_changed (none i) (empty i)) rests)
+    nothing_awake m (subst (RestsBut m) (λ i. with_changed (none i) (none_listed written empty i)) rests)
 
 -- and still does after the tick
-pub rests_still : (m : MapData) (rs : Regions) (next : WakingData) → IsFilled m
+rests_still : (m : MapData) (rs : Regions) (next : WakingData) → IsFilled m
     → next ≡ record { changed = []; besides = [] } → ((p : Pos) → Rests m p) → RestsBut (stepped rs m) next
 rests_still m rs next filled none rests =
     subst (RestsBut (stepped rs m)) (sym none)
     (subst (λ n. RestsBut n (record { changed = []; besides = [] })) (sym (nothing_stepped m rests rs filled))
     (λ p away. rests p))
+
+-- so a plan of nothing, after which the next tick has to look nowhere, tells the tick
+pub nothing_planned : (m : MapData) → ((p : Pos) → Rests m p) → (rs : Regions) → IsFilled m
+    → (done : Plan × WakingData) → done.0.puts.items ≡ [] → done.0.fates.items ≡ []
+    → done.1 ≡ record { changed = []; besides = [] } → IsPlanned rs m done
+nothing_planned m rests rs filled done puts fates none = record {
+  puts = all_puts rs m [] [] done.0.puts.items [] (nothing_worked m rests rs filled) puts;
+  fates = fates ∙ (nothing_worked m rests rs filled).told;
+  chests = no_chests rs m [] [] done.0.puts.items [] (nothing_worked m rests rs filled) puts;
+  waking = rests_still m rs done.1 filled none rests;
+}

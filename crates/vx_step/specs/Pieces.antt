@@ -10,6 +10,9 @@ use Rattle.vx_cells.specs.SectorCells.{SectorCells, holds, with_cell}
 use Rattle.vx_power.specs.Laws.{dust_level}
 use Rattle.vx_part.specs.Changes.{changes}
 use Rattle.vx_piston.specs.Moves.{Moving, is_restless}
+use Rattle.vx_places.specs.Places.{PlacesData, is_at}
+use Rattle.vx_wake.specs.Waking.{IsSettled}
+use Rattle.vx_step.specs.declared.found.Found.{Found}
 use Rattle.vx_step.specs.Ticks.{asked}
 
 -- where part i of k begins, where n are divided among them
@@ -53,3 +56,14 @@ restless_in m k =
 abbrev pub restless_up_to : MapData → ℕ → List Pos
 restless_up_to m zero = []
 restless_up_to m (suc n) = restless_up_to m n ++ restless_in m n
+
+-- a map rests outside these places, which are some of its world
+abbrev pub RestsOutside : MapData → PlacesData → Type 0
+RestsOutside m places = (places.sizes ≡ m.sizes) × IsSettled m (is_at places)
+
+-- what was found in the sector of number k
+abbrev pub IsFoundIn : MapData → ℕ → Found → Type 0
+IsFoundIn m k found =
+    (found.changes.items ≡ changed_in m k)
+    × (found.restless.items ≡ restless_in m k)
+    × (found.moves.items ≡ asked_in m k)

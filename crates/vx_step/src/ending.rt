@@ -9,9 +9,10 @@ ghost use Rattle.vx_step.specs.Fates.{IsFate, AreFates};
 use crate::fate::Fate;
 use std::alloc::{AllocError, Global};
 use vx_cause::judge;
-use vx_decide::{Decide, Rule};
+use vx_decide::{Decide, Plain, Rule};
 use vx_geom::Pos;
 use vx_piston::{Claims, Move};
+use vx_policy::Version;
 
 /// What becomes of these moves, each beside the position of its piston, in their order. The policy
 /// is asked once for each cell; what beats a move costs the cells of the move.
@@ -25,6 +26,18 @@ pub fn fates<D: Decide>(
 {
     let denials = denials(alloc, policy, moves)?;
     fates_by(alloc, moves, denials.as_slice())
+}
+
+/// The same by a version of the policy.
+pub fn fates_under(
+    alloc: Global,
+    version: &Version,
+    moves: &[Move],
+) -> Result<Vec<(Pos, Fate)>, AllocError>
+    ensures { IfOk result (λ fates.
+        AreFates version.now.policy moves.now moves.now fates.items) }
+{
+    fates(alloc, &Plain::new(version.policy.regions()), moves)
 }
 
 /// The same by what denies each of the moves.

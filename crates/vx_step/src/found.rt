@@ -1,13 +1,13 @@
-ghost use Rattle.std.specs.Prelude.{◌≡◌, ◌<◌, ℕ, true, IfOk};
-ghost use Rattle.std.specs.List.{All};
+ghost use Rattle.std.specs.Prelude.{◌≡◌, ◌<◌, ℕ, true, IfOk, IfSome};
+ghost use Rattle.std.specs.List.{All, flat_map};
 ghost use Rattle.vx_cells.specs.Maps.{MapData, cell_on};
 ghost use Rattle.vx_geom.specs.declared.pos.Pos.{Pos};
 ghost use Rattle.vx_geom.specs.Sizes.{sector_count};
 ghost use Rattle.vx_piston.specs.Moves.{is_restless};
 ghost use Rattle.vx_places.specs.Places.{is_at};
-ghost use Rattle.vx_power.specs.Levels.{level_in, AreAllLevels};
+ghost use Rattle.vx_power.specs.Levels.{AreAllLevels};
 ghost use Rattle.vx_wake.specs.Waking.{IsSettled};
-ghost use Rattle.vx_step.specs.Pieces.{asked_in, changed_in, restless_in, restless_up_to};
+ghost use Rattle.vx_step.specs.Pieces.{asked_in, changed_in, restless_in, restless_up_to, RestsOutside};
 ghost use Rattle.vx_step.specs.Ticks.{asked, asked_up_to, changed_up_to, AreMoves};
 
 use crate::seen::Seen;
@@ -17,7 +17,7 @@ use vx_cells::Frozen;
 use vx_geom::Pos;
 use vx_piston::{Move, asked_by};
 use vx_places::Places;
-use vx_power::{Leveled, Levels};
+use vx_power::Leveled;
 
 /// What a tick finds on a map as it begins, or in a part of it.
 #[derive(Drop)]
@@ -33,8 +33,8 @@ pub struct Found {
 impl Found {
     /// What a tick finds on a map, with the moves in the order of the pistons' positions, by the
     /// levels of all its dust. It costs what the components of the map are.
-    pub fn on(alloc: Global, map: &Frozen<'_>, levels: &Levels) -> Result<Found, AllocError>
-        requires { AreAllLevels map.now (level_in levels.now) }
+    pub fn on<L: Leveled>(alloc: Global, map: &Frozen<'_>, levels: &L) -> Result<Found, AllocError>
+        requires { AreAllLevels map.now (L.level levels.now) }
         ensures changes { IfOk result (λ found.
             found.changes.items ≡ changed_up_to map.now (sector_count map.now.sizes)) }
         ensures restless { IfOk result (λ found.
@@ -94,29 +94,62 @@ impl Found {
     }
 
     /// What a tick finds in a sector, with the moves in the order of its positions, by the levels
-    /// of all dust of the map.
-    pub fn in_sector(
+    /// of all dust of the map: at the places outside which the map rests, where these are told,
+    /// and else at all components.
+    pub fn in_sector<L: Leveled>(
         alloc: Global,
         map: &Frozen<'_>,
-        levels: &Levels,
+        levels: &L,
+        places: Option<&Places>,
         sector: u32,
     ) -> Result<Found, AllocError>
         requires there { sector < sector_count map.now.sizes }
-        requires levels { AreAllLevels map.now (level_in levels.now) }
+        requires levels { AreAllLevels map.now (L.level levels.now) }
+        requires rests { IfSome places (λ places. RestsOutside map.now places.now) }
         ensures changes { IfOk result (λ found.
             found.changes.items ≡ changed_in map.now sector) }
         ensures restless { IfOk result (λ found.
             found.restless.items ≡ restless_in map.now sector) }
         ensures moves { IfOk result (λ found. found.moves.items ≡ asked_in map.now sector) }
     {
-        let mut here = Seen::nothing(alloc);
-        here.add_sector(alloc, map, levels, sector)?;
-        let Seen { changes, restless } = here;
+        let Seen { changes, restless } = Seen::in_sector(alloc, map, levels, places, sector)?;
         let moves = moves_among(alloc, map, restless.as_slice())?;
         Ok(Found {
             changes,
             restless,
             moves,
+        })
+    }
+
+    /// What was found in each sector, one after another, with the moves in the order of the
+    /// pistons' positions.
+    pub fn joined(alloc: Global, pieces: Vec<Found>) -> Result<Found, AllocError>
+        ensures changes { IfOk result (λ found. found.changes.items
+            ≡ flat_map (λ piece. piece.changes.items) pieces.items) }
+        ensures restless { IfOk result (λ found. found.restless.items
+            ≡ flat_map (λ piece. piece.restless.items) pieces.items) }
+        ensures moves { IfOk result (λ found. (map : MapData)
+            → flat_map (λ piece. piece.moves.items) pieces.items
+            ≡ asked_up_to map (sector_count map.sizes) → AreMoves map found.moves.items) }
+    {
+        let mut all_changes = Vec::new(alloc);
+        let mut all_restless = Vec::new(alloc);
+        let mut all_moves = Vec::new(alloc);
+        for piece in pieces {
+            let Found {
+                mut changes,
+                mut restless,
+                mut moves,
+            } = piece;
+            all_changes.append(&mut changes)?;
+            all_restless.append(&mut restless)?;
+            all_moves.append(&mut moves)?;
+        }
+        sort(&mut all_moves);
+        Ok(Found {
+            changes: all_changes,
+            restless: all_restless,
+            moves: all_moves,
         })
     }
 }

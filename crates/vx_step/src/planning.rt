@@ -1,30 +1,24 @@
 //! A tick of a map that is only read.
-ghost use Rattle.std.specs.Prelude.{◌≡◌, ◌++◌, false, IfOk};
+ghost use Rattle.std.specs.Prelude.{◌≡◌, false, IfOk};
 ghost use Rattle.std.specs.List.{All};
 ghost use Rattle.vx_cells.specs.SectorCells.{is_chest};
 ghost use Rattle.vx_cells.specs.Wholes.{with_cells_on};
 ghost use Rattle.vx_geom.specs.Sizes.{sector_count};
 ghost use Rattle.vx_power.specs.Levels.{AreAllLevels};
 ghost use Rattle.vx_places.specs.Places.{is_at};
-ghost use Rattle.vx_step.specs.Leaving.{IsWorked};
+ghost use Rattle.vx_step.specs.Leaving.{IsPlanned};
 ghost use Rattle.vx_step.specs.Pieces.{restless_up_to};
 ghost use Rattle.vx_step.specs.Ticks.{changed_up_to, fates_on, stepped, AreMoves};
 ghost use Rattle.vx_wake.specs.Laws.{with_changed};
 ghost use Rattle.vx_wake.specs.Waking.{IsSettled, RestsBut};
 
-use crate::effects::put_down;
-use crate::ending::fates;
+use crate::ending::fates_under;
+use crate::finishing::{at_rest, finished, planned, worked};
 use crate::found::Found;
-use crate::leaving::left;
-use crate::next_parts::NextParts;
 use crate::planned::Plan;
-use crate::worked::Worked;
 use std::alloc::{AllocError, Global};
-use vx_block::Cell;
 use vx_cells::Frozen;
-use vx_decide::Plain;
 use vx_geom::Pos;
-use vx_piston::Move;
 use vx_places::Places;
 use vx_policy::Version;
 use vx_power::{Leveled, all_levels};
@@ -40,7 +34,8 @@ pub fn plan(alloc: Global, map: &Frozen<'_>, version: &Version) -> Result<Plan, 
 {
     let levels = all_levels(alloc, map)?;
     let Found { changes, moves, .. } = Found::on(alloc, map, &levels)?;
-    let done = worked(alloc, map, version, &levels, changes, moves.as_slice())?;
+    let fates = fates_under(alloc, version, moves.as_slice())?;
+    let done = worked(alloc, map, &levels, changes, moves.as_slice(), fates)?;
     planned(done)
 }
 
@@ -63,9 +58,22 @@ pub fn plan_woken(
     ensures waking { IfOk result (λ done.
         RestsBut (stepped version.now.policy map.now) done.1) }
 {
-    map.filling();
-    if waking.is_nothing() && written.is_empty() {
-        return Ok((Plan::nothing(alloc), Waking::nothing(alloc)));
+    woken(alloc, map, version, waking, written)
+}
+
+// The same.
+fn woken(
+    alloc: Global,
+    map: &Frozen<'_>,
+    version: &Version,
+    waking: &Waking,
+    written: &[Pos],
+) -> Result<(Plan, Waking), AllocError>
+    requires { RestsBut map.now (with_changed waking.now written.now) }
+    ensures { IfOk result (λ done. IsPlanned version.now.policy map.now done) }
+{
+    if let Some(done) = at_rest(alloc, map, waking, written) {
+        return Ok(done);
     }
     match unsettled(alloc, map, waking, written)? {
         Some(places) => plan_among(alloc, map, version, &places),
@@ -82,18 +90,11 @@ fn plan_among(
 ) -> Result<(Plan, Waking), AllocError>
     requires sizes { places.now.sizes ≡ map.now.sizes }
     requires settled { IsSettled map.now (is_at places.now) }
-    ensures puts { IfOk result (λ done.
-        stepped version.now.policy map.now ≡ with_cells_on map.now done.0.puts.items) }
-    ensures fates { IfOk result (λ done.
-        done.0.fates.items ≡ fates_on version.now.policy map.now) }
-    ensures chests { IfOk result (λ done.
-        All (λ put. is_chest put.1 ≡ false) done.0.puts.items) }
-    ensures waking { IfOk result (λ done.
-        RestsBut (stepped version.now.policy map.now) done.1) }
+    ensures { IfOk result (λ done. IsPlanned version.now.policy map.now done) }
 {
     let levels = Settling::on(alloc, map, places)?;
     let found = Found::among(alloc, map, &levels, places)?;
-    finished(alloc, map, version, &levels, found)
+    ended(alloc, map, version, &levels, found)
 }
 
 // The same of a map of which nothing is known.
@@ -102,22 +103,15 @@ fn plan_all(
     map: &Frozen<'_>,
     version: &Version,
 ) -> Result<(Plan, Waking), AllocError>
-    ensures puts { IfOk result (λ done.
-        stepped version.now.policy map.now ≡ with_cells_on map.now done.0.puts.items) }
-    ensures fates { IfOk result (λ done.
-        done.0.fates.items ≡ fates_on version.now.policy map.now) }
-    ensures chests { IfOk result (λ done.
-        All (λ put. is_chest put.1 ≡ false) done.0.puts.items) }
-    ensures waking { IfOk result (λ done.
-        RestsBut (stepped version.now.policy map.now) done.1) }
+    ensures { IfOk result (λ done. IsPlanned version.now.policy map.now done) }
 {
     let levels = all_levels(alloc, map)?;
     let found = Found::on(alloc, map, &levels)?;
-    finished(alloc, map, version, &levels, found)
+    ended(alloc, map, version, &levels, found)
 }
 
 // What a tick does that found this, and where the next one has to look.
-fn finished<L: Leveled>(
+fn ended<L: Leveled>(
     alloc: Global,
     map: &Frozen<'_>,
     version: &Version,
@@ -129,66 +123,8 @@ fn finished<L: Leveled>(
     requires restless { found.restless.items
         ≡ restless_up_to map.now (sector_count map.now.sizes) }
     requires moves { AreMoves map.now found.moves.items }
-    ensures puts { IfOk result (λ done.
-        stepped version.now.policy map.now ≡ with_cells_on map.now done.0.puts.items) }
-    ensures fates { IfOk result (λ done.
-        done.0.fates.items ≡ fates_on version.now.policy map.now) }
-    ensures chests { IfOk result (λ done.
-        All (λ put. is_chest put.1 ≡ false) done.0.puts.items) }
-    ensures waking { IfOk result (λ done.
-        RestsBut (stepped version.now.policy map.now) done.1) }
+    ensures { IfOk result (λ done. IsPlanned version.now.policy map.now done) }
 {
-    map.soundness();
-    map.filling();
-    let Found {
-        changes,
-        restless,
-        moves,
-    } = found;
-    let done = worked(alloc, map, version, levels, changes, moves.as_slice())?;
-    let next = left(alloc, map, &done.changes, &done.moved, restless.as_slice())?;
-    Ok((planned(done)?, next))
-}
-
-// What a tick does that found these changes, and that these moves are asked for.
-fn worked<L: Leveled>(
-    alloc: Global,
-    map: &Frozen<'_>,
-    version: &Version,
-    levels: &L,
-    changes: Vec<(Pos, Cell)>,
-    moves: &[Move],
-) -> Result<Worked, AllocError>
-    requires levels { AreAllLevels map.now (L.level levels.now) }
-    requires changes { changes.items ≡ changed_up_to map.now (sector_count map.now.sizes) }
-    requires moves { AreMoves map.now moves.now }
-    ensures { IfOk result (λ done. IsWorked version.now.policy map.now done.changes.items
-        done.moved.items done.fates.items) }
-{
-    map.filling();
-    let policy = Plain::new(version.policy.regions());
-    let fates = fates(alloc, &policy, moves)?;
-    let next = NextParts { map, levels };
-    let moved = put_down(alloc, &next, moves, fates.as_slice())?;
-    Ok(Worked {
-        changes,
-        moved,
-        fates,
-    })
-}
-
-// What was worked, in one list.
-fn planned(done: Worked) -> Result<Plan, AllocError>
-    ensures puts { IfOk result (λ plan.
-        plan.puts.items ≡ done.changes.items ++ done.moved.items) }
-    ensures fates { IfOk result (λ plan. plan.fates.items ≡ done.fates.items) }
-{
-    let Worked {
-        changes,
-        mut moved,
-        fates,
-    } = done;
-    let mut puts = changes;
-    puts.append(&mut moved)?;
-    Ok(Plan { puts, fates })
+    let fates = fates_under(alloc, version, found.moves.as_slice())?;
+    finished(alloc, map, levels, found, fates)
 }

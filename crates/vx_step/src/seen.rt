@@ -1,4 +1,4 @@
-ghost use Rattle.std.specs.Prelude.{◌≡◌, ◌<◌, [], ◌∷◌, ◌++◌, if◌then◌else◌, None, Some, OnOk};
+ghost use Rattle.std.specs.Prelude.{◌≡◌, ◌<◌, [], ◌∷◌, ◌++◌, if◌then◌else◌, None, Some, IfOk, OnOk, IfSome};
 ghost use Rattle.std.specs.List.{filter};
 ghost use Rattle.vx_block.specs.declared.cell.Cell.TheVariants.{Dust};
 ghost use Rattle.vx_cells.specs.Maps.{cell_on};
@@ -9,7 +9,7 @@ ghost use Rattle.vx_piston.specs.Moves.{is_restless};
 ghost use Rattle.vx_places.specs.Places.{is_at};
 ghost use Rattle.vx_power.specs.Levels.{AreAllLevels};
 ghost use Rattle.vx_wake.specs.Waking.{IsSettled};
-ghost use Rattle.vx_step.specs.Pieces.{changed_in, restless_in};
+ghost use Rattle.vx_step.specs.Pieces.{changed_in, restless_in, RestsOutside};
 
 use std::alloc::{AllocError, Global};
 use vx_block::{Cell, Level};
@@ -38,6 +38,30 @@ impl Seen {
             changes: Vec::new(alloc),
             restless: Vec::new(alloc),
         }
+    }
+
+    /// What is seen in a sector, by the levels of all dust of the map: at the places outside which
+    /// the map rests, where these are told, and else at all components.
+    pub fn in_sector<L: Leveled>(
+        alloc: Global,
+        map: &Frozen<'_>,
+        levels: &L,
+        places: Option<&Places>,
+        sector: u32,
+    ) -> Result<Seen, AllocError>
+        requires there { sector < sector_count map.now.sizes }
+        requires levels { AreAllLevels map.now (L.level levels.now) }
+        requires rests { IfSome places (λ places. RestsOutside map.now places.now) }
+        ensures changes { IfOk result (λ seen. seen.changes.items ≡ changed_in map.now sector) }
+        ensures restless { IfOk result (λ seen.
+            seen.restless.items ≡ restless_in map.now sector) }
+    {
+        let mut seen = Seen::nothing(alloc);
+        match places {
+            Some(places) => seen.add_places(alloc, map, levels, places, sector)?,
+            None => seen.add_sector(alloc, map, levels, sector)?,
+        }
+        Ok(seen)
     }
 
     /// Adds what is seen in a sector, by the levels of all dust of the map. It costs what the

@@ -1,25 +1,24 @@
-use Rattle.std.proofs.Common.{◌≡◌, ◌++◌, refl, sym, ap, ◌∙◌, subst}
+use Rattle.std.proofs.Common.{◌∙◌, subst}
 use Rattle.vx_cells.specs.Maps.{MapData}
 use Rattle.vx_geom.specs.Sizes.{sector_count}
 use Rattle.vx_step.specs.declared.found.Found.{Found}
-use Rattle.vx_step.specs.Pieces.{AreFromTo, asked_in, changed_in}
-use Rattle.vx_step.specs.Ticks.{asked_up_to}
-use Rattle.vx_step.proofs.Joining.{all_bring, all_mapped}
+use Rattle.vx_step.specs.Pieces.{AreFromTo, IsFoundIn}
+use Rattle.vx_step.proofs.AllFound.{all_moves}
+use Rattle.vx_step.proofs.Joining.{all_mapped}
 use Rattle.vx_step.proofs.parts.found.Goals as goal
 
 pub returns-clause-changes : goal.returns-clause-changes
 returns-clause-changes g c =
-    let found = subst (λ (m : MapData). AreFromTo {X = Found} (λ s f. (f.changes.items ≡ changed_in m s) × (f.moves.items ≡ asked_in m s))
-    0 (sector_count m.sizes) c.in_ok-found.found.items) (c.new.ensures ∙ c.new-map.ensures) c.in_ok-found.ensures in
+    let found = subst (λ (m : MapData). AreFromTo {X = Found} (λ s f. IsFoundIn m s f) 0 (sector_count m.sizes) c.in_ok-found.found.items)
+    (c.new.ensures ∙ c.new-map.ensures) c.in_ok-found.ensures in
     rw c.in_ok-changes.ensures.changes
     (all_mapped _ _ _ (λ i f is. is.0) 0 (sector_count c.args.bounds) c.in_ok-found.found.items found)
 
 pub returns-clause-moves : goal.returns-clause-moves
 returns-clause-moves g c =
     let m : MapData = record { sizes = c.args.bounds; sectors = c.args.cells.now } in
-    let found = subst (λ (m : MapData). AreFromTo {X = Found} (λ s f. (f.changes.items ≡ changed_in m s) × (f.moves.items ≡ asked_in m s))
-    0 (sector_count m.sizes) c.in_ok-found.found.items) (c.new.ensures ∙ c.new-map.ensures) c.in_ok-found.ensures in
+    let found = subst (λ (m : MapData). AreFromTo {X = Found} (λ s f. IsFoundIn m s f) 0 (sector_count m.sizes) c.in_ok-found.found.items)
+    (c.new.ensures ∙ c.new-map.ensures) c.in_ok-found.ensures in
     c.sort.ensures m
     (c.in_ok-changes.ensures.moves
-    ∙ all_bring _ _ (asked_up_to m) (sector_count c.args.bounds) c.in_ok-found.found.items refl
-    (λ i f low is. ap (λ ys. asked_up_to m i ++ ys) (sym is.1)) found)
+    ∙ all_moves m (sector_count c.args.bounds) c.in_ok-found.found.items found)

@@ -1,31 +1,40 @@
-use Rattle.std.proofs.Common.{[], sym, ◌∙◌}
-use Rattle.std.proofs.lemmas.Bool.{eqb-true}
+use Rattle.std.proofs.Common.{◌≡◌, false}
+use Rattle.std.specs.List.{All}
+use Rattle.std.proofs.lemmas.Result.{IfOk-weaker}
 use Rattle.vx_geom.specs.declared.pos.Pos.{Pos}
-use Rattle.vx_wake.specs.Waking.{Rests}
-use Rattle.vx_step.proofs.Nothing.{all_rests, none_listed, nothing_worked, rests_still}
-use Rattle.vx_step.proofs.Plans.{all_puts}
+use Rattle.vx_block.specs.declared.cell.Cell.{Cell}
+use Rattle.vx_cells.specs.SectorCells.{is_chest}
+use Rattle.vx_cells.specs.Wholes.{with_cells_on}
+use Rattle.vx_step.specs.Leaving.{IsPlanned}
+use Rattle.vx_step.specs.Ticks.{fates_on, stepped}
+use Rattle.vx_wake.specs.Waking.{RestsBut}
 use Rattle.vx_step.proofs.planning.plan_woken.Goals as goal
-use Rattle.vx_step.proofs.planning.plan_woken.Goals.{After-nothing-then-is_empty}
 
--- where nothing is told and nothing was written, everything rests
-rests : (c : After-nothing-then-is_empty) → (p : Pos) → Rests c.args.map.now p
-rests c =
-    all_rests c.args.map.now c.args.waking.now c.args.written.now (c.is_nothing.ensures c.if-is_nothing.true)
-    (none_listed c.args.written.now (eqb-true _ 0 (sym c.is_empty.ensures ∙ c.if-is_empty.true))) c.requires
-
-pub returns-then-is_empty-clause-puts : goal.returns-then-is_empty-clause-puts
-returns-then-is_empty-clause-puts c =
-    let m = c.args.map.now in
+pub returns-clause-puts : goal.returns-clause-puts
+returns-clause-puts c =
     let rs = c.args.version.now.policy in
-    all_puts rs m [] [] c.nothing.result.puts.items [] (nothing_worked m (rests c) rs c.filling.ensures)
-    c.nothing.ensures.puts
-
-pub returns-then-is_empty-clause-fates : goal.returns-then-is_empty-clause-fates
-returns-then-is_empty-clause-fates c =
     let m = c.args.map.now in
-    c.nothing.ensures.fates ∙ (nothing_worked m (rests c) c.args.version.now.policy c.filling.ensures).told
+    IfOk-weaker c.woken.result (λ done. IsPlanned rs m done) (λ done. stepped rs m ≡ with_cells_on m done.0.puts.items)
+    (λ done is. is.puts) c.woken.ensures
 
-pub returns-then-is_empty-clause-waking : goal.returns-then-is_empty-clause-waking
-returns-then-is_empty-clause-waking c =
-    rests_still c.args.map.now c.args.version.now.policy c.nothing-then-is_empty.result c.filling.ensures
-    c.nothing-then-is_empty.ensures (rests c)
+pub returns-clause-fates : goal.returns-clause-fates
+returns-clause-fates c =
+    let rs = c.args.version.now.policy in
+    let m = c.args.map.now in
+    IfOk-weaker c.woken.result (λ done. IsPlanned rs m done) (λ done. done.0.fates.items ≡ fates_on rs m)
+    (λ done is. is.fates) c.woken.ensures
+
+pub returns-clause-chests : goal.returns-clause-chests
+returns-clause-chests c =
+    let rs = c.args.version.now.policy in
+    let m = c.args.map.now in
+    IfOk-weaker c.woken.result (λ done. IsPlanned rs m done)
+    (λ done. All (λ (put : Pos × Cell). is_chest put.1 ≡ false) done.0.puts.items)
+    (λ done is. is.chests) c.woken.ensures
+
+pub returns-clause-waking : goal.returns-clause-waking
+returns-clause-waking c =
+    let rs = c.args.version.now.policy in
+    let m = c.args.map.now in
+    IfOk-weaker c.woken.result (λ done. IsPlanned rs m done) (λ done. RestsBut (stepped rs m) done.1)
+    (λ done is. is.waking) c.woken.ensures

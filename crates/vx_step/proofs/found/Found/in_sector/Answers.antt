@@ -1,19 +1,17 @@
-use Rattle.std.proofs.Common.{◌++◌, ap, ◌∙◌}
+use Rattle.std.proofs.Common.{ap, ◌∙◌}
 use Rattle.vx_cells.specs.Maps.{cell_on}
 use Rattle.vx_geom.specs.Places.{positions}
 use Rattle.vx_power.specs.Laws.{dust_level}
-use Rattle.vx_step.specs.Pieces.{restless_in}
 use Rattle.vx_step.specs.Ticks.{asked}
 use Rattle.vx_step.proofs.Resting.{found_restless, restless_ask}
 use Rattle.vx_step.proofs.found.Found.in_sector.Goals as goal
 
 pub returns-clause-moves : goal.returns-clause-moves
-returns-clause-moves c =
+returns-clause-moves g c =
     let m = c.args.map.now in
     let level = dust_level (cell_on m) in
     let ps = positions m.sizes c.args.sector in
-    let seen = c.as_slice.ensures.value ∙ c.in_ok-add_sector.ensures.restless
-    ∙ ap (λ found. found ++ restless_in m c.args.sector) c.nothing-here.ensures.restless in
+    let seen = c.as_slice.ensures.value ∙ c.in_ok-changes.ensures.restless in
     c.in_ok-moves.ensures level (found_restless m level ps _ seen)
     ∙ ap (asked m level) seen
     ∙ restless_ask m level ps

@@ -1,6 +1,6 @@
 use Rattle.std.proofs.Common.{◌≡◌}
 use Rattle.std.specs.List.{flat_map}
-use Rattle.vx_step.proofs.parts.joined.Given as goal
+use Rattle.vx_step.proofs.ending_parts.joined.Given as goal
 
 -- the pieces so far, one after another
 abbrev pub invariant-loop-piece : goal.invariant-loop-piece

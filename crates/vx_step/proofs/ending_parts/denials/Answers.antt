@@ -5,7 +5,7 @@ use Rattle.vx_cause.specs.Judging.{denial}
 use Rattle.vx_geom.specs.Sizes.{sector_count}
 use Rattle.vx_step.specs.Pieces.{first_of, AreFromTo}
 use Rattle.vx_step.proofs.Sharing.{even_parts}
-use Rattle.vx_step.proofs.parts.denials.Goals as goal
+use Rattle.vx_step.proofs.ending_parts.denials.Goals as goal
 
 pub returns : goal.returns
 returns g c =

@@ -1,0 +1,37 @@
+ghost use Rattle.std.specs.Prelude.{◌<◌, ◌≤◌, IfOk};
+ghost use Rattle.vx_step.specs.Pieces.{AreFromTo};
+
+use crate::gate::Gate;
+use crate::shares::in_parts;
+use crate::work::Work;
+use std::alloc::{AllocError, Global};
+use std::thread::Threads;
+
+/// 1 to 8 threads that share out the sectors of a tick, with a gate that is called as each piece of
+/// a phase begins.
+#[derive(Drop)]
+pub struct Workers<'a, R, G> {
+    rt: &'a R,
+    count: usize,
+    gate: &'a G,
+    ghost few: { (0 < count) × (count ≤ 8) },
+}
+
+impl<'a, R: Threads + Sync, G: Gate + Sync> Workers<'a, R, G> {
+    /// So many threads.
+    pub fn new(rt: &'a R, count: usize, gate: &'a G) -> Workers<'a, R, G>
+        requires { (0 < count) × (count ≤ 8) }
+    {
+        Workers { rt, count, gate }
+    }
+
+    /// The pieces of all sectors.
+    pub fn all<W: Work + Sync>(&self, alloc: Global, work: &W) -> Result<Vec<W::Out>, AllocError>
+    where
+        W::Out: Send + Drop,
+        ensures { IfOk result (λ outs.
+            AreFromTo (W.gives work.now) 0 (W.count work.now) outs.items) }
+    {
+        in_parts(self.rt, alloc, work, self.count, self.gate)
+    }
+}

@@ -1,25 +1,24 @@
 ghost use Rattle.std.specs.List.{All};
 ghost use Rattle.std.specs.Prelude.{◌≡◌, false, [], map, vec_len, IfOk, OnOk, OnErr};
-ghost use Rattle.vx_cells.specs.Maps.{AreSectors};
 ghost use Rattle.vx_cells.specs.SectorCells.{is_chest};
 ghost use Rattle.vx_cells.specs.Wholes.{with_cells_on};
-ghost use Rattle.vx_play.specs.Nexts.{AreNextOf, put_at, put_all};
-ghost use Rattle.vx_play.specs.Plays.{cells_of, opened_by, all_renewed, entries_in, entries_of};
+ghost use Rattle.vx_play.specs.Plays.{entries_in, entries_of};
 ghost use Rattle.vx_wake.specs.Waking.{RestsBut};
 
 use crate::names::number_of;
 use crate::tick_error::TickError;
 use crate::ticked::Ticked;
-use crate::written::written;
+use crate::windows::{all_awake, all_next, cells_of, open_sectors, renew_sectors};
+use crate::writes::written;
 use std::alloc::{AllocError, Global};
 use std::marker::Model;
 use vx_block::Cell;
 use vx_board::{DeskError, DeskState, Edited, Naming};
-use vx_cells::{Cells, Frozen, Whole};
+use vx_cells::{Frozen, Whole};
 use vx_geom::{Bounds, Pos};
 use vx_policy::{Edit, Policy, Version};
 use vx_region::Name;
-use vx_sector::{Cmd, Entry, Fresh, Next, Refusal, Reply, Seat, Sector};
+use vx_sector::{Cmd, Entry, Refusal, Reply, Seat, Sector};
 use vx_step::{Plan, plan_woken};
 use vx_wake::Waking;
 
@@ -219,7 +218,8 @@ impl<J: Naming> Play<J> {
     {
         let version = self.desk.fix(self.ticks + 2)?;
         let nexts = all_next(alloc, &self.sectors, &version)?;
-        let windows = renew_sectors(alloc, self.bounds, &version, &mut self.sectors, nexts, puts)?;
+        let room = Vec::with_capacity(alloc, self.sectors.len())?;
+        let windows = renew_sectors(self.bounds, &version, &mut self.sectors, nexts, room, puts);
         self.version = version;
         self.waking = waking;
         self.ticks += 1;
@@ -285,131 +285,4 @@ impl<J: Naming> Play<J> {
         }
         calls
     }
-}
-
-// The sectors as a world opens, judged by this version.
-fn open_sectors(
-    alloc: Global,
-    cells: Vec<Cells>,
-    version: &Version,
-) -> Result<Vec<Sector>, AllocError>
-    ensures { IfOk result (λ sectors. sectors.items ≡ map (opened_by version.now) cells.items) }
-{
-    let mut sectors = Vec::with_capacity(alloc, cells.len())?;
-    for cells in cells {
-        sectors.push(Sector::new(Fresh::over(alloc, cells, version)?))?;
-    }
-    Ok(sectors)
-}
-
-// The cells of each sector, where they stand.
-fn cells_of<'a>(alloc: Global, sectors: &'a [Sector]) -> Result<Vec<&'a Cells>, AllocError>
-    ensures { IfOk result (λ cells.
-        map (λ c. c.now) cells.items ≡ map cells_of sectors.now) }
-{
-    let mut cells = Vec::with_capacity(alloc, sectors.len())?;
-    for sector in sectors {
-        cells.push(sector.cells())?;
-    }
-    Ok(cells)
-}
-
-// All components of the sectors of a world of this size, as of a map of which nothing is known yet.
-fn all_awake(alloc: Global, bounds: Bounds, sectors: &[Sector]) -> Result<Waking, AllocError>
-    requires { AreSectors bounds (map cells_of sectors.now) }
-    ensures { IfOk result (λ waking.
-        RestsBut (record { sizes = bounds; sectors = map cells_of sectors.now }) waking) }
-{
-    let cells = cells_of(alloc, sectors)?;
-    Waking::all(alloc, &Frozen::apart(bounds, &cells))
-}
-
-// What the next window of each sector takes, judged by this version.
-fn all_next(alloc: Global, sectors: &[Sector], version: &Version) -> Result<Vec<Next>, AllocError>
-    ensures { IfOk result (λ nexts. AreNextOf version.now sectors.now nexts.items) }
-{
-    let mut nexts = Vec::with_capacity(alloc, sectors.len())?;
-    for sector in sectors {
-        nexts.push(sector.next(version)?)?;
-    }
-    Ok(nexts)
-}
-
-// Begins the next window of each sector of a world of this size over its cells with these put down,
-// and hands out the records of the windows that this closes. Memory is wanted only before the first.
-fn renew_sectors(
-    alloc: Global,
-    bounds: Bounds,
-    version: &Version,
-    sectors: &mut [Sector],
-    nexts: Vec<Next>,
-    puts: &[(Pos, Cell)],
-) -> Result<Vec<Vec<Entry>>, AllocError>
-    requires sectors { AreSectors bounds (map cells_of sectors.old) }
-    requires nexts { AreNextOf version.now sectors.old nexts.items }
-    requires chests { All (λ put. is_chest put.1 ≡ false) puts.now }
-    ensures renewed { OnOk result (sectors.new ≡ all_renewed version.now sectors.old
-        (with_cells_on (record { sizes = bounds; sectors = map cells_of sectors.old })
-        puts.now).sectors) }
-    ensures err { OnErr result (sectors.new ≡ sectors.old) }
-    ensures windows { IfOk result (λ windows.
-        map entries_in windows.items ≡ map entries_of sectors.old) }
-    ensures placed { AreSectors bounds (map cells_of sectors.new) }
-{
-    let windows = go_on_all(alloc, version, sectors, nexts)?;
-    put_all(bounds, sectors, puts);
-    Ok(windows)
-}
-
-// Goes on with the next window of each sector over its cells as they are, and hands out the records
-// of the windows that this closes. Memory is wanted only before the first.
-fn go_on_all(
-    alloc: Global,
-    version: &Version,
-    sectors: &mut [Sector],
-    nexts: Vec<Next>,
-) -> Result<Vec<Vec<Entry>>, AllocError>
-    requires { AreNextOf version.now sectors.old nexts.items }
-    ensures gone { OnOk result
-        (sectors.new ≡ all_renewed version.now sectors.old (map cells_of sectors.old)) }
-    ensures err { OnErr result (sectors.new ≡ sectors.old) }
-    ensures windows { IfOk result (λ windows.
-        map entries_in windows.items ≡ map entries_of sectors.old) }
-    ensures cells { map cells_of sectors.new ≡ map cells_of sectors.old }
-{
-    let mut windows = Vec::with_capacity(alloc, sectors.len())?;
-    for next in nexts {
-        let closed = sectors[windows.len()].go_on(next);
-        windows.push_reserved(closed);
-    }
-    Ok(windows)
-}
-
-// Puts these cells down one after another as the windows begin, and leaves out those outside the
-// world.
-fn put_all(bounds: Bounds, sectors: &mut [Sector], puts: &[(Pos, Cell)])
-    requires sectors { AreSectors bounds (map cells_of sectors.old) }
-    requires nothing { All (λ s. entries_of s ≡ []) sectors.old }
-    requires chests { All (λ put. is_chest put.1 ≡ false) puts.now }
-    ensures put { sectors.new ≡ put_all bounds sectors.old puts.now }
-    ensures placed { AreSectors bounds (map cells_of sectors.new) }
-{
-    for (p, cell) in puts {
-        put(bounds, sectors, *p, *cell);
-    }
-}
-
-// Puts a cell down as the windows begin; nothing outside the world.
-fn put(bounds: Bounds, sectors: &mut [Sector], p: Pos, cell: Cell)
-    requires sectors { AreSectors bounds (map cells_of sectors.old) }
-    requires nothing { All (λ s. entries_of s ≡ []) sectors.old }
-    requires chest { is_chest cell ≡ false }
-    ensures put { sectors.new ≡ put_at bounds sectors.old p cell }
-    ensures placed { AreSectors bounds (map cells_of sectors.new) }
-    ensures nothing { All (λ s. entries_of s ≡ []) sectors.new }
-{
-    let Some(number) = bounds.sector_of(p) else {
-        return;
-    };
-    sectors[number as usize].put(p, cell);
 }

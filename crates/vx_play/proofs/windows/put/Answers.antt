@@ -3,7 +3,7 @@ use Rattle.std.specs.List.{All}
 use Rattle.vx_cells.specs.Maps.{AreSectors}
 use Rattle.vx_play.specs.Plays.{cells_of, entries_of}
 use Rattle.vx_play.proofs.Going.{is_there, put_held, put_there, put_placed, put_empty}
-use Rattle.vx_play.proofs.play.put.Goals as goal
+use Rattle.vx_play.proofs.windows.put.Goals as goal
 
 pub bounds-sectors-number : goal.bounds-sectors-number
 bounds-sectors-number c =

@@ -4,7 +4,7 @@ use Rattle.vx_power.specs.Levels.{has}
 use Rattle.vx_sector.specs.SectorData.{entry_of}
 use Rattle.vx_sector.specs.Windows.{HoldsPlaces}
 use Rattle.vx_play.specs.Writing.{AreSpared}
-use Rattle.vx_play.proofs.written.add_changed.Given as goal
+use Rattle.vx_play.proofs.writes.add_changed.Given as goal
 
 -- where what is left is spared, all is, but at positions that were added
 abbrev pub invariant-loop-entry : goal.invariant-loop-entry

@@ -3,7 +3,7 @@ use Rattle.std.specs.List.{All}
 use Rattle.vx_cells.specs.Maps.{AreSectors}
 use Rattle.vx_play.specs.Nexts.{put_all}
 use Rattle.vx_play.specs.Plays.{cells_of, entries_of}
-use Rattle.vx_play.proofs.play.put_all.Given as goal
+use Rattle.vx_play.proofs.windows.put_all.Given as goal
 
 -- what is left to be put down leads to the same sectors, each in its place and with nothing recorded
 abbrev pub invariant-loop-p : goal.invariant-loop-p

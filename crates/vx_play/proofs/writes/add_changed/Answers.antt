@@ -11,8 +11,8 @@ use Rattle.vx_sector.specs.SectorData.{entry_of}
 use Rattle.vx_sector.specs.Windows.{HoldsPlaces}
 use Rattle.vx_play.specs.Writing.{AreSpared}
 use Rattle.vx_play.proofs.Sparing.{spared_not}
-use Rattle.vx_play.proofs.written.add_changed.Goals as goal
-use Rattle.vx_play.proofs.written.add_changed.Goals.{then-not-is_same+in_ok-push, else-not-is_same}
+use Rattle.vx_play.proofs.writes.add_changed.Goals as goal
+use Rattle.vx_play.proofs.writes.add_changed.Goals.{then-not-is_same+in_ok-push, else-not-is_same}
 
 pub loop-entry-preserved : goal.loop-entry-preserved
 loop-entry-preserved c =

@@ -1,6 +1,6 @@
 use Rattle.std.proofs.Common.{◌≡◌, map}
 use Rattle.vx_play.specs.Plays.{opened_by}
-use Rattle.vx_play.proofs.play.open_sectors.Given as goal
+use Rattle.vx_play.proofs.windows.open_sectors.Given as goal
 
 -- the sectors of the cells so far
 abbrev pub invariant-loop-cells : goal.invariant-loop-cells

@@ -7,7 +7,7 @@ use Rattle.vx_sector.specs.Windows.{HoldsPlaces}
 use Rattle.vx_sector.proofs.Catching.{after_bounds, after_sector, places_too, window_places}
 use Rattle.vx_play.specs.Writing.{AreSpared}
 use Rattle.vx_play.proofs.Sparing.{spared_all}
-use Rattle.vx_play.proofs.written.add_written.Goals as goal
+use Rattle.vx_play.proofs.writes.add_written.Goals as goal
 
 pub add_changed-requires-clause-base : goal.add_changed-requires-clause-base
 add_changed-requires-clause-base c =

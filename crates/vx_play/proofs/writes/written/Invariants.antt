@@ -3,7 +3,7 @@ use Rattle.std.specs.List.{All}
 use Rattle.vx_geom.specs.declared.pos.Pos.{Pos}
 use Rattle.vx_power.specs.Levels.{has}
 use Rattle.vx_play.specs.Writing.{IsSpared}
-use Rattle.vx_play.proofs.written.written.Given as goal
+use Rattle.vx_play.proofs.writes.written.Given as goal
 
 -- the sectors so far are spared, but at positions that were added
 abbrev pub invariant-loop-sector : goal.invariant-loop-sector

@@ -2,7 +2,7 @@ use Rattle.std.proofs.Common.{◌+◌, [], ◌∷◌, ◌++◌, take, sym, ap, �
 use Rattle.std.proofs.lemmas.List.{take_more}
 use Rattle.vx_play.specs.Nexts.{AreNextOf}
 use Rattle.vx_play.proofs.Going.{next_more}
-use Rattle.vx_play.proofs.play.all_next.Goals as goal
+use Rattle.vx_play.proofs.windows.all_next.Goals as goal
 
 pub loop-sector-preserved : goal.loop-sector-preserved
 loop-sector-preserved c =

@@ -1,6 +1,6 @@
 use Rattle.std.proofs.Common.{◌≡◌, map, take}
 use Rattle.vx_play.specs.Plays.{cells_of}
-use Rattle.vx_play.proofs.play.cells_of.Given as goal
+use Rattle.vx_play.proofs.windows.cells_of.Given as goal
 
 -- the cells of the sectors so far
 abbrev pub invariant-loop-sector : goal.invariant-loop-sector

@@ -61,7 +61,7 @@ pub fn plan_woken(
     woken(alloc, map, version, waking, written)
 }
 
-// The same.
+// The same, as one fact.
 fn woken(
     alloc: Global,
     map: &Frozen<'_>,

@@ -62,7 +62,7 @@ pub fn plan_parts<R: Threads + Sync, G: Gate + Sync>(
     )
 }
 
-// The same by these workers.
+// The same by these workers, as one fact.
 fn woken<R: Threads + Sync, G: Gate + Sync>(
     workers: &Workers<'_, R, G>,
     alloc: Global,

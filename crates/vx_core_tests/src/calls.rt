@@ -9,7 +9,7 @@ use vx_decide::Rule;
 use vx_geom::{Bounds, Pos};
 use vx_policy::{Policy, Version};
 use vx_record::{
-    Archive, Call, Caller, Fault, Lists, Place, are_seated, began_with, disagreement, says,
+    Archive, Call, Caller, Fault, Lists, Place, are_seated, began_with, disagreement, follows, says,
 };
 use vx_region::Name;
 use vx_sector::{Cmd, Fresh, Refusal, Reply, Seat, Sector};
@@ -45,6 +45,7 @@ struct Known {
     base: Cells,
     version: Version,
     closed: u64,
+    opening: Opening,
 }
 
 impl Place for Slot {
@@ -52,8 +53,14 @@ impl Place for Slot {
 
     ghost sector = { λ s. s.home };
 
-    ghost known = { λ keeper k.
-        record { base = keeper.base; version = keeper.version; closed = keeper.closed } };
+    ghost known = { λ keeper k. record {
+      base = keeper.base;
+      version = keeper.version;
+      closed = keeper.closed;
+      names = keeper.opening.names;
+    } };
+
+    ghost count = { λ keeper. 1 };
 
     fn sector(&self) -> Option<&Sector> {
         self.home.as_ref()
@@ -61,7 +68,10 @@ impl Place for Slot {
 
     fn is_known(&self, _at: usize, keeper: &Known) -> bool {
         match &self.home {
-            Some(sector) => began_with(sector, &keeper.base, &keeper.version, keeper.closed),
+            Some(sector) => {
+                began_with(sector, &keeper.base, &keeper.version)
+                    && follows(sector, keeper.closed, &keeper.opening)
+            }
             None => false,
         }
     }
@@ -249,5 +259,6 @@ fn what_is_known(opening: &Opening) -> Result<Known, Fail> {
         base: cells.try_clone()?,
         version: version(opening)?,
         closed: 0,
+        opening: opening.try_clone()?,
     })
 }

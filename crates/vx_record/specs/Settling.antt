@@ -4,7 +4,7 @@ use Rattle.std.specs.List.{All, Contains}
 use Rattle.vx_cells.specs.SectorCells.{SectorCells}
 use Rattle.vx_policy.specs.declared.version.Version.{Version}
 use Rattle.vx_sector.specs.SectorData.{SectorData, EntryData}
-use Rattle.vx_core.specs.Chronicles.{TickData}
+use Rattle.vx_core.specs.Chronicles.{TickData, AreSeated}
 use Rattle.vx_record.specs.Said.{said_of}
 use Rattle.vx_record.specs.declared.call.Call.{Call}
 use Rattle.vx_record.specs.declared.fault.Fault.{Fault}
@@ -16,11 +16,12 @@ pub record CallerData : Type 0 where
   pub lists : List (List Call)
 
 -- what the keeper has of a sector: the cells with which its window began, the version that judges
--- it, and how many of its entries are closed
+-- it, how many of its entries are closed, and the names of those who have seats
 pub record KnownData : Type 0 where
   pub base : SectorCells
   pub version : Version
   pub closed : ℕ
+  pub names : List (List ℕ)
 
 -- how many callers have this seat
 abbrev pub callers_at : ℕ → List CallerData → ℕ
@@ -31,11 +32,19 @@ pub record IsEachOnce (seats : ℕ) (callers : List CallerData) : Type 0 where
   pub only : All (λ c. c.seat < seats) callers
   pub once : (seat : ℕ) → seat < seats → callers_at seat callers ≡ 1
 
+-- the window of the sector began with these cells, and this version judges it
+abbrev pub BeganWith : SectorData → SectorCells → Version → Type 0
+BeganWith s base version = (s.base ≡ base) × (s.version ≡ version)
+
+-- the window follows so many entries, and each of its own was made from a seat of these names
+abbrev pub Follows : SectorData → ℕ → List (List ℕ) → Type 0
+Follows s closed names = (s.closed ≡ closed) × AreSeated names s.entries
+
 -- the sector is there, and is what the keeper has of it
 abbrev pub IsKnown : Option SectorData → KnownData → Type 0
 IsKnown None known = ⊥
 IsKnown (Some s) known =
-    (s.base ≡ known.base) × (s.version ≡ known.version) × (s.closed ≡ known.closed)
+    BeganWith s known.base known.version × Follows s known.closed known.names
 
 -- the sector in place k, if one is there
 abbrev pub sector_in : List (Option SectorData) → ℕ → Option SectorData

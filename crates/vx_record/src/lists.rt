@@ -132,8 +132,8 @@ fn has_room(sector: &Sector, cmd: &Cmd) -> bool
     sector.cells().holds(cmd.place()) && sector.count() < MAX_ENTRIES
 }
 
-// Whether an answer is recorded.
-fn is_recorded(answer: &Result<Reply, Refusal>) -> bool
+/// Whether an answer is recorded with its command.
+pub fn is_recorded(answer: &Result<Reply, Refusal>) -> bool
     ensures { result ≡ is_recorded answer.now }
 {
     !matches!(

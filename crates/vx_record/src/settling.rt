@@ -20,6 +20,7 @@ pub fn disagreement<P: Caller, S: Place>(
     archive: &Archive,
 ) -> Option<Fault>
     requires lists { All (λ p. length (P.caller p).lists ≡ length places.now) callers.now }
+    requires all { length places.now ≡ S.count keeper.now }
     requires few { length places.now < 2 ^ 32 }
     ensures { IsFound seats (map P.caller callers.now) (map S.sector places.now)
         (S.known keeper.now) archive.now.chronicle.ticks result }
@@ -78,7 +79,8 @@ fn callers_at<P: Caller>(callers: &[P], seat: u8) -> usize
 
 // The first sector that is away or differs from what the keeper has of it.
 fn first_torn<S: Place>(places: &[S], keeper: &S::Keeper) -> Option<u32>
-    requires { length places.now < 2 ^ 32 }
+    requires all { length places.now ≡ S.count keeper.now }
+    requires few { length places.now < 2 ^ 32 }
     ensures { MatchOption result
         (AreKnown (S.known keeper.now) (map S.sector places.now))
         (IsTorn (S.known keeper.now) (map S.sector places.now)) }

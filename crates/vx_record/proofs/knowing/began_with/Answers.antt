@@ -10,8 +10,8 @@ pub returns-then-ne : goal.returns-then-ne
 returns-then-ne c =
     let other : not (same_version c.version.result.now c.args.version.now) ≡ true = sym c.ne.ensures ∙ c.if-ne.true in (
       λ no. absurd (false≢true no),
-      λ known.
-          let same = (version_decided c.version.result.now c.args.version.now).1 (c.version.ensures ∙ known.1) in
+      λ began.
+          let same = (version_decided c.version.result.now c.args.version.now).1 (c.version.ensures ∙ began.1) in
           absurd (false≢true (sym (ap not same) ∙ other)),
     )
 
@@ -19,6 +19,5 @@ pub returns : goal.returns
 returns c =
     let version = sym c.version.ensures ∙ (version_decided c.version.result.now c.args.version.now).0
     (not-false _ (sym c.ne.ensures ∙ c.if-ne.false)) in
-    let closed : c.args.sector.now.closed ≡ c.args.closed = sym c.closed.ensures ∙ c.if-closed.false in
-    Decides-like _ (λ base. (sym c.base.ensures ∙ base, version, closed)) (λ known. c.base.ensures ∙ known.0)
+    Decides-like _ (λ base. (sym c.base.ensures ∙ base, version)) (λ began. c.base.ensures ∙ began.0)
     (Decides-at _ _ c.eq.ensures (cells_decided _ _))

@@ -1,0 +1,112 @@
+-- The tick that closes the windows of sectors, on record.
+use Rattle.std.proofs.Common.{◌≡◌, ℕ, ◌+◌, ◌<◌, Bool, List, [], ◌∷◌, ◌++◌, length, map, refl, sym, ap, ◌∙◌, subst, arith}
+use Rattle.std.proofs.lemmas.List.{length_push}
+use Rattle.std.specs.List.{All}
+use Rattle.std.proofs.lemmas.List.Elements.{All-from_recursion, All-append}
+use Rattle.vx_cells.specs.Maps.{MapData}
+use Rattle.vx_cells.specs.Wholes.{IsMap}
+use Rattle.vx_policy.specs.declared.version.Version.{Version}
+use Rattle.vx_region.specs.Regions.{Regions}
+use Rattle.vx_sector.specs.SectorData.{SectorData}
+use Rattle.vx_sector.specs.Windows.{IsSector}
+use Rattle.vx_step.specs.Ticks.{fates_on, stepped}
+use Rattle.vx_wake.specs.Waking.{WakingData, RestsBut}
+use Rattle.vx_play.specs.Plays.{entries_of, most_ticks}
+use Rattle.vx_core.specs.Chronicles.{TickData, AreSeated, AreWindows, all_after, map_acted, map_after}
+use Rattle.vx_core.proofs.Growing.{map_after_one_more}
+use Rattle.vx_core.proofs.Recording.{cells_by_entries, windows_on_record}
+use Rattle.vx_record.specs.Archives.{ArchiveData, IsArchive, IsNextTick}
+use Rattle.vx_keeper.specs.Marks.{WorldData}
+use Rattle.vx_keeper.specs.Keepers.{KeeperData, keeper_data, IsKeeper, IsByEdits, map_now, map_next, fates_next, chronicle_next}
+use Rattle.vx_keeper.proofs.Knowing.{AreAsKnown}
+
+module _ (first : Regions) (all : ℕ) (k : KeeperData) (keeper : IsKeeper first all k) (ss : List SectorData)
+    (sectors : All IsSector ss)
+    (held : AreAsKnown k.world.version k.chronicle.opening.names k.world.map.sectors k.counts ss) where
+  abbrev pub tick : TickData
+  tick = record {
+    number = length k.chronicle.ticks + 1;
+    version = k.world.version;
+    windows = map entries_of ss;
+    fates = fates_next k ss;
+  }
+
+  -- the map after the windows, as the chronicle has it
+  pub acted_now : map_acted k.world.map tick ≡ map_now k ss
+  acted_now =
+      let after = ap (λ cs. all_after cs (map entries_of ss)) held.bases ∙ sym (cells_by_entries ss sectors) in
+      λ i. record { sizes = k.world.map.sizes; sectors = after i }
+
+  -- it is the next tick of the chronicle
+  pub is_next : IsNextTick k.chronicle tick
+  is_next = record {
+    number = refl;
+    version = keeper.number;
+    windows =
+        subst (λ (m : MapData). AreWindows k.chronicle.opening.names k.world.version.policy m.sectors (map entries_of ss))
+        keeper.map
+        (subst (λ cs. AreWindows k.chronicle.opening.names k.world.version.policy cs (map entries_of ss)) (sym held.bases)
+        (windows_on_record k.chronicle.opening.names k.world.version ss sectors
+        (All-from_recursion (λ (s : SectorData). AreSeated k.chronicle.opening.names s.entries) ss held.seated)
+        (All-from_recursion (λ (s : SectorData). s.version ≡ k.world.version) ss held.judged)));
+    fates =
+        ap (fates_on k.world.version.policy)
+        (sym acted_now ∙ ap (λ (m : MapData). map_acted m tick) keeper.map);
+  }
+
+  -- and the map after it is that of the chronicle
+  pub map_after_it : map_next k ss ≡ map_after k.chronicle.opening.terrain (k.chronicle.ticks ++ tick ∷ [])
+  map_after_it =
+      ap (stepped k.world.version.policy) (sym acted_now ∙ ap (λ (m : MapData). map_acted m tick) keeper.map)
+      ∙ sym (map_after_one_more k.chronicle.opening.terrain k.chronicle.ticks tick)
+
+  -- so the keeper goes on
+  pub keeps : (counts : List ℕ) (v : Version) (waking : WakingData) (b : Bool)
+      → IsArchive (chronicle_next k ss) counts → length counts ≡ all → v.tick ≡ length k.chronicle.ticks + 2
+      → RestsBut (map_next k ss) waking → IsByEdits first v → length k.chronicle.ticks < most_ticks
+      → IsMap (map_next k ss) → length (map_next k ss).sectors ≡ all
+      → IsKeeper first all (record {
+        chronicle = chronicle_next k ss;
+        counts = counts;
+        world = record { map = map_next k ss; version = v };
+        waking = waking;
+        is_roomy = b;
+      })
+  keeps counts v waking b archive many number rests edits more whole each =
+      let longer : length (k.chronicle.ticks ++ tick ∷ []) ≡ length k.chronicle.ticks + 1 = length_push k.chronicle.ticks tick in
+      record {
+        archive = archive;
+        all = many;
+        each = each;
+        whole = whole;
+        map = map_after_it;
+        number = omega (arith, number, longer);
+        rests = rests;
+        edits = edits;
+        ticks =
+            All-append (λ (t : TickData). IsByEdits first t.version) k.chronicle.ticks (tick ∷ []) keeper.ticks
+            (All-from_recursion (λ (t : TickData). IsByEdits first t.version) (tick ∷ []) (keeper.edits, tt));
+        most = omega (arith, longer, more);
+      }
+
+-- with more or less room it is the same keeper
+pub still_keeps : (first : Regions) (all : ℕ) (a b : ArchiveData) (world : WorldData) (waking : WakingData)
+    → b.chronicle ≡ a.chronicle → b.counts ≡ a.counts
+    → IsKeeper first all (keeper_data a world waking) → IsKeeper first all (keeper_data b world waking)
+still_keeps first all a b world waking chronicle counts h =
+    let roomed : IsKeeper first all (record (keeper_data a world waking) { is_roomy = b.is_roomy }) =
+    record {
+      archive = h.archive;
+      all = h.all;
+      each = h.each;
+      whole = h.whole;
+      map = h.map;
+      number = h.number;
+      rests = h.rests;
+      edits = h.edits;
+      ticks = h.ticks;
+      most = h.most;
+    } in
+    subst (IsKeeper first all)
+    (λ i. record { chronicle = sym chronicle i; counts = sym counts i; world = world; waking = waking; is_roomy = b.is_roomy })
+    roomed

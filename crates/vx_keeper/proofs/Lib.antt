@@ -1,0 +1,5 @@
+pub mod Bringing
+pub mod Closing
+pub mod Knowing
+pub mod Marking
+pub mod Parts

@@ -1,0 +1,204 @@
+use Rattle.std.proofs.Common.{◌≡◌, ◌+◌, ◌≤◌, List, [], ◌∷◌, ◌++◌, length, map, sym, ap, subst, ◌∙◌, arith}
+use Rattle.std.specs.List.{All}
+use Rattle.std.proofs.lemmas.List.{length-map}
+use Rattle.std.proofs.lemmas.List.Elements.{All-same}
+use Rattle.vx_geom.specs.Sizes.{sector_count}
+use Rattle.vx_cells.specs.Maps.{AreSectors, MapData}
+use Rattle.vx_cells.specs.Wholes.{IsMap, with_cells_on}
+use Rattle.vx_sector.specs.SectorData.{SectorData}
+use Rattle.vx_sector.specs.Windows.{count_of, most_entries}
+use Rattle.vx_step.proofs.Puts.{puts_whole}
+use Rattle.vx_play.specs.Plays.{cells_of, entries_in, entries_of, all_renewed}
+use Rattle.vx_core.specs.Chronicles.{TickData, ChronicleData}
+use Rattle.vx_core.specs.Records.{tick_in}
+use Rattle.vx_record.specs.Archives.{IsArchive, IsNextTick, next_counts}
+use Rattle.vx_record.proofs.Counting.{archive_grown, counts_fit, counts_go_on}
+use Rattle.vx_keeper.specs.Keepers.{KeeperData, keeper_data, IsKeeper, map_now, map_next, chronicle_next}
+use Rattle.vx_keeper.specs.Marks.{IsPartOf}
+use Rattle.vx_keeper.proofs.Closing.{tick, is_next, keeps}
+use Rattle.vx_keeper.proofs.Knowing.{AreAsKnown, held_of, whole_now}
+use Rattle.vx_keeper.proofs.Parts.{parts_renewed}
+use Rattle.vx_keeper.proofs.keeper.Keeper.close.Given.{Over}
+use Rattle.vx_keeper.proofs.keeper.Keeper.close.Goals as goal
+
+pub go_on-was-requires-clause-began : goal.go_on-was-requires-clause-began
+go_on-was-requires-clause-began g c =
+    let held = held_of g.A.Naming.first g.A.Places.all c.args.self.now c.soundness.ensures c.args.sectors.now c.requires.each c.requires.known in
+    ap (λ (k : KeeperData). k.world.map.sectors) c.self.view_is ∙ held.bases
+
+pub go_on-was-requires-clause-placed : goal.go_on-was-requires-clause-placed
+go_on-was-requires-clause-placed g c =
+    let first = g.A.Naming.first in
+    let many = g.A.Places.all in
+    let k = c.args.self.now in
+    let ss = c.args.sectors.now in
+    let held = held_of first many k c.soundness.ensures ss c.requires.each c.requires.known in
+    subst (λ v. AreSectors v (map cells_of ss)) (sym (ap (λ (k : KeeperData). k.world.map.sizes) c.self.view_is))
+    (whole_now first many k c.soundness.ensures ss c.requires.each c.are_sectors.ensures held.bases)
+
+pub renew_sectors-windows-requires-clause-sectors : goal.renew_sectors-windows-requires-clause-sectors
+renew_sectors-windows-requires-clause-sectors g c =
+    let first = g.A.Naming.first in
+    let many = g.A.Places.all in
+    let k = c.args.self.now in
+    let ss = c.args.sectors.now in
+    let held = held_of first many k c.soundness.ensures ss c.requires.each c.requires.known in
+    let whole = whole_now first many k c.soundness.ensures ss c.requires.each c.are_sectors.ensures held.bases in
+    let sizes = ap (λ (k : KeeperData). k.world.map.sizes) c.self.view_is in
+    let m : MapData = record { sizes = c.self.inside.known.map.sizes; sectors = map cells_of ss } in
+    let kept = puts_whole m c.as_slice.result.now (subst (λ v. AreSectors v (map cells_of ss)) (sym sizes) whole) in
+    let same = c.bounds.ensures ∙ ap (λ (m : MapData). m.sizes) c.go_on-was.ensures.map ∙ kept.1 ∙ sizes in
+    subst (λ v. AreSectors v (map cells_of ss)) (sym same) whole
+
+pub add-requires-clause-next : goal.add-requires-clause-next
+add-requires-clause-next g c =
+    let first = g.A.Naming.first in
+    let many = g.A.Places.all in
+    let k = c.args.self.now in
+    let ss = c.args.sectors.now in
+    let held = held_of first many k c.soundness.ensures ss c.requires.each c.requires.known in
+    let number : length c.ticks.result.now + 1 ≡ length k.chronicle.ticks + 1 =
+    omega (arith, length-map c.ticks.result.now tick_in, ap length c.ticks.ensures, ap (λ (k : KeeperData). length k.chronicle.ticks) c.self.view_is) in
+    let version = c.go_on-was.ensures.was ∙ ap (λ (k : KeeperData). k.world.version) c.self.view_is in
+    let due = is_next first many k c.soundness.ensures ss c.are_sectors.ensures held in
+    let told : TickData = record {
+      number = length c.ticks.result.now + 1;
+      version = c.go_on-was.result;
+      windows = map entries_in c.renew_sectors-windows.result.items;
+      fates = c.args.ready.fates.items;
+    } in
+    let is : told ≡ tick first many k c.soundness.ensures ss c.are_sectors.ensures held =
+    λ i. record {
+      number = number i;
+      version = version i;
+      windows = c.renew_sectors-windows.ensures.windows i;
+      fates = c.requires.ready.worked.told i;
+    } in
+    subst (λ (d : ChronicleData). IsNextTick d told) (sym (ap (λ (k : KeeperData). k.chronicle) c.self.view_is))
+    (subst (IsNextTick k.chronicle) (sym is) due)
+
+pub add-requires-clause-most : goal.add-requires-clause-most
+add-requires-clause-most g c =
+    let first = g.A.Naming.first in
+    let many = g.A.Places.all in
+    let k = c.args.self.now in
+    let ss = c.args.sectors.now in
+    let held = held_of first many k c.soundness.ensures ss c.requires.each c.requires.known in
+    let counts = ap (λ (k : KeeperData). k.counts) c.self.view_is ∙ held.closed in
+    let fits = counts_fit ss (λ j d within. (c.are_sectors.ensures j d within).most) in
+    All-same (λ n. n ≤ most_entries) _ _
+    (λ i. next_counts (counts i) (c.renew_sectors-windows.ensures.windows i))
+    fits
+
+-- where the sectors lie, and the map that the tick leaves
+module _ (g : Over) (c : goal.After-drop-puts g) where
+  abbrev k : KeeperData
+  k = c.args.self.now
+
+  abbrev ss : List SectorData
+  ss = c.args.sectors.now
+
+  held : AreAsKnown k.world.version k.chronicle.opening.names k.world.map.sectors k.counts ss
+  held = held_of g.A.Naming.first g.A.Places.all k c.soundness.ensures ss c.requires.each c.requires.known
+
+  whole : IsMap (map_now k ss)
+  whole = whole_now g.A.Naming.first g.A.Places.all k c.soundness.ensures ss c.requires.each c.are_sectors.ensures held.bases
+
+  sizes : c.self.inside.known.map.sizes ≡ k.world.map.sizes
+  sizes = ap (λ (k : KeeperData). k.world.map.sizes) c.self.view_is
+
+  map_is : c.go_on-was.new.self.map ≡ map_next k ss
+  map_is =
+      c.go_on-was.ensures.map
+      ∙ (λ i. with_cells_on (record { sizes = sizes i; sectors = map cells_of ss }) (c.as_slice.ensures.value i))
+      ∙ sym c.requires.ready.worked.after
+
+  world_is : c.go_on-was.new.self ≡ record { map = map_next k ss; version = c.args.ready.version }
+  world_is = λ i. record { map = map_is i; version = c.go_on-was.ensures.version i }
+
+  put : IsMap (with_cells_on (map_now k ss) c.args.ready.puts.items)
+      × ((with_cells_on (map_now k ss) c.args.ready.puts.items).sizes ≡ k.world.map.sizes)
+  put = puts_whole (map_now k ss) c.args.ready.puts.items whole
+
+  next_whole : IsMap (map_next k ss)
+  next_whole = subst IsMap (sym c.requires.ready.worked.after) put.0
+
+  next_sizes : (map_next k ss).sizes ≡ k.world.map.sizes
+  next_sizes = ap (λ (m : MapData). m.sizes) c.requires.ready.worked.after ∙ put.1
+
+  next_each : length (map_next k ss).sectors ≡ g.A.Places.all
+  next_each =
+      omega (arith, next_whole.all, ap sector_count next_sizes, c.soundness.ensures.whole.all, c.soundness.ensures.each)
+
+  sectors_are : c.renew_sectors-windows.new.sectors ≡ all_renewed c.args.ready.version ss (map_next k ss).sectors
+  sectors_are =
+      let version = c.version.ensures ∙ c.go_on-was.ensures.version in
+      let bounds = c.bounds.ensures ∙ ap (λ (m : MapData). m.sizes) map_is ∙ next_sizes in
+      c.renew_sectors-windows.ensures.renewed
+      ∙ (λ i. all_renewed (version i) ss
+      (with_cells_on (record { sizes = bounds i; sectors = map cells_of ss }) (c.as_slice-2.ensures.value i)).sectors)
+      ∙ ap (λ (m : MapData). all_renewed c.args.ready.version ss m.sectors) (sym c.requires.ready.worked.after)
+
+  counts_are : c.add.new.self.counts ≡ map count_of ss
+  counts_are =
+      let counts = ap (λ (k : KeeperData). k.counts) c.self.view_is ∙ held.closed in
+      c.add.ensures.counts
+      ∙ (λ i. next_counts (counts i) (c.renew_sectors-windows.ensures.windows i))
+      ∙ counts_go_on ss
+
+  chronicle_is : c.add.new.self.chronicle ≡ chronicle_next k ss
+  chronicle_is =
+      let number : length c.ticks.result.now + 1 ≡ length k.chronicle.ticks + 1 =
+      omega (arith, length-map c.ticks.result.now tick_in, ap length c.ticks.ensures, ap (λ (k : KeeperData). length k.chronicle.ticks) c.self.view_is) in
+      let version = c.go_on-was.ensures.was ∙ ap (λ (k : KeeperData). k.world.version) c.self.view_is in
+      let before = ap (λ (k : KeeperData). k.chronicle) c.self.view_is in
+      c.add.ensures.chronicle
+      ∙ (λ i. record {
+        opening = (before i).opening;
+        ticks = (before i).ticks ++ record {
+          number = number i;
+          version = version i;
+          windows = c.renew_sectors-windows.ensures.windows i;
+          fates = c.requires.ready.worked.told i;
+        } ∷ [];
+      })
+
+  keeper_is : IsKeeper g.A.Naming.first g.A.Places.all
+      (keeper_data c.add.new.self c.go_on-was.new.self c.args.ready.waking)
+  keeper_is =
+      let first = g.A.Naming.first in
+      let many = g.A.Places.all in
+      let counted : next_counts k.counts (map entries_of ss) ≡ map count_of ss =
+      ap (λ ns. next_counts ns (map entries_of ss)) held.closed ∙ counts_go_on ss in
+      let archive = subst (IsArchive (chronicle_next k ss)) counted
+      (archive_grown k.chronicle k.counts (tick first many k c.soundness.ensures ss c.are_sectors.ensures held)
+      c.soundness.ensures.archive (is_next first many k c.soundness.ensures ss c.are_sectors.ensures held)) in
+      subst (IsKeeper first many)
+      (λ i. record {
+        chronicle = sym chronicle_is i;
+        counts = sym counts_are i;
+        world = sym world_is i;
+        waking = c.args.ready.waking;
+        is_roomy = c.add.new.self.is_roomy;
+      })
+      (keeps first many k c.soundness.ensures ss c.are_sectors.ensures held (map count_of ss) c.args.ready.version
+      c.args.ready.waking c.add.new.self.is_roomy archive (length-map ss count_of ∙ c.requires.each)
+      c.requires.ready.number c.requires.ready.worked.rests c.requires.edits c.requires.more next_whole next_each)
+
+pub invariant_of-self : goal.invariant_of-self
+invariant_of-self g c = (keeper_is g c, c.mark.ensures)
+
+pub returns-clause-counts : goal.returns-clause-counts
+returns-clause-counts g c = counts_are g c
+
+pub returns-clause-sectors : goal.returns-clause-sectors
+returns-clause-sectors g c = sectors_are g c
+
+pub returns-clause-parts : goal.returns-clause-parts
+returns-clause-parts g c =
+    let many = c.requires.each ∙ sym (next_each g c) in
+    subst (λ w. All (IsPartOf w) c.renew_sectors-windows.new.sectors) (sym (world_is g c))
+    (subst (All (IsPartOf (record { map = map_next c.args.self.now c.args.sectors.now; version = c.args.ready.version })))
+    (sym (sectors_are g c))
+    (parts_renewed (map_next c.args.self.now c.args.sectors.now) c.args.ready.version c.args.sectors.now
+    (next_whole g c).each many c.are_sectors.ensures))

@@ -1,0 +1,17 @@
+use Rattle.std.proofs.Common.{◌≡◌, List, map, sym, subst, rules}
+use Rattle.std.specs.List.{All}
+use Rattle.vx_sector.specs.SectorData.{SectorData}
+use Rattle.vx_play.specs.Plays.{first_version, opened_with}
+use Rattle.vx_keeper.specs.Marks.{WorldData, IsPartOf}
+use Rattle.vx_keeper.proofs.Parts.{parts_opened}
+use Rattle.vx_keeper.proofs.keeper.Keeper.new.Goals as goal
+
+pub returns-clause-parts : goal.returns-clause-parts
+returns-clause-parts g c =
+    let o = c.args.opening in
+    let world : WorldData = record { map = o.terrain; version = first_version o.policy } in
+    let known : c.opened-keeper.result.world ≡ world = search rules in
+    let opened : c.in_ok-sectors.sectors.items ≡ map (opened_with o.policy) o.terrain.sectors = search rules in
+    subst (λ w. All (IsPartOf w) c.in_ok-sectors.sectors.items) (sym known)
+    (subst (λ (ss : List SectorData). All (IsPartOf world) ss) (sym opened)
+    (parts_opened o.terrain o.policy c.soundness.ensures.map.each))

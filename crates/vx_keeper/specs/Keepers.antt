@@ -1,0 +1,103 @@
+-- A keeper: what it knows of its world, and the ticks that it makes.
+use Rattle.std.specs.Prelude.{◌≡◌, ℕ, ◌+◌, ◌≤◌, Bool, List, [], ◌∷◌, ◌++◌, length, map, slice_index, slice_index_or, false}
+use Rattle.std.specs.List.{All}
+use Rattle.vx_block.specs.declared.cell.Cell.{Cell}
+use Rattle.vx_cells.specs.Maps.{MapData}
+use Rattle.vx_cells.specs.SectorCells.{only_air, is_chest}
+use Rattle.vx_cells.specs.Wholes.{with_cells_on, IsMap}
+use Rattle.vx_geom.specs.declared.pos.Pos.{Pos}
+use Rattle.vx_policy.specs.Asked.{Asked}
+use Rattle.vx_policy.specs.Edits.{after, AreAccepted}
+use Rattle.vx_policy.specs.declared.version.Version.{Version}
+use Rattle.vx_region.specs.Regions.{Regions}
+use Rattle.vx_sector.specs.SectorData.{SectorData}
+use Rattle.vx_step.specs.Ticks.{fates_on, stepped}
+use Rattle.vx_step.specs.declared.fate.Fate.{Fate}
+use Rattle.vx_wake.specs.Waking.{WakingData, RestsBut}
+use Rattle.vx_play.specs.Plays.{cells_of, entries_of, most_ticks}
+use Rattle.vx_core.specs.Chronicles.{ChronicleData, map_after}
+use Rattle.vx_record.specs.Archives.{ArchiveData, IsArchive}
+use Rattle.vx_record.specs.Settling.{KnownData}
+use Rattle.vx_keeper.specs.Marks.{WorldData}
+
+-- a keeper: the chronicle, how many entries of each sector are closed in it, the world as its windows
+-- began, where that does not rest, and whether the chronicle has room for a tick more
+pub record KeeperData : Type 0 where
+  pub chronicle : ChronicleData
+  pub counts : List ℕ
+  pub world : WorldData
+  pub waking : WakingData
+  pub is_roomy : Bool
+
+abbrev pub keeper_data : ArchiveData → WorldData → WakingData → KeeperData
+keeper_data archive world waking = record {
+  chronicle = archive.chronicle;
+  counts = archive.counts;
+  world = world;
+  waking = waking;
+  is_roomy = archive.is_roomy;
+}
+
+-- the version is the policy after some list of edits, each accepted in its turn
+abbrev pub IsByEdits : Regions → Version → Type 0
+IsByEdits first v = (accepted : List Asked) × AreAccepted first accepted × (v ≡ record {
+  tick = v.tick;
+  edits = length accepted;
+  policy = after first accepted;
+})
+
+-- what holds of every keeper of a world with so many sectors, whose desk was opened with this policy:
+-- its chronicle is what the one-threaded rules give, the world is the map after its ticks, judged by
+-- the version of the next, and each version is the policy after accepted edits
+pub record IsKeeper (first : Regions) (sectors : ℕ) (k : KeeperData) : Type 0 where
+  pub archive : IsArchive k.chronicle k.counts
+  pub all : length k.counts ≡ sectors
+  pub each : length k.world.map.sectors ≡ sectors
+  pub whole : IsMap k.world.map
+  pub map : k.world.map ≡ map_after k.chronicle.opening.terrain k.chronicle.ticks
+  pub number : k.world.version.tick ≡ length k.chronicle.ticks + 1
+  pub rests : RestsBut k.world.map k.waking
+  pub edits : IsByEdits first k.world.version
+  pub ticks : All (λ tick. IsByEdits first tick.version) k.chronicle.ticks
+  pub most : length k.chronicle.ticks ≤ most_ticks
+
+-- what it has of the sector of number n
+abbrev pub known : KeeperData → ℕ → KnownData
+known k n = record {
+  base = slice_index_or k.world.map.sectors n (only_air k.world.map.sizes n);
+  version = k.world.version;
+  closed = slice_index k.counts n;
+  names = k.chronicle.opening.names;
+}
+
+-- the map after the windows of these sectors
+abbrev pub map_now : KeeperData → List SectorData → MapData
+map_now k sectors = record { sizes = k.world.map.sizes; sectors = map cells_of sectors }
+
+-- the map after the tick that closes them, which the version judges that judged the windows
+abbrev pub map_next : KeeperData → List SectorData → MapData
+map_next k sectors = stepped k.world.version.policy (map_now k sectors)
+
+-- what becomes of the moves of that tick
+abbrev pub fates_next : KeeperData → List SectorData → List (Pos × Fate)
+fates_next k sectors = fates_on k.world.version.policy (map_now k sectors)
+
+-- the chronicle with that tick
+abbrev pub chronicle_next : KeeperData → List SectorData → ChronicleData
+chronicle_next k sectors = record k.chronicle {
+  ticks = k.chronicle.ticks ++ record {
+    number = length k.chronicle.ticks + 1;
+    version = k.world.version;
+    windows = map entries_of sectors;
+    fates = fates_next k sectors;
+  } ∷ [];
+}
+
+-- what a tick does to a map, as it was worked: what is put down, no chest among it, what becomes of
+-- the moves, and where the next tick has to look
+pub record IsWorked (policy : Regions) (m : MapData) (puts : List (Pos × Cell))
+    (fates : List (Pos × Fate)) (waking : WakingData) : Type 0 where
+  pub after : stepped policy m ≡ with_cells_on m puts
+  pub told : fates ≡ fates_on policy m
+  pub chests : All (λ (put : Pos × Cell). is_chest put.1 ≡ false) puts
+  pub rests : RestsBut (stepped policy m) waking

@@ -1,0 +1,5 @@
+pub mod Bases
+pub mod Keepers
+pub mod Marks
+pub mod Readiness
+pub mod Torn

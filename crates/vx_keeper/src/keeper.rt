@@ -1,0 +1,367 @@
+ghost use Rattle.std.specs.Bool.{Decides};
+ghost use Rattle.std.specs.List.{All};
+ghost use Rattle.std.specs.Prelude.{◌≡◌, ◌<◌, ◌≤◌, ◌+◌, ◌↔◌, true, [], length, map, replicate, Some, Err, IfOk, IfErr, IfSome, MatchOption, OnOk};
+ghost use Rattle.vx_play.specs.Plays.{cells_of, most_ticks, all_renewed, opened_with, first_version};
+ghost use Rattle.vx_sector.specs.Windows.{count_of};
+ghost use Rattle.vx_core.specs.Records.{chronicle_in};
+ghost use Rattle.vx_record.specs.Settling.{AreKnown, BeganWith, IsKnown, IsTorn};
+ghost use Rattle.vx_keeper.specs.Keepers.{IsKeeper, IsByEdits, IsWorked, keeper_data, known, map_now, map_next, fates_next, chronicle_next};
+ghost use Rattle.vx_keeper.specs.Marks.{IsPartOf, AreParts};
+ghost use Rattle.vx_keeper.specs.Readiness.{CanClose, IsReady};
+ghost use Rattle.vx_keeper.specs.Torn.{IsNoWork};
+ghost use Rattle.vx_keeper.specs.declared.tick_error.TickError.TheVariants.{HistoryFull};
+
+use crate::known::Known;
+use crate::marked::Marked;
+use crate::places::Places;
+use crate::ready::Ready;
+use crate::sound::are_sectors;
+use crate::tick_error::TickError;
+use crate::work::Work;
+use std::alloc::{AllocError, Global};
+use std::marker::Model;
+use std::thread::Threads;
+use vx_cells::Frozen;
+use vx_core::{Chronicle, Opening, Tick};
+use vx_geom::Pos;
+use vx_play::{MAX_TICKS, cells_of, open_sectors, renew_sectors, written};
+use vx_policy::Version;
+use vx_record::{Archive, follows};
+use vx_sector::Sector;
+use vx_stamp::{Mark, Stamper};
+use vx_step::{Fate, Gate, plan_parts};
+use vx_wake::Waking;
+
+/// The keeper of a world: its chronicle, and what it knows of the world between two ticks. One who
+/// holds it makes the ticks, of sectors that were taken out of their locks.
+// It keeps where the map as the windows began does not rest, so that a tick looks there alone, and
+// the mark of what it knows, which it gives to the sectors that are part of that.
+#[derive(Drop)]
+pub struct Keeper<A: Places> {
+    archive: Archive,
+    known: Known,
+    waking: Waking,
+    stamper: Stamper<Known, A>,
+    mark: Option<Mark<Known, A>>,
+}
+
+impl<A: Places> Model for Keeper<A> {
+    ghost use Rattle.std.specs.Prelude.{◌≡◌, Some, IfSome};
+    ghost use Rattle.vx_keeper.specs.Keepers.{KeeperData, IsKeeper, keeper_data};
+
+    ghost Value = { KeeperData };
+
+    ghost view = { λ a. keeper_data a.archive a.known a.waking };
+
+    ghost invariant = { λ a. IsKeeper A.first A.all (keeper_data a.archive a.known a.waking)
+        × IfSome a.mark (λ m. m ≡ Some a.known) };
+}
+
+impl<A: Places> Keeper<A> {
+    /// The keeper of a world that opens so, and the sectors of that world, in order of their
+    /// numbers, in their first windows.
+    pub fn new(
+        alloc: Global,
+        opening: Opening,
+        stamper: Stamper<Known, A>,
+    ) -> Result<(Keeper<A>, Vec<Sector>), AllocError>
+        requires first { opening.policy ≡ A.first }
+        requires all { length opening.terrain.sectors ≡ A.all }
+        ensures chronicle { IfOk result (λ opened.
+            opened.0.chronicle ≡ record { opening = opening; ticks = [] }) }
+        ensures world { IfOk result (λ opened. opened.0.world
+            ≡ record { map = opening.terrain; version = first_version opening.policy }) }
+        ensures sectors { IfOk result (λ opened. opened.1.items
+            ≡ map (opened_with opening.policy) opening.terrain.sectors) }
+        ensures parts { IfOk result (λ opened.
+            All (IsPartOf opened.0.world) opened.1.items) }
+    {
+        opening.soundness();
+        let version = first_version(&opening)?;
+        let (bounds, cells) = opening.terrain().try_clone()?.into_parts();
+        let sectors = open_sectors(alloc, cells, &version)?;
+        let (_, bases) = opening.terrain().try_clone()?.into_parts();
+        let waking = Waking::all(alloc, &opening.terrain().frozen())?;
+        let archive = Archive::new(alloc, opening)?;
+        let keeper = Keeper::opened(archive, Known::new(bounds, bases, version), waking, stamper);
+        Ok((keeper, sectors))
+    }
+
+    // The keeper of a world without a tick yet.
+    fn opened(
+        archive: Archive,
+        known: Known,
+        waking: Waking,
+        stamper: Stamper<Known, A>,
+    ) -> Keeper<A>
+        requires { IsKeeper A.first A.all (keeper_data archive known waking) }
+        ensures { result ≡ keeper_data archive known waking }
+    {
+        let mut stamper = stamper;
+        let mark = stamper.mark(&known);
+        Keeper {
+            archive,
+            known,
+            waking,
+            stamper,
+            mark,
+        }
+    }
+
+    /// Whether the sector is marked as one whose window began with its part of what the keeper
+    /// knows. It costs the same whatever the sector holds; without the mark it may have begun so
+    /// all the same.
+    pub fn has_marked(&self, marked: &Marked<A>) -> bool
+        ensures { result ≡ true → IsPartOf self.now.world marked.now }
+    {
+        match &self.mark {
+            Some(mark) => marked.has(mark),
+            None => false,
+        }
+    }
+
+    /// The mark of what the keeper knows, for sectors whose windows began with their parts of it.
+    pub fn mark(&self) -> Option<Mark<Known, A>>
+        ensures { IfSome result (λ mark. mark ≡ Some self.now.world) }
+    {
+        match &self.mark {
+            Some(mark) => Some(mark.again()),
+            None => None,
+        }
+    }
+
+    /// Whether the sector is what the keeper has of the sector of that number. Where it is said to
+    /// have begun with its part of what the keeper knows, nothing of it is compared but its number
+    /// and its record.
+    pub fn knows(&self, at: usize, sector: &Sector, is_part: bool) -> bool
+        requires there { at < A.all }
+        requires part { is_part ≡ true → IsPartOf self.now.world sector.now }
+        ensures { Decides result (IsKnown (Some sector.now) (known self.now at)) }
+    {
+        self.has_begun(at, sector, is_part)
+            && follows(sector, self.archive.count(at), self.archive.opening())
+    }
+
+    /// What the next tick does, whose windows these sectors have, all of the world in order of their
+    /// numbers. Where one is not what the keeper has of it the first of these is told; but first of
+    /// all, that there is no number left. The sectors are worked by 1 to 8 threads.
+    pub fn work<R: Threads + Sync, G: Gate + Sync>(
+        &self,
+        rt: &R,
+        alloc: Global,
+        sectors: &[Sector],
+        are_parts: &[bool],
+        workers: usize,
+        gate: &G,
+    ) -> Result<Work, TickError>
+        requires each { length sectors.now ≡ A.all }
+        requires parts { AreParts self.now.world are_parts.now sectors.now }
+        requires workers { (0 < workers) × (workers ≤ 8) }
+        ensures full { (result ≡ Err HistoryFull)
+            ↔ (most_ticks ≤ length self.now.chronicle.ticks) }
+        ensures refused { IfErr result (IsNoWork (known self.now) (map Some sectors.now)) }
+        ensures known { OnOk result (AreKnown (known self.now) (map Some sectors.now)) }
+        ensures worked { IfOk result (λ work. IsWorked self.now.world.version.policy
+            (map_now self.now sectors.now) work.plan.puts.items work.plan.fates.items
+            work.waking) }
+    {
+        if MAX_TICKS <= self.archive.ticks().len() as u64 {
+            return Err(TickError::HistoryFull);
+        }
+        if let Some(at) = self.first_torn(sectors, are_parts) {
+            return Err(TickError::Torn(at));
+        }
+        Ok(self.worked(rt, alloc, sectors, workers, gate)?)
+    }
+
+    /// Makes all that closing the windows of these sectors takes, with the work of the tick and the
+    /// version that judges their next windows.
+    pub fn fresh(
+        &mut self,
+        alloc: Global,
+        sectors: &[Sector],
+        work: Work,
+        version: Version,
+    ) -> Result<Ready, AllocError>
+        ensures chronicle { self.new.chronicle ≡ self.old.chronicle }
+        ensures counts { self.new.counts ≡ self.old.counts }
+        ensures world { self.new.world ≡ self.old.world }
+        ensures room { OnOk result (self.new.is_roomy ≡ true) }
+        ensures ready { IfOk result (IsReady sectors.now work version) }
+    {
+        self.archive.reserve()?;
+        Ready::new(alloc, sectors, version, work)
+    }
+
+    /// Makes the tick: closes the windows of these sectors, adds them with what becomes of the
+    /// moves to the chronicle, and begins the sectors' next windows over the map after the tick.
+    /// It hands out what becomes of the moves. It takes no memory.
+    pub fn close(&mut self, sectors: &mut [Sector], ready: Ready) -> Vec<(Pos, Fate)>
+        requires known { AreKnown (known self.old) (map Some sectors.old) }
+        requires each { length sectors.old ≡ A.all }
+        requires more { length self.old.chronicle.ticks < most_ticks }
+        requires room { self.old.is_roomy ≡ true }
+        requires ready { CanClose self.old sectors.old ready }
+        requires edits { IsByEdits A.first ready.version }
+        ensures chronicle { self.new.chronicle ≡ chronicle_next self.old sectors.old }
+        ensures counts { self.new.counts ≡ map count_of sectors.old }
+        ensures world { self.new.world
+            ≡ record { map = map_next self.old sectors.old; version = ready.version } }
+        ensures sectors { sectors.new ≡ all_renewed ready.version sectors.old
+            (map_next self.old sectors.old).sectors }
+        ensures fates { result.items ≡ fates_next self.old sectors.old }
+        ensures parts { All (IsPartOf self.new.world) sectors.new }
+    {
+        self.soundness();
+        are_sectors(sectors);
+        let Ready {
+            version,
+            puts,
+            fates,
+            told,
+            waking,
+            nexts,
+            bases,
+            windows,
+        } = ready;
+        let number = self.archive.ticks().len() as u64 + 1;
+        let was = self.known.go_on(sectors, bases, puts.as_slice(), version);
+        let windows = renew_sectors(
+            self.known.bounds(),
+            self.known.version(),
+            sectors,
+            nexts,
+            windows,
+            puts.as_slice(),
+        );
+        self.archive.add(Tick {
+            number,
+            version: was,
+            windows,
+            fates,
+        });
+        self.waking = waking;
+        self.mark = self.stamper.mark(&self.known);
+        told
+    }
+
+    /// What holds of every keeper.
+    pub fn soundness(&self)
+        ensures { IsKeeper A.first A.all self.now }
+    {
+        let _ = &self.known;
+    }
+
+    /// How the world opened.
+    pub fn opening(&self) -> &Opening
+        ensures { result.now ≡ self.now.chronicle.opening }
+    {
+        self.archive.opening()
+    }
+
+    /// The chronicle with its counts, as it is read.
+    pub fn archive(&self) -> &Archive
+        ensures chronicle { result.now.chronicle ≡ self.now.chronicle }
+        ensures counts { result.now.counts ≡ self.now.counts }
+    {
+        &self.archive
+    }
+
+    /// The number of the version that the next tick fixes.
+    pub fn next_number(&self) -> u64
+        ensures { result ≡ length self.now.chronicle.ticks + 2 }
+    {
+        self.archive.ticks().len() as u64 + 2
+    }
+
+    /// The chronicle. It takes no memory.
+    pub fn into_chronicle(self) -> Chronicle
+        ensures { chronicle_in result ≡ self.chronicle }
+    {
+        self.archive.into_chronicle()
+    }
+
+    // Whether the window of the sector began with what the keeper has of the sector of that number.
+    fn has_begun(&self, at: usize, sector: &Sector, is_part: bool) -> bool
+        requires there { at < A.all }
+        requires part { is_part ≡ true → IsPartOf self.now.world sector.now }
+        ensures { Decides result (BeganWith sector.now (known self.now at).base
+            (known self.now at).version) }
+    {
+        self.soundness();
+        if is_part {
+            return is_at(sector, at);
+        }
+        self.known.has(at, sector)
+    }
+
+    // The first of all sectors that is not what the keeper has of it.
+    fn first_torn(&self, sectors: &[Sector], are_parts: &[bool]) -> Option<u32>
+        requires each { length sectors.now ≡ A.all }
+        requires parts { AreParts self.now.world are_parts.now sectors.now }
+        ensures { MatchOption result
+            (AreKnown (known self.now) (map Some sectors.now))
+            (IsTorn (known self.now) (map Some sectors.now)) }
+    {
+        self.soundness();
+        for number in 0..self.known.bounds().sectors() {
+            let at = number as usize;
+            if !self.knows(at, &sectors[at], are_parts[at]) {
+                return Some(number);
+            }
+        }
+        None
+    }
+
+    // What the next tick does, where all sectors are what the keeper has of them.
+    fn worked<R: Threads + Sync, G: Gate + Sync>(
+        &self,
+        rt: &R,
+        alloc: Global,
+        sectors: &[Sector],
+        workers: usize,
+        gate: &G,
+    ) -> Result<Work, AllocError>
+        requires known { AreKnown (known self.now) (map Some sectors.now) }
+        requires each { length sectors.now ≡ A.all }
+        requires workers { (0 < workers) × (workers ≤ 8) }
+        ensures { IfOk result (λ work. IsWorked self.now.world.version.policy
+            (map_now self.now sectors.now) work.plan.puts.items work.plan.fates.items
+            work.waking) }
+    {
+        self.soundness();
+        are_sectors(sectors);
+        let cells = cells_of(alloc, sectors)?;
+        let written = written(alloc, sectors)?;
+        let map = Frozen::apart(self.known.bounds(), &cells);
+        let (plan, waking) = plan_parts(
+            rt,
+            alloc,
+            &map,
+            self.known.version(),
+            &self.waking,
+            written.as_slice(),
+            workers,
+            gate,
+        )?;
+        Ok(Work { plan, waking })
+    }
+}
+
+// Whether the sector has this number.
+fn is_at(sector: &Sector, at: usize) -> bool
+    ensures { Decides result (sector.now.base.sector ≡ at) }
+{
+    sector.base().sector() as usize == at
+}
+
+// The policy of the opening as a version.
+fn first_version(opening: &Opening) -> Result<Version, AllocError>
+    ensures { IfOk result (λ version. version ≡ first_version opening.now.policy) }
+{
+    Ok(Version {
+        tick: 1,
+        edits: 0,
+        policy: opening.policy().try_clone()?,
+    })
+}

@@ -1,0 +1,20 @@
+//! The keeper of a world: what it knows of each sector between two ticks, the ticks that it makes
+//! of sectors that were taken out of their locks, and the chronicle of these. It knows no lock.
+#![tactic(auto)]
+
+mod keeper;
+mod known;
+mod marked;
+mod places;
+mod ready;
+mod sound;
+mod tick_error;
+mod work;
+
+pub use keeper::Keeper;
+pub use known::Known;
+pub use marked::Marked;
+pub use places::Places;
+pub use ready::Ready;
+pub use tick_error::TickError;
+pub use work::Work;

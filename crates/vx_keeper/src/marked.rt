@@ -1,0 +1,106 @@
+ghost use Rattle.std.specs.Prelude.{◌≡◌, ◌⊎◌, ◌↔◌, ◌+◌, ◌<◌, length, true, false, if◌then◌else◌, Err, Some};
+ghost use Rattle.vx_block.specs.Part.{part_cell};
+ghost use Rattle.vx_cells.specs.SectorCells.{holds};
+ghost use Rattle.vx_sector.specs.Commands.{place_of};
+ghost use Rattle.vx_sector.specs.SectorData.{seat_of};
+ghost use Rattle.vx_sector.specs.Windows.{answer_of, is_full, is_recorded, sector_after, put_in, CanTamper};
+ghost use Rattle.vx_record.specs.Calls.{calls_in, lists_after};
+ghost use Rattle.vx_keeper.specs.Marks.{WorldData, IsMarkOf, IsPartOf};
+
+use crate::known::Known;
+use crate::places::Places;
+use std::marker::Model;
+use vx_block::Part;
+use vx_geom::Pos;
+use vx_record::Lists;
+use vx_sector::{Cmd, Refusal, Reply, Seat, Sector};
+use vx_stamp::Mark;
+
+/// A sector with the mark of a world of which its window began with its part.
+#[derive(Drop)]
+pub struct Marked<A: Places> {
+    sector: Sector,
+    mark: Option<Mark<Known, A>>,
+}
+
+impl<A: Places> Model for Marked<A> {
+    ghost use Rattle.vx_keeper.specs.Marks.{IsMarkOf};
+    ghost use Rattle.vx_sector.specs.SectorData.{SectorData};
+
+    ghost Value = { SectorData };
+
+    ghost view = { λ a. a.sector };
+
+    ghost invariant = { λ a. IsMarkOf a.mark a.sector };
+}
+
+impl<A: Places> Marked<A> {
+    /// A sector with its mark, if it has one.
+    pub fn new(sector: Sector, mark: Option<Mark<Known, A>>) -> Marked<A>
+        requires { IsMarkOf mark sector }
+        ensures { result ≡ sector }
+    {
+        Marked { sector, mark }
+    }
+
+    /// The sector.
+    pub fn sector(&self) -> &Sector
+        ensures { result.now ≡ self.now }
+    {
+        &self.sector
+    }
+
+    /// The sector without its mark.
+    pub fn into_sector(self) -> Sector
+        ensures { result ≡ self }
+    {
+        self.sector
+    }
+
+    /// Carries out a command and puts it on the list of that number, as `Lists::act` does. The mark
+    /// stays, since no command changes with what the window began.
+    pub fn act(
+        &mut self,
+        lists: &mut Lists,
+        at: usize,
+        seat: Seat,
+        cmd: Cmd,
+    ) -> Result<Reply, Refusal>
+        requires { at < length lists.old }
+        ensures answer { (result ≡ answer_of self.old (seat_of seat) cmd)
+            ⊎ (result ≡ Err Refusal.NoMemory) }
+        ensures memory { (result ≡ answer_of self.old (seat_of seat) cmd)
+            ⊎ (is_recorded (answer_of self.old (seat_of seat) cmd) ≡ true) }
+        ensures sector { self.new ≡ sector_after self.old (seat_of seat) cmd result }
+        ensures lists { lists.new ≡ lists_after lists.old at cmd result }
+        ensures counted { calls_in lists.new
+            ≡ calls_in lists.old + (if is_recorded result then 1 else 0) }
+        ensures outside { (result ≡ Err Refusal.OutOfWorld)
+            ↔ (holds self.old.cells (place_of cmd) ≡ false) }
+        ensures full { (result ≡ Err Refusal.HistoryFull)
+            ↔ ((holds self.old.cells (place_of cmd) ≡ true) × (is_full self.old ≡ true)) }
+    {
+        lists.act(at, &mut self.sector, seat, cmd)
+    }
+
+    /// Puts a part down in base and cells, as `Sector::tamper` does. The mark goes.
+    pub fn tamper(&mut self, p: Pos, part: Part) -> bool
+        ensures when { (result ≡ true) ↔ CanTamper self.old p (part_cell part) }
+        ensures tampered { result ≡ true → self.new ≡ put_in self.old p (part_cell part) }
+        ensures kept { result ≡ false → self.new ≡ self.old }
+    {
+        self.mark = None;
+        self.sector.tamper(p, part)
+    }
+
+    /// Whether the sector has the mark.
+    pub fn has(&self, mark: &Mark<Known, A>) -> bool
+        ensures { result ≡ true → (world : WorldData) → mark.now ≡ Some world
+            → IsPartOf world self.now }
+    {
+        match &self.mark {
+            Some(own) => own.same(mark),
+            None => false,
+        }
+    }
+}

@@ -1,0 +1,72 @@
+ghost use Rattle.std.specs.List.{All};
+ghost use Rattle.std.specs.Prelude.{◌≡◌, map, option_map, IfOk};
+ghost use Rattle.vx_play.specs.Nexts.{AreNextOf};
+ghost use Rattle.vx_keeper.specs.Bases.{AreNextBases};
+ghost use Rattle.vx_keeper.specs.Readiness.{IsReady};
+
+use crate::work::Work;
+use std::alloc::{AllocError, Global};
+use vx_block::Cell;
+use vx_cells::Cells;
+use vx_geom::Pos;
+use vx_play::all_next;
+use vx_policy::Version;
+use vx_sector::{Entry, Next, Sector};
+use vx_step::Fate;
+use vx_wake::Waking;
+
+/// All that it takes to close the windows of sectors and to begin their next ones. It is made
+/// before, since making it takes memory and closing does not.
+#[derive(Drop)]
+pub struct Ready {
+    pub(crate) version: Version,
+    pub(crate) puts: Vec<(Pos, Cell)>,
+    pub(crate) fates: Vec<(Pos, Fate)>,
+    // A copy of the fates, one for the chronicle and one for whoever asks for the tick.
+    pub(crate) told: Vec<(Pos, Fate)>,
+    pub(crate) waking: Waking,
+    pub(crate) nexts: Vec<Next>,
+    pub(crate) bases: Vec<Option<Box<Cells>>>,
+    // No window yet, and room for one of each sector.
+    pub(crate) windows: Vec<Vec<Entry>>,
+}
+
+impl Ready {
+    /// What the tick takes that was worked of these sectors, whose next windows this version judges.
+    pub fn new(
+        alloc: Global,
+        sectors: &[Sector],
+        version: Version,
+        work: Work,
+    ) -> Result<Ready, AllocError>
+        ensures { IfOk result (λ ready. IsReady sectors.now work version ready) }
+    {
+        let nexts = all_next(alloc, sectors, &version)?;
+        let bases = next_bases(alloc, sectors)?;
+        let windows = Vec::with_capacity(alloc, sectors.len())?;
+        let told = work.plan.fates.as_slice().to_vec(alloc)?;
+        let Work { plan, waking } = work;
+        Ok(Ready {
+            version,
+            puts: plan.puts,
+            fates: plan.fates,
+            told,
+            waking,
+            nexts,
+            bases,
+            windows,
+        })
+    }
+}
+
+// What brings a copy of each sector's base up to its cells.
+fn next_bases(alloc: Global, sectors: &[Sector]) -> Result<Vec<Option<Box<Cells>>>, AllocError>
+    ensures { IfOk result (λ bases. AreNextBases sectors.now
+        (map (λ base. option_map (λ b. b.value) base) bases.items)) }
+{
+    let mut bases = Vec::with_capacity(alloc, sectors.len())?;
+    for sector in sectors {
+        bases.push(sector.next_base()?)?;
+    }
+    Ok(bases)
+}

@@ -1,0 +1,9 @@
+use vx_step::Plan;
+use vx_wake::Waking;
+
+/// What a tick does to the map, as it was worked, and where the next tick has to look.
+#[derive(Drop)]
+pub struct Work {
+    pub plan: Plan,
+    pub waking: Waking,
+}

@@ -1,0 +1,6 @@
+mod Counted
+mod Numbered
+mod Numbers
+mod Parts
+mod Settled
+mod Ticked

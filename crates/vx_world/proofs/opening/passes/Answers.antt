@@ -1,0 +1,20 @@
+use Rattle.std.proofs.Common.{[], ◌∷◌, ◌++◌, take, sym, ◌∙◌, arith, add-one}
+use Rattle.std.proofs.lemmas.List.{map_push}
+use Rattle.vx_region.specs.Texts.{texts}
+use Rattle.vx_world.specs.Openings.{seats_from}
+use Rattle.vx_world.proofs.Numbered.{seats_more}
+use Rattle.vx_world.proofs.opening.passes.Goals as goal
+
+pub loop-number-preserved : goal.loop-number-preserved
+loop-number-preserved g c =
+    let before = c.loop-number.invariant in
+    let names = c.args.names.now in
+    let k = c.loop-number.number in (
+      rw (c.push_reserved.ensures.items, map_push, before.0, c.pass.ensures.seat, add-one)
+          ((λ i. seats_from 0 (texts (take k names)) ++ record { number = k; name = (c.index-names-number.is i).text.bytes } ∷ [])
+          ∙ sym (seats_more 0 k k names c.index-names-number.result (omega arith) c.loop-number-test.true)),
+      omega (arith, c.push_reserved.ensures.len, before.1),
+      c.push_reserved.ensures.capacity ∙ before.2,
+      omega (arith, c.pass.ensures.parts, before.3),
+      c.pass.ensures.amount,
+    )

@@ -1,0 +1,15 @@
+use Rattle.std.proofs.Common.{◌≡◌, ◌+◌, length, map, take}
+use Rattle.std.specs.Vec.{vec_len, vec_capacity}
+use Rattle.vx_region.specs.Texts.{texts}
+use Rattle.vx_sector.specs.SectorData.{seat_of}
+use Rattle.vx_world.specs.Openings.{seats_from}
+use Rattle.vx_world.proofs.opening.passes.Given as goal
+
+-- a pass for each seat so far
+abbrev pub invariant-loop-number : goal.invariant-loop-number
+invariant-loop-number g l =
+    (map (λ pass. seat_of pass.seat) l.passes.items ≡ seats_from 0 (texts (take l.number l.names)))
+    × (vec_len l.passes ≡ l.number)
+    × (vec_capacity l.passes ≡ length l.names)
+    × (l.rest.parts + l.number ≡ length l.names)
+    × (l.rest.amount ≡ 0)

@@ -1,0 +1,3 @@
+pub mod Openings
+pub mod Settlements
+pub mod Ticks

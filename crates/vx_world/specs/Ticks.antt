@@ -1,0 +1,31 @@
+-- What a tick leaves in the keeper of a world.
+use Rattle.std.specs.Prelude.{◌≡◌, ℕ, List, length, map, Some}
+use Rattle.vx_geom.specs.declared.pos.Pos.{Pos}
+use Rattle.vx_region.specs.Regions.{Regions}
+use Rattle.vx_sector.specs.SectorData.{SectorData}
+use Rattle.vx_sector.specs.Windows.{count_of}
+use Rattle.vx_step.specs.declared.fate.Fate.{Fate}
+use Rattle.vx_record.specs.Settling.{AreKnown}
+use Rattle.vx_keeper.specs.Keepers.{KeeperData, IsByEdits, known, map_next, fates_next, chronicle_next}
+
+-- the keeper after the tick that closes the windows of these sectors, which are what it had of them,
+-- with a version by accepted edits for their next windows
+pub record IsTickOf (first : Regions) (all : ℕ) (before : KeeperData) (sectors : List SectorData)
+    (after : KeeperData) : Type 0 where
+  pub each : length sectors ≡ all
+  pub known : AreKnown (known before) (map Some sectors)
+  pub chronicle : after.chronicle ≡ chronicle_next before sectors
+  pub counts : after.counts ≡ map count_of sectors
+  pub map : after.world.map ≡ map_next before sectors
+  pub edits : IsByEdits first after.world.version
+
+-- the keeper after a tick of some sectors, with these fates
+abbrev pub HasTicked : Regions → ℕ → KeeperData → List (Pos × Fate) → KeeperData → Type 0
+HasTicked first all before fates after = (sectors : List SectorData)
+    × IsTickOf first all before sectors after × (fates ≡ fates_next before sectors)
+
+-- the keeper knows what it knew
+pub record KnowsAsBefore (before after : KeeperData) : Type 0 where
+  pub chronicle : after.chronicle ≡ before.chronicle
+  pub counts : after.counts ≡ before.counts
+  pub world : after.world ≡ before.world

@@ -1,0 +1,89 @@
+ghost use Rattle.std.specs.Prelude.{◌≡◌, ◌≢◌, ◌⊎◌, ◌+◌, ◌<◌, true, if◌then◌else◌, Err};
+ghost use Rattle.vx_cells.specs.SectorCells.{holds};
+ghost use Rattle.vx_sector.specs.Commands.{place_of};
+ghost use Rattle.vx_sector.specs.SectorData.{seat_of};
+ghost use Rattle.vx_sector.specs.Windows.{answer_of, count_of, is_recorded, sector_after};
+ghost use Rattle.vx_record.specs.Calls.{lists_after};
+
+use crate::books::Books;
+use crate::pass::Pass;
+use crate::seats::Seats;
+use std::sync::ledger::Share;
+use std::sync::{Mutex, Wait};
+use vx_block::Part;
+use vx_geom::Pos;
+use vx_keeper::{Marked, Places};
+use vx_record::is_recorded;
+use vx_sector::{Cmd, Refusal, Reply};
+
+/// A sector that is at home, with its share of the ledger, which is as many entries as it has, in
+/// closed windows too.
+#[derive(Drop)]
+pub struct Home<A: Places> {
+    pub(crate) marked: Marked<A>,
+    pub(crate) share: Share<A>,
+    ghost one_part: { share.parts ≡ 1 },
+    ghost counted: { share.amount ≡ count_of marked },
+}
+
+impl<A: Places> Home<A> {
+    pub fn new(marked: Marked<A>, share: Share<A>) -> Home<A>
+        requires one_part { share.parts ≡ 1 }
+        requires counted { share.amount ≡ count_of marked }
+        ensures { result.marked ≡ marked }
+    {
+        Home { marked, share }
+    }
+
+    /// The sector with its mark, and its share.
+    pub fn into_parts(self) -> (Marked<A>, Share<A>)
+        ensures marked { result.0 ≡ self.marked }
+        ensures one_part { result.1.parts ≡ 1 }
+        ensures counted { result.1.amount ≡ count_of self.marked }
+    {
+        let Home { marked, share } = self;
+        (marked, share)
+    }
+
+    /// Whether the sector holds the position.
+    pub fn holds(&self, p: Pos) -> bool
+        ensures { result ≡ holds self.now.marked.cells p }
+    {
+        self.marked.sector().cells().holds(p)
+    }
+
+    /// Carries out a command from the pass's seat, and puts it with its answer on the pass's list of
+    /// that number, where the sector records it. Then both books are raised, with both shares.
+    pub fn act<B: Seats, R: Wait>(
+        &mut self,
+        rt: &R,
+        books: &Mutex<Books<A, B>>,
+        pass: &mut Pass<A, B>,
+        at: usize,
+        cmd: Cmd,
+    ) -> Result<Reply, Refusal>
+        requires there { at < A.all }
+        ensures answer { (result ≡ answer_of self.old.marked (seat_of pass.old.seat) cmd)
+            ⊎ (result ≡ Err Refusal.NoMemory) }
+        ensures sector { self.new.marked
+            ≡ sector_after self.old.marked (seat_of pass.old.seat) cmd result }
+        ensures lists { pass.new.lists ≡ lists_after pass.old.lists at cmd result }
+        ensures share { pass.new.share.amount
+            ≡ pass.old.share.amount + (if is_recorded result then 1 else 0) }
+        ensures seat { pass.new.seat ≡ pass.old.seat }
+        ensures inside { holds self.old.marked.cells (place_of cmd) ≡ true
+            → result ≢ Err Refusal.OutOfWorld }
+    {
+        let answer = self.marked.act(&mut pass.lists, at, pass.seat, cmd);
+        if !is_recorded(&answer) {
+            return answer;
+        }
+        books.lock(rt).raise(rt, &mut self.share, &mut pass.share);
+        answer
+    }
+
+    /// Puts a part down in base and cells, as `Sector::tamper` does.
+    pub fn tamper(&mut self, p: Pos, part: Part) -> bool {
+        self.marked.tamper(p, part)
+    }
+}

@@ -1,0 +1,95 @@
+//! How a world opens.
+ghost use Rattle.std.specs.List.{All};
+ghost use Rattle.std.specs.Prelude.{◌≡◌, ◌≤◌, ◌+◌, length, vec_len, map, replicate, [], IfOk, OnOk};
+ghost use Rattle.vx_region.specs.Texts.{texts};
+ghost use Rattle.vx_sector.specs.SectorData.{seat_of};
+ghost use Rattle.vx_sector.specs.Windows.{count_of};
+ghost use Rattle.vx_keeper.specs.Marks.{IsPartOf};
+ghost use Rattle.vx_world.specs.Openings.{seats_from};
+
+use crate::home::Home;
+use crate::pass::Pass;
+use crate::seats::Seats;
+use crate::slot::Slot;
+use std::alloc::{AllocError, Global};
+use std::sync::Mutex;
+use std::sync::ledger::Share;
+use vx_keeper::{Keeper, Marked, Places};
+use vx_record::Lists;
+use vx_region::Name;
+use vx_sector::{Seat, Sector};
+
+/// The sectors under their locks, each with a part of the share.
+pub fn locked<A: Places>(
+    alloc: Global,
+    keeper: &Keeper<A>,
+    sectors: Vec<Sector>,
+    rest: &mut Share<A>,
+) -> Result<Vec<Mutex<Slot<A>>>, AllocError>
+    requires none { All (λ s. count_of s ≡ 0) sectors.items }
+    requires parts { All (IsPartOf keeper.now.world) sectors.items }
+    requires each { rest.old.parts ≡ vec_len sectors }
+    requires amount { rest.old.amount ≡ 0 }
+    ensures each { IfOk result (λ slots. vec_len slots ≡ vec_len sectors) }
+    ensures rest { OnOk result ((rest.new.parts ≡ 0) × (rest.new.amount ≡ 0)) }
+{
+    let mut slots = Vec::with_capacity(alloc, sectors.len())?;
+    for sector in sectors {
+        slots.push_reserved(locked_slot(keeper, sector, rest));
+    }
+    Ok(slots)
+}
+
+// A sector under its lock, with a part of the share.
+fn locked_slot<A: Places>(keeper: &Keeper<A>, sector: Sector, rest: &mut Share<A>) -> Mutex<Slot<A>>
+    requires none { count_of sector ≡ 0 }
+    requires part { IsPartOf keeper.now.world sector }
+    requires amount { rest.old.amount ≡ 0 }
+    requires more { 1 ≤ rest.old.parts }
+    ensures parts { rest.new.parts + 1 ≡ rest.old.parts }
+    ensures amount { rest.new.amount ≡ 0 }
+{
+    let share = rest.split_off(1, 0);
+    let marked = Marked::new(sector, keeper.mark());
+    Mutex::new(Slot {
+        home: Some(Home::new(marked, share)),
+    })
+}
+
+/// A pass for each seat, in order.
+pub fn passes<A: Places, B: Seats>(
+    alloc: Global,
+    names: &[Name],
+    sectors: usize,
+    rest: &mut Share<B>,
+) -> Result<Vec<Pass<A, B>>, AllocError>
+    requires few { length names.now ≤ 16 }
+    requires sectors { sectors ≡ A.all }
+    requires each { rest.old.parts ≡ length names.now }
+    requires amount { rest.old.amount ≡ 0 }
+    ensures seats { IfOk result (λ passes.
+        map (λ pass. seat_of pass.seat) passes.items ≡ seats_from 0 (texts names.now)) }
+    ensures rest { OnOk result ((rest.new.parts ≡ 0) × (rest.new.amount ≡ 0)) }
+{
+    let mut passes = Vec::with_capacity(alloc, names.len())?;
+    for (number, name) in names.iter().enumerate() {
+        let seat = Seat {
+            number: number as u8,
+            name: *name,
+        };
+        passes.push_reserved(pass(seat, Lists::new(alloc, sectors)?, rest));
+    }
+    Ok(passes)
+}
+
+// The pass of a seat, with a part of the share.
+fn pass<A: Places, B: Seats>(seat: Seat, lists: Lists, rest: &mut Share<B>) -> Pass<A, B>
+    requires none { lists ≡ replicate A.all [] }
+    requires amount { rest.old.amount ≡ 0 }
+    requires more { 1 ≤ rest.old.parts }
+    ensures seat { result.seat ≡ seat }
+    ensures parts { rest.new.parts + 1 ≡ rest.old.parts }
+    ensures amount { rest.new.amount ≡ 0 }
+{
+    Pass::new(seat, lists, rest.split_off(1, 0))
+}

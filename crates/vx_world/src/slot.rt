@@ -1,0 +1,54 @@
+ghost use Rattle.std.specs.Prelude.{◌≡◌, true};
+ghost use Rattle.vx_world.specs.Settlements.{IsHomeOf, sector_here};
+
+use crate::home::Home;
+use vx_geom::Pos;
+use vx_keeper::{Keeper, Places};
+use vx_record::Place;
+use vx_sector::Sector;
+
+/// What stands under the lock of a sector: the sector at home, or nothing while it is away.
+#[derive(Drop)]
+pub struct Slot<A: Places> {
+    pub(crate) home: Option<Home<A>>,
+}
+
+impl<A: Places> Slot<A> {
+    /// Whether a sector is at home that holds the position.
+    pub fn is_home_of(&self, p: Pos) -> bool
+        ensures { result ≡ true → IsHomeOf p (sector_here self.now) }
+    {
+        match &self.home {
+            Some(home) => home.holds(p),
+            None => false,
+        }
+    }
+}
+
+impl<A: Places> Place for Slot<A> {
+    type Keeper = Keeper<A>;
+
+    ghost use Rattle.std.specs.Prelude.{option_map, length};
+    ghost use Rattle.vx_keeper.specs.Keepers.{known};
+
+    ghost sector = { λ s. option_map (λ h. h.marked) s.home };
+
+    ghost known = { λ keeper. known keeper };
+
+    ghost count = { λ keeper. length keeper.counts };
+
+    fn sector(&self) -> Option<&Sector> {
+        match &self.home {
+            Some(home) => Some(home.marked.sector()),
+            None => None,
+        }
+    }
+
+    fn is_known(&self, at: usize, keeper: &Keeper<A>) -> bool {
+        keeper.soundness();
+        match &self.home {
+            Some(home) => keeper.knows(at, home.marked.sector(), keeper.has_marked(&home.marked)),
+            None => false,
+        }
+    }
+}

@@ -1,0 +1,153 @@
+//! A tick of a world that threads share.
+ghost use Rattle.std.specs.List.{All};
+ghost use Rattle.std.specs.Prelude.{◌≡◌, ◌<◌, ◌≤◌, [], true, length, map, vec_len, IfOk, OnOk, OnErr};
+ghost use Rattle.vx_sector.specs.Windows.{count_of};
+ghost use Rattle.vx_keeper.specs.Marks.{AreParts, IsPartOf};
+ghost use Rattle.vx_world.specs.Ticks.{HasTicked, KnowsAsBefore};
+
+use crate::home::Home;
+use crate::seats::Seats;
+use crate::taken::Taken;
+use crate::world::World;
+use std::alloc::Global;
+use std::sync::Wait;
+use std::thread::Threads;
+use vx_board::Desk;
+use vx_geom::Pos;
+use vx_keeper::{Keeper, Marked, Places, TickError};
+use vx_sector::Sector;
+use vx_step::{Fate, Gate};
+
+impl<A: Places, B: Seats> World<A, B> {
+    /// Makes a tick: takes each sector out of its lock, makes the tick of them all by the version
+    /// that judged their windows, on 1 to 8 threads, and puts each back in its next window, which
+    /// the policy judges that stands at the desk. It tells what becomes of the pistons' moves, in
+    /// the order of positions. Where no tick is made, for want of memory too, the sectors are put
+    /// back as they were, and the keeper knows what it knew.
+    pub fn tick<R: Threads + Wait + Sync, G: Gate + Sync>(
+        &self,
+        rt: &R,
+        alloc: Global,
+        keeper: &mut Keeper<A>,
+        workers: usize,
+        gate: &G,
+    ) -> Result<Vec<(Pos, Fate)>, TickError>
+        requires workers { (0 < workers) × (workers ≤ 8) }
+        ensures ok { IfOk result (λ fates.
+            HasTicked A.first A.all keeper.old fates.items keeper.new) }
+        ensures err { OnErr result (KnowsAsBefore keeper.old keeper.new) }
+    {
+        let mut taken = Taken::with_room(alloc, self.slots.len())?;
+        self.take_all(rt, keeper, &mut taken);
+        let made = make(rt, alloc, &self.desk, keeper, &mut taken, workers, gate);
+        self.put_all(rt, keeper, taken);
+        made
+    }
+
+    // Takes each sector out of its lock, in the order of their numbers, and waits for those that
+    // are away.
+    fn take_all<R: Wait>(&self, rt: &R, keeper: &Keeper<A>, taken: &mut Taken<A>)
+        requires { taken.old.sectors.items ≡ [] }
+        ensures all { vec_len taken.new.sectors ≡ A.all }
+        ensures parts { AreParts keeper.now.world taken.new.are_parts.items
+            taken.new.sectors.items }
+    {
+        for slot in &self.slots {
+            let mut place = self
+                .came
+                .wait_while(rt, slot.lock(rt), |slot| slot.home.is_none());
+            let Some(home) = place.home.take() else {
+                unreachable!()
+            };
+            let is_part = keeper.has_marked(&home.marked);
+            let (marked, share) = home.into_parts();
+            taken.push(marked.into_sector(), is_part, share);
+        }
+    }
+
+    // Puts each sector back, with the mark of what the keeper knows where its window began with its
+    // part of that.
+    fn put_all<R: Wait>(&self, rt: &R, keeper: &Keeper<A>, taken: Taken<A>)
+        requires all { vec_len taken.sectors ≡ A.all }
+        requires parts { AreParts keeper.now.world taken.are_parts.items taken.sectors.items }
+    {
+        let mut taken = taken;
+        for at in (0..self.slots.len()).rev() {
+            let Some((sector, is_part, share)) = taken.pop() else {
+                unreachable!()
+            };
+            let home = Home::new(marked(keeper, sector, is_part), share);
+            self.slots[at].lock(rt).home = Some(home);
+        }
+        self.came.notify_all();
+    }
+}
+
+// A sector with the mark of what the keeper knows, where its window began with its part of that.
+fn marked<A: Places>(keeper: &Keeper<A>, sector: Sector, is_part: bool) -> Marked<A>
+    requires { is_part ≡ true → IsPartOf keeper.now.world sector }
+    ensures { result ≡ sector }
+{
+    if !is_part {
+        return Marked::new(sector, None);
+    }
+    Marked::new(sector, keeper.mark())
+}
+
+// Makes the tick of the sectors that were taken.
+fn make<A: Places, R: Threads + Wait + Sync, G: Gate + Sync>(
+    rt: &R,
+    alloc: Global,
+    desk: &Desk<A>,
+    keeper: &mut Keeper<A>,
+    taken: &mut Taken<A>,
+    workers: usize,
+    gate: &G,
+) -> Result<Vec<(Pos, Fate)>, TickError>
+    requires workers { (0 < workers) × (workers ≤ 8) }
+    requires all { vec_len taken.old.sectors ≡ A.all }
+    requires parts { AreParts keeper.old.world taken.old.are_parts.items
+        taken.old.sectors.items }
+    ensures ok { IfOk result (λ fates.
+        HasTicked A.first A.all keeper.old fates.items keeper.new) }
+    ensures err { OnErr result (KnowsAsBefore keeper.old keeper.new) }
+    ensures all { vec_len taken.new.sectors ≡ A.all }
+    ensures parts { AreParts keeper.new.world taken.new.are_parts.items
+        taken.new.sectors.items }
+{
+    let Taken {
+        sectors,
+        are_parts,
+        ..
+    } = taken;
+    let fates = tick_of(rt, alloc, desk, keeper, sectors, are_parts, workers, gate)?;
+    taken.are_all_parts();
+    Ok(fates)
+}
+
+// Makes the tick of these sectors, all of the world in order of their numbers.
+fn tick_of<A: Places, R: Threads + Wait + Sync, G: Gate + Sync>(
+    rt: &R,
+    alloc: Global,
+    desk: &Desk<A>,
+    keeper: &mut Keeper<A>,
+    sectors: &mut [Sector],
+    are_parts: &[bool],
+    workers: usize,
+    gate: &G,
+) -> Result<Vec<(Pos, Fate)>, TickError>
+    requires workers { (0 < workers) × (workers ≤ 8) }
+    requires all { length sectors.old ≡ A.all }
+    requires parts { AreParts keeper.old.world are_parts.now sectors.old }
+    ensures ok { IfOk result (λ fates.
+        HasTicked A.first A.all keeper.old fates.items keeper.new) }
+    ensures err { OnErr result (KnowsAsBefore keeper.old keeper.new) }
+    ensures kept { OnErr result (sectors.new ≡ sectors.old) }
+    ensures counts { map count_of sectors.new ≡ map count_of sectors.old }
+    ensures parts { OnOk result (All (IsPartOf keeper.new.world) sectors.new) }
+{
+    let work = keeper.work(rt, alloc, sectors, are_parts, workers, gate)?;
+    let version = desk.fix(rt, keeper.next_number())?;
+    let ready = keeper.fresh(alloc, sectors, work, version)?;
+    Ok(keeper.close(sectors, ready))
+}

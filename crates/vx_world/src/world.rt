@@ -1,0 +1,194 @@
+ghost use Rattle.std.specs.Prelude.{◌≡◌, ℕ, ◌↔◌, ◌+◌, ◌<◌, ◌≤◌, true, false, None, Some, Err, map, length, vec_len, IfOk, IfSome, ◌^◌, []};
+ghost use Rattle.vx_geom.specs.Sizes.{sector_count, sector_of};
+ghost use Rattle.vx_sector.specs.Commands.{place_of};
+ghost use Rattle.vx_sector.specs.SectorData.{seat_of};
+ghost use Rattle.vx_sector.specs.Windows.{is_recorded};
+ghost use Rattle.vx_record.specs.Calls.{with_call};
+ghost use Rattle.vx_world.specs.Openings.{seats_from};
+
+use crate::blanks::Blanks;
+use crate::books::Books;
+use crate::lifted::Lifted;
+use crate::opening::{locked, passes};
+use crate::pass::Pass;
+use crate::room::Room;
+use crate::seats::Seats;
+use crate::slot::Slot;
+use std::alloc::{AllocError, Global};
+use std::sync::{Condvar, Mutex, Wait};
+use vx_block::Part;
+use vx_board::Desk;
+use vx_core::Opening;
+use vx_geom::{Bounds, Pos};
+use vx_keeper::{Keeper, Places};
+use vx_sector::{Cmd, Refusal, Reply};
+use vx_step::{Gate, Point};
+
+/// A world that threads share. Each of its sectors stands under a lock of its own; commands are
+/// carried out under that of one sector, and ticks take the sectors out and put them back.
+// Whatever has a share of a ledger stands under a lock, also the room for the end of the world.
+#[derive(Drop)]
+pub struct World<A: Places, B: Seats> {
+    pub(crate) bounds: Bounds,
+    pub(crate) slots: Vec<Mutex<Slot<A>>>,
+    pub(crate) came: Condvar,
+    pub(crate) books: Mutex<Books<A, B>>,
+    pub(crate) desk: Desk<A>,
+    pub(crate) room: Mutex<Room<A>>,
+    seats: u8,
+    ghost all_here: { vec_len slots ≡ A.all },
+    ghost divided: { sector_count bounds ≡ A.all },
+    ghost few: { A.all < 2 ^ 32 },
+    ghost seated: { seats ≡ B.all },
+}
+
+impl<A: Places, B: Seats> World<A, B> {
+    /// Opens a world: the world itself, its keeper, and a pass for each seat in order. The blanks
+    /// are those of the opening, and the types are named by them.
+    pub fn new(
+        alloc: Global,
+        opening: Opening,
+        desk: Desk<A>,
+        blanks: Blanks,
+    ) -> Result<(World<A, B>, Keeper<A>, Vec<Pass<A, B>>), AllocError>
+        requires places { (blanks.places.name ≡ A.name) × (blanks.places.parts ≡ A.parts) }
+        requires seats { (blanks.seats.name ≡ B.name) × (blanks.seats.parts ≡ B.parts) }
+        requires marks { blanks.marks ≡ A.book }
+        requires sectors { (length opening.terrain.sectors ≡ A.all) × (A.all ≡ A.parts) }
+        requires names { (length opening.names ≡ B.all) × (B.all ≡ B.parts) }
+        requires first { opening.policy ≡ A.first }
+        ensures bounds { IfOk result (λ opened.
+            opened.0.bounds ≡ opening.terrain.sizes) }
+        ensures chronicle { IfOk result (λ opened.
+            opened.1.chronicle ≡ record { opening = opening; ticks = [] }) }
+        ensures seats { IfOk result (λ opened.
+            map (λ pass. seat_of pass.seat) opened.2.items ≡ seats_from 0 opening.names) }
+    {
+        opening.soundness();
+        let bounds = opening.terrain().frozen().bounds();
+        let Blanks {
+            places,
+            seats,
+            marks,
+        } = blanks;
+        let (in_sectors, mut place_rest) = places.open::<A>();
+        let (on_lists, mut seat_rest) = seats.open::<B>();
+        let count = bounds.sectors() as usize;
+        let number = opening.names().len() as u8;
+        let passes = passes(alloc, opening.names(), count, &mut seat_rest)?;
+        let room = Room::new(alloc, count)?;
+        let (keeper, sectors) = Keeper::new(alloc, opening, marks.named())?;
+        let slots = locked(alloc, &keeper, sectors, &mut place_rest)?;
+        let books = Books::new(in_sectors, on_lists, place_rest, seat_rest);
+        Ok((
+            World::of(bounds, slots, books, desk, room, number),
+            keeper,
+            passes,
+        ))
+    }
+
+    // A world with these parts.
+    fn of(
+        bounds: Bounds,
+        slots: Vec<Mutex<Slot<A>>>,
+        books: Books<A, B>,
+        desk: Desk<A>,
+        room: Room<A>,
+        seats: u8,
+    ) -> World<A, B>
+        requires all_here { vec_len slots ≡ A.all }
+        requires divided { sector_count bounds ≡ A.all }
+        requires few { A.all < 2 ^ 32 }
+        requires seated { seats ≡ B.all }
+        ensures { result.bounds ≡ bounds }
+    {
+        World {
+            bounds,
+            slots,
+            came: Condvar::new(),
+            books: Mutex::new(books),
+            desk,
+            room: Mutex::new(room),
+            seats,
+        }
+    }
+
+    /// The desk where the policy is edited.
+    pub fn desk(&self) -> &Desk<A> {
+        &self.desk
+    }
+
+    /// Carries out a command from the seat of a pass under the lock of its sector, by the rules of
+    /// docs/RULES.md, and waits while the sector is away. The gate is called under the lock. Where
+    /// the answer is recorded, the command stands with it in the sector's record and on the pass's
+    /// list of that sector. At 2^64 - 1 recorded calls it does not return.
+    pub fn submit<R: Wait, G: Gate>(
+        &self,
+        rt: &R,
+        pass: &mut Pass<A, B>,
+        cmd: Cmd,
+        gate: &G,
+    ) -> Result<Reply, Refusal>
+        ensures outside { (result ≡ Err Refusal.OutOfWorld)
+            ↔ (sector_of self.now.bounds (place_of cmd) ≡ None) }
+        ensures recorded { is_recorded result ≡ true → (at : ℕ)
+            × (sector_of self.now.bounds (place_of cmd) ≡ Some at)
+            × (pass.new.lists ≡ with_call pass.old.lists at (record { cmd = cmd; answer = result }))
+            × (pass.new.share.amount ≡ pass.old.share.amount + 1) }
+        ensures unrecorded { is_recorded result ≡ false → (pass.new.lists ≡ pass.old.lists)
+            × (pass.new.share.amount ≡ pass.old.share.amount) }
+        ensures seat { pass.new.seat ≡ pass.old.seat }
+    {
+        let p = cmd.place();
+        let Some(number) = self.number_of(p) else {
+            return Err(Refusal::OutOfWorld);
+        };
+        let at = number as usize;
+        let mut slot = self
+            .came
+            .wait_while(rt, self.slots[at].lock(rt), |slot| !slot.is_home_of(p));
+        let Some(home) = &mut slot.home else {
+            unreachable!()
+        };
+        gate.at(number, Point::Held);
+        home.act(rt, &self.books, pass, at, cmd)
+    }
+
+    /// Puts a part down in the base and the cells of a sector, as no rule does; `false` outside the
+    /// world and where `Sector::tamper` says so. It is there for tests of the keeper.
+    pub fn tamper<R: Wait>(&self, rt: &R, p: Pos, part: Part) -> bool {
+        let Some(number) = self.number_of(p) else {
+            return false;
+        };
+        let mut slot = self.came.wait_while(
+            rt,
+            self.slots[number as usize].lock(rt),
+            |slot| !slot.is_home_of(p),
+        );
+        match &mut slot.home {
+            Some(home) => home.tamper(p, part),
+            None => false,
+        }
+    }
+
+    // The number of the sector that holds the position.
+    fn number_of(&self, p: Pos) -> Option<u32>
+        ensures value { result ≡ sector_of self.now.bounds p }
+        ensures below { IfSome result (λ number. number < A.all) }
+    {
+        self.bounds.soundness();
+        self.bounds.sector_of(p)
+    }
+
+    /// Ends the world and takes its sectors out of their locks. It takes no memory.
+    pub fn lift(self) -> Lifted<A, B> {
+        let World {
+            slots,
+            books,
+            room,
+            seats,
+            ..
+        } = self;
+        Lifted::new(room.into_inner().filled(slots), books.into_inner(), seats)
+    }
+}

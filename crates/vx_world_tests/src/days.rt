@@ -1,0 +1,111 @@
+//! Worlds that are opened for a test, each in a function that is generic in their ledgers.
+ghost use Rattle.std.specs.Prelude.{◌≡◌, length};
+
+use crate::{gates, passes, ticks, torn};
+use std::alloc::Global;
+use std::marker::Brand;
+use std::process::Abort;
+use std::sync::Wait;
+use std::test::Fail;
+use std::thread::Threads;
+use vx_board::Desk;
+use vx_core::Opening;
+use vx_geom::{Bounds, Pos};
+use vx_keeper::{Keeper, Places};
+use vx_policy::Policy;
+use vx_region::Name;
+use vx_sector::Cmd;
+use vx_world::{Blanks, Pass, Seats, World};
+
+/// What is done with a world of ann, bob and cyd, of two sectors with their border at x 15/16.
+#[derive(Clone, Copy)]
+pub enum Day {
+    /// A command waits at the gate in one sector while one in the other is answered.
+    TwoSectors,
+    /// Two workers of a tick are at work at once.
+    TwoWorkers,
+    /// Three players play on three threads, and ticks are made meanwhile.
+    ThreePlayers,
+    /// A sector is changed past the rules.
+    Tampered,
+    /// What was put down is seen after a tick, in each sector.
+    SeenAfterATick,
+    /// An edit counts from the next window on.
+    EditsCountNext,
+}
+
+/// Opens a world and spends the day in it.
+pub fn spend<R: Threads + Wait + Abort + Sync>(
+    rt: &R,
+    alloc: Global,
+    day: Day,
+) -> Result<(), Fail> {
+    let opening = opening(alloc)?;
+    let blanks = Blanks::new(&opening);
+    spend_in::<Brand, Brand, R>(rt, alloc, opening, blanks, day)
+}
+
+fn opening(alloc: Global) -> Result<Opening, Fail> {
+    let bounds = Bounds::new(2, 1, 1).ok_or("no bounds")?;
+    let mut names = Vec::new(alloc);
+    for text in ["ann", "bob", "cyd"] {
+        names.push(Name::read(text).map_err(|_| "no name")?)?;
+    }
+    Ok(Opening::new(alloc, bounds, names, Policy::new(alloc)?).map_err(|_| "no opening")?)
+}
+
+fn spend_in<A: Places + Send + Sync, B: Seats + Send + Sync, R: Threads + Wait + Abort + Sync>(
+    rt: &R,
+    alloc: Global,
+    opening: Opening,
+    blanks: Blanks,
+    day: Day,
+) -> Result<(), Fail>
+    requires places { (blanks.places.name ≡ A.name) × (blanks.places.parts ≡ A.parts) }
+    requires seats { (blanks.seats.name ≡ B.name) × (blanks.seats.parts ≡ B.parts) }
+    requires marks { blanks.marks ≡ A.book }
+    requires sectors { (length opening.terrain.sectors ≡ A.all) × (A.all ≡ A.parts) }
+    requires names { (length opening.names ≡ B.all) × (B.all ≡ B.parts) }
+    requires first { opening.policy ≡ A.first }
+{
+    let desk = Desk::new(alloc, opening.policy().try_clone()?);
+    let (world, keeper, passes) = World::<A, B>::new(alloc, opening, desk, blanks)?;
+    match day {
+        Day::TwoSectors => gates::two_sectors(rt, &world, passes),
+        Day::TwoWorkers => gates::two_workers(rt, alloc, &world, keeper, passes),
+        Day::ThreePlayers => passes::three_players(rt, alloc, world, keeper, passes),
+        Day::Tampered => torn::tampered(rt, alloc, world, keeper, passes),
+        Day::SeenAfterATick => ticks::seen_after_a_tick(rt, alloc, &world, keeper, passes),
+        Day::EditsCountNext => ticks::edits_count_next(rt, alloc, &world, keeper, passes),
+    }
+}
+
+#[test]
+fn sectors_answer_apart(rt: HostRuntime) -> Result<(), Fail> {
+    spend(&rt, rt.alloc(), Day::TwoSectors)
+}
+
+#[test]
+fn workers_of_a_tick_meet(rt: HostRuntime) -> Result<(), Fail> {
+    spend(&rt, rt.alloc(), Day::TwoWorkers)
+}
+
+#[test]
+fn players_settle_in_the_end(rt: HostRuntime) -> Result<(), Fail> {
+    spend(&rt, rt.alloc(), Day::ThreePlayers)
+}
+
+#[test]
+fn a_torn_sector_stops_ticks(rt: HostRuntime) -> Result<(), Fail> {
+    spend(&rt, rt.alloc(), Day::Tampered)
+}
+
+#[test]
+fn each_sector_is_put_back(rt: HostRuntime) -> Result<(), Fail> {
+    spend(&rt, rt.alloc(), Day::SeenAfterATick)
+}
+
+#[test]
+fn an_edit_counts_from_the_next_window(rt: HostRuntime) -> Result<(), Fail> {
+    spend(&rt, rt.alloc(), Day::EditsCountNext)
+}

@@ -1,0 +1,13 @@
+//! Tests of a world that threads share: what only calls on several threads can show.
+#![tactic(auto)]
+
+#[cfg(test)]
+mod days;
+#[cfg(test)]
+mod gates;
+#[cfg(test)]
+mod passes;
+#[cfg(test)]
+mod ticks;
+#[cfg(test)]
+mod torn;

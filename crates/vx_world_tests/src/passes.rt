@@ -1,0 +1,117 @@
+//! Players on threads of their own, and the settlement of what they did.
+ghost use Rattle.std.specs.Prelude.{◌≡◌};
+
+use std::alloc::Global;
+use std::process::Abort;
+use std::sync::Wait;
+use std::test::Fail;
+use std::thread::{self, Threads};
+use vx_block::Part;
+use vx_geom::Pos;
+use vx_keeper::{Keeper, Places};
+use vx_record::Fault;
+use vx_sector::Cmd;
+use vx_step::NoGate;
+use vx_world::{Lifted, Pass, Seats, SettleError, World};
+
+// How many calls each player makes, and how many ticks are made meanwhile.
+const CALLS: i32 = 100;
+
+const TICKS: u64 = 5;
+
+/// Three players call at once while ticks are made; all of their calls are in the record in the end,
+/// and without the pass of one of them there is no settlement.
+pub fn three_players<
+    A: Places + Send + Sync,
+    B: Seats + Send + Sync,
+    R: Threads + Wait + Abort + Sync,
+>(
+    rt: &R,
+    alloc: Global,
+    world: World<A, B>,
+    keeper: Keeper<A>,
+    passes: Vec<Pass<A, B>>,
+) -> Result<(), Fail>
+    requires ledgers { (A.all ≡ A.parts) × (B.all ≡ B.parts) }
+{
+    let mut keeper = keeper;
+    let mut passes = passes;
+    let mut cyd = passes.pop().ok_or("no pass")?;
+    let mut bob = passes.pop().ok_or("no pass")?;
+    let mut ann = passes.pop().ok_or("no pass")?;
+    let (_, (_, (_, ticked))) = thread::join(
+        rt,
+        || play(rt, &world, &mut ann),
+        || {
+            thread::join(
+                rt,
+                || play(rt, &world, &mut bob),
+                || {
+                    thread::join(
+                        rt,
+                        || play(rt, &world, &mut cyd),
+                        || tick(rt, alloc, &world, &mut keeper),
+                    )
+                },
+            )
+        },
+    );
+    assert!(rt; ticked);
+    passes.push(ann)?;
+    passes.push(bob)?;
+    settle(rt, alloc, world.lift(), keeper, passes, cyd)
+}
+
+// Places and breaks stone here and there in the world.
+fn play<A: Places, B: Seats, R: Wait>(rt: &R, world: &World<A, B>, pass: &mut Pass<A, B>) {
+    for turn in 0..CALLS {
+        let p = Pos::new(turn % 32, 1, turn % 7);
+        let cmd = if turn % 3 == 0 {
+            Cmd::Break(p)
+        } else {
+            Cmd::Place(p, Part::Stone)
+        };
+        let _ = world.submit(rt, pass, cmd, &NoGate);
+    }
+}
+
+// Whether all ticks were made.
+fn tick<A: Places, B: Seats, R: Threads + Wait + Sync>(
+    rt: &R,
+    alloc: Global,
+    world: &World<A, B>,
+    keeper: &mut Keeper<A>,
+) -> bool {
+    let mut all = true;
+    for _ in 0..TICKS {
+        all = world.tick(rt, alloc, keeper, 2, &NoGate).is_ok() && all;
+    }
+    all
+}
+
+// Without the pass of the third player there is no settlement, and with it there is.
+fn settle<A: Places, B: Seats>(
+    rt: &impl Abort,
+    alloc: Global,
+    lifted: Lifted<A, B>,
+    keeper: Keeper<A>,
+    passes: Vec<Pass<A, B>>,
+    third: Pass<A, B>,
+) -> Result<(), Fail>
+    requires ledgers { (A.all ≡ A.parts) × (B.all ≡ B.parts) }
+{
+    let Err(unsettled) = lifted.finish(alloc, keeper, passes) else {
+        return Err("settled without a pass".into());
+    };
+    assert_eq!(rt;
+        unsettled.error,
+        SettleError::Disagreement(Fault::PassMissing)
+    );
+    let mut passes = unsettled.passes;
+    passes.push(third)?;
+    let Ok(report) = unsettled.lifted.finish(alloc, unsettled.keeper, passes) else {
+        return Err("not settled".into());
+    };
+    assert_eq!(rt; (report.calls(), report.ticks()), (300, TICKS));
+    Ok(())
+}

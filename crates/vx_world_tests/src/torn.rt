@@ -1,0 +1,48 @@
+//! A sector that was changed past the rules.
+ghost use Rattle.std.specs.Prelude.{◌≡◌};
+
+use std::alloc::Global;
+use std::process::Abort;
+use std::sync::Wait;
+use std::test::Fail;
+use std::thread::Threads;
+use vx_block::Part;
+use vx_geom::Pos;
+use vx_keeper::{Keeper, Places, TickError};
+use vx_record::Fault;
+use vx_step::NoGate;
+use vx_world::{Pass, Seats, SettleError, World};
+
+/// No tick is made of it, and the world is not settled.
+pub fn tampered<A: Places + Send + Sync, B: Seats + Send + Sync, R: Threads + Wait + Abort + Sync>(
+    rt: &R,
+    alloc: Global,
+    world: World<A, B>,
+    keeper: Keeper<A>,
+    passes: Vec<Pass<A, B>>,
+) -> Result<(), Fail>
+    requires ledgers { (A.all ≡ A.parts) × (B.all ≡ B.parts) }
+{
+    let mut keeper = keeper;
+    assert!(rt; world.tick(rt, alloc, &mut keeper, 1, &NoGate).is_ok());
+    assert!(rt; world.tamper(rt, Pos::new(20, 1, 5), Part::Stone));
+    is_torn(rt, alloc, &world, &mut keeper);
+    is_torn(rt, alloc, &world, &mut keeper);
+    let Err(unsettled) = world.lift().finish(alloc, keeper, passes) else {
+        return Err("settled".into());
+    };
+    assert_eq!(rt; unsettled.error, SettleError::Disagreement(Fault::Torn(1)));
+    Ok(())
+}
+
+// The tick is not made, and the chronicle stays.
+fn is_torn<A: Places, B: Seats, R: Threads + Wait + Abort + Sync>(
+    rt: &R,
+    alloc: Global,
+    world: &World<A, B>,
+    keeper: &mut Keeper<A>,
+) {
+    let made = world.tick(rt, alloc, keeper, 1, &NoGate);
+    assert_eq!(rt; made.err(), Some(TickError::Torn(1)));
+    assert_eq!(rt; keeper.archive().ticks().len(), 1);
+}

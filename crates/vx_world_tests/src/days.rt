@@ -1,7 +1,7 @@
 //! Worlds that are opened for a test, each in a function that is generic in their ledgers.
 ghost use Rattle.std.specs.Prelude.{◌≡◌, length};
 
-use crate::{gates, passes, ticks, torn};
+use crate::{gates, passes, refused, ticks, torn};
 use std::alloc::Global;
 use std::marker::Brand;
 use std::process::Abort;
@@ -32,6 +32,8 @@ pub enum Day {
     SeenAfterATick,
     /// An edit counts from the next window on.
     EditsCountNext,
+    /// What memory was refused to is called again.
+    MadeAgain,
 }
 
 /// Opens a world and spends the day in it.
@@ -77,6 +79,7 @@ fn spend_in<A: Places + Send + Sync, B: Seats + Send + Sync, R: Threads + Wait +
         Day::Tampered => torn::tampered(rt, alloc, world, keeper, passes),
         Day::SeenAfterATick => ticks::seen_after_a_tick(rt, alloc, &world, keeper, passes),
         Day::EditsCountNext => ticks::edits_count_next(rt, alloc, &world, keeper, passes),
+        Day::MadeAgain => refused::made_again(rt, alloc, world, keeper, passes),
     }
 }
 
@@ -108,4 +111,9 @@ fn each_sector_is_put_back(rt: HostRuntime) -> Result<(), Fail> {
 #[test]
 fn an_edit_counts_from_the_next_window(rt: HostRuntime) -> Result<(), Fail> {
     spend(&rt, rt.alloc(), Day::EditsCountNext)
+}
+
+#[test]
+fn what_was_refused_is_done_again(rt: HostRuntime) -> Result<(), Fail> {
+    spend(&rt, rt.alloc(), Day::MadeAgain)
 }

@@ -8,6 +8,8 @@ mod gates;
 #[cfg(test)]
 mod passes;
 #[cfg(test)]
+mod refused;
+#[cfg(test)]
 mod ticks;
 #[cfg(test)]
 mod torn;

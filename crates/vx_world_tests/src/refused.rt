@@ -1,0 +1,99 @@
+//! Calls that are refused for want of memory, and made again.
+ghost use Rattle.std.specs.Prelude.{◌≡◌};
+
+use std::alloc::Global;
+use std::process::Abort;
+use std::sync::Wait;
+use std::test::Fail;
+use std::thread::Threads;
+use vx_block::Part;
+use vx_geom::Pos;
+use vx_keeper::{Keeper, Places};
+use vx_sector::{Cmd, Refusal, Reply};
+use vx_step::NoGate;
+use vx_world::{Lifted, Pass, Seats, SettleError, World};
+
+/// A command, a tick and a settlement that memory was refused to are done the second time, and what
+/// was refused left nothing.
+pub fn made_again<
+    A: Places + Send + Sync,
+    B: Seats + Send + Sync,
+    R: Threads + Wait + Abort + Sync,
+>(
+    rt: &R,
+    alloc: Global,
+    world: World<A, B>,
+    keeper: Keeper<A>,
+    passes: Vec<Pass<A, B>>,
+) -> Result<(), Fail>
+    requires ledgers { (A.all ≡ A.parts) × (B.all ≡ B.parts) }
+{
+    let mut keeper = keeper;
+    let mut passes = passes;
+    let mut ann = passes.pop().ok_or("no pass")?;
+    act_again(rt, &world, &mut ann);
+    tick_again(rt, alloc, &world, &mut keeper);
+    passes.push(ann)?;
+    finish_again(rt, alloc, world.lift(), keeper, passes)
+}
+
+fn act_again<A: Places, B: Seats, R: Wait + Abort>(
+    rt: &R,
+    world: &World<A, B>,
+    pass: &mut Pass<A, B>,
+) {
+    let placed = place(rt, world, pass);
+    if placed == Err(Refusal::NoMemory) {
+        assert!(rt; place(rt, world, pass).is_ok());
+    } else {
+        assert!(rt; placed.is_ok());
+    }
+}
+
+fn place<A: Places, B: Seats, R: Wait>(
+    rt: &R,
+    world: &World<A, B>,
+    pass: &mut Pass<A, B>,
+) -> Result<Reply, Refusal> {
+    let cmd = Cmd::Place(Pos::new(5, 1, 5), Part::Dust);
+    world.submit(rt, pass, cmd, &NoGate)
+}
+
+fn tick_again<A: Places, B: Seats, R: Threads + Wait + Abort + Sync>(
+    rt: &R,
+    alloc: Global,
+    world: &World<A, B>,
+    keeper: &mut Keeper<A>,
+) {
+    if world.tick(rt, alloc, keeper, 1, &NoGate).is_err() {
+        assert_eq!(rt; keeper.archive().ticks().len(), 0);
+        assert!(rt; world.tick(rt, alloc, keeper, 1, &NoGate).is_ok());
+    }
+    assert_eq!(rt; keeper.archive().ticks().len(), 1);
+}
+
+fn finish_again<A: Places, B: Seats>(
+    rt: &impl Abort,
+    alloc: Global,
+    lifted: Lifted<A, B>,
+    keeper: Keeper<A>,
+    passes: Vec<Pass<A, B>>,
+) -> Result<(), Fail>
+    requires ledgers { (A.all ≡ A.parts) × (B.all ≡ B.parts) }
+{
+    let report = match lifted.finish(alloc, keeper, passes) {
+        Ok(report) => report,
+        Err(unsettled) => {
+            assert_eq!(rt; unsettled.error, SettleError::NoMemory);
+            let again = unsettled
+                .lifted
+                .finish(alloc, unsettled.keeper, unsettled.passes);
+            let Ok(report) = again else {
+                return Err("not settled".into());
+            };
+            report
+        }
+    };
+    assert_eq!(rt; (report.calls(), report.ticks()), (1, 1));
+    Ok(())
+}

@@ -49,11 +49,11 @@ pub fn spend<R: Threads + Wait + Abort + Sync>(
 
 fn opening(alloc: Global) -> Result<Opening, Fail> {
     let bounds = Bounds::new(2, 1, 1).ok_or("no bounds")?;
-    let mut names = Vec::new(alloc);
+    let mut names = Vec::with_capacity(alloc, 3)?;
     for text in ["ann", "bob", "cyd"] {
         names.push(Name::read(text).map_err(|_| "no name")?)?;
     }
-    Ok(Opening::new(alloc, bounds, names, Policy::new(alloc)?).map_err(|_| "no opening")?)
+    Ok(Opening::new(alloc, bounds, names, Policy::new(alloc)?)?)
 }
 
 fn spend_in<A: Places + Send + Sync, B: Seats + Send + Sync, R: Threads + Wait + Abort + Sync>(

@@ -27,6 +27,7 @@ pub struct Home<A: Places> {
 }
 
 impl<A: Places> Home<A> {
+    /// A sector at home, with its share.
     pub fn new(marked: Marked<A>, share: Share<A>) -> Home<A>
         requires one_part { share.parts ≡ 1 }
         requires counted { share.amount ≡ count_of marked }

@@ -1,8 +1,10 @@
 //! A tick of a world that threads share.
 ghost use Rattle.std.specs.List.{All};
-ghost use Rattle.std.specs.Prelude.{◌≡◌, ◌<◌, ◌≤◌, [], true, length, map, vec_len, IfOk, OnOk, OnErr};
+ghost use Rattle.std.specs.Prelude.{◌≡◌, ◌<◌, ◌≤◌, [], true, length, map, vec_len, Err, IfOk, OnOk, OnErr};
+ghost use Rattle.vx_play.specs.Plays.{most_ticks};
 ghost use Rattle.vx_sector.specs.Windows.{count_of};
 ghost use Rattle.vx_keeper.specs.Marks.{AreParts, IsPartOf};
+ghost use Rattle.vx_keeper.specs.declared.tick_error.TickError.TheVariants.{HistoryFull};
 ghost use Rattle.vx_world.specs.Ticks.{HasTicked, KnowsAsBefore};
 
 use crate::home::Home;
@@ -36,6 +38,9 @@ impl<A: Places, B: Seats> World<A, B> {
         ensures ok { IfOk result (λ fates.
             HasTicked A.first A.all keeper.old fates.items keeper.new) }
         ensures err { OnErr result (KnowsAsBefore keeper.old keeper.new) }
+        // No tick is refused for their number while there is one left.
+        ensures full { result ≡ Err HistoryFull
+            → most_ticks ≤ length keeper.old.chronicle.ticks }
     {
         let mut taken = Taken::with_room(alloc, self.slots.len())?;
         self.take_all(rt, keeper, &mut taken);
@@ -111,6 +116,8 @@ fn make<A: Places, R: Threads + Wait + Sync, G: Gate + Sync>(
     ensures ok { IfOk result (λ fates.
         HasTicked A.first A.all keeper.old fates.items keeper.new) }
     ensures err { OnErr result (KnowsAsBefore keeper.old keeper.new) }
+    ensures full { result ≡ Err HistoryFull
+        → most_ticks ≤ length keeper.old.chronicle.ticks }
     ensures all { vec_len taken.new.sectors ≡ A.all }
     ensures parts { AreParts keeper.new.world taken.new.are_parts.items
         taken.new.sectors.items }
@@ -142,6 +149,8 @@ fn tick_of<A: Places, R: Threads + Wait + Sync, G: Gate + Sync>(
     ensures ok { IfOk result (λ fates.
         HasTicked A.first A.all keeper.old fates.items keeper.new) }
     ensures err { OnErr result (KnowsAsBefore keeper.old keeper.new) }
+    ensures full { result ≡ Err HistoryFull
+        → most_ticks ≤ length keeper.old.chronicle.ticks }
     ensures kept { OnErr result (sectors.new ≡ sectors.old) }
     ensures counts { map count_of sectors.new ≡ map count_of sectors.old }
     ensures parts { OnOk result (All (IsPartOf keeper.new.world) sectors.new) }

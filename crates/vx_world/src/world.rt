@@ -156,7 +156,9 @@ impl<A: Places, B: Seats> World<A, B> {
 
     /// Puts a part down in the base and the cells of a sector, as no rule does; `false` outside the
     /// world and where `Sector::tamper` says so. It is there for tests of the keeper.
-    pub fn tamper<R: Wait>(&self, rt: &R, p: Pos, part: Part) -> bool {
+    pub fn tamper<R: Wait>(&self, rt: &R, p: Pos, part: Part) -> bool
+        ensures outside { sector_of self.now.bounds p ≡ None → result ≡ false }
+    {
         let Some(number) = self.number_of(p) else {
             return false;
         };

@@ -1,4 +1,5 @@
-ghost use Rattle.std.specs.Prelude.{◌≡◌, ◌<◌, ◌≤◌, nat_lt, length, map, slice_get, true, None, Some, IfOk, IfSome, SomeIff};
+ghost use Rattle.std.specs.Int.{w64};
+ghost use Rattle.std.specs.Prelude.{◌≡◌, ◌<◌, ◌≤◌, ◌+ℤ◌, ◌-ℤ◌, FitsSigned, pos, nat_lt, length, map, slice_get, true, None, Some, IfOk, IfSome, SomeIff};
 ghost use Rattle.vx_block.specs.Components.{is_dust};
 ghost use Rattle.vx_block.specs.Conductors.{conducts};
 ghost use Rattle.vx_block.specs.declared.cell.Cell.TheVariants.{Air};
@@ -129,15 +130,8 @@ impl<'a> Frozen<'a> {
             (neighbor p dir) }
         ensures outside { result ≡ None → cell_on self.now (neighbor p dir) ≡ Air }
     {
-        let (x, y, z) = (i64::from(p.x), i64::from(p.y), i64::from(p.z));
-        match dir {
-            Dir::East => self.place(x + 1, y, z),
-            Dir::West => self.place(x - 1, y, z),
-            Dir::Up => self.place(x, y + 1, z),
-            Dir::Down => self.place(x, y - 1, z),
-            Dir::South => self.place(x, y, z + 1),
-            Dir::North => self.place(x, y, z - 1),
-        }
+        let (x, y, z) = coordinates_beside(p, dir);
+        self.place(x, y, z)
     }
 
     /// The position over the next one on that side, where the world has one.
@@ -148,15 +142,8 @@ impl<'a> Frozen<'a> {
             SomeIff result (is_inside self.now.sizes over ≡ true) over }
         ensures outside { result ≡ None → cell_on self.now (neighbor (neighbor p dir) Up) ≡ Air }
     {
-        let (x, y, z) = (i64::from(p.x), i64::from(p.y), i64::from(p.z));
-        match dir {
-            Dir::East => self.place(x + 1, y + 1, z),
-            Dir::West => self.place(x - 1, y + 1, z),
-            Dir::Up => self.place(x, y + 1 + 1, z),
-            Dir::Down => self.place(x, y - 1 + 1, z),
-            Dir::South => self.place(x, y + 1, z + 1),
-            Dir::North => self.place(x, y + 1, z - 1),
-        }
+        let (x, y, z) = coordinates_beside(p, dir);
+        self.place(x, y + 1, z)
     }
 
     /// The position under the next one on that side, where the world has one.
@@ -167,15 +154,8 @@ impl<'a> Frozen<'a> {
             SomeIff result (is_inside self.now.sizes under ≡ true) under }
         ensures outside { result ≡ None → cell_on self.now (neighbor (neighbor p dir) Down) ≡ Air }
     {
-        let (x, y, z) = (i64::from(p.x), i64::from(p.y), i64::from(p.z));
-        match dir {
-            Dir::East => self.place(x + 1, y - 1, z),
-            Dir::West => self.place(x - 1, y - 1, z),
-            Dir::Up => self.place(x, y + 1 - 1, z),
-            Dir::Down => self.place(x, y - 1 - 1, z),
-            Dir::South => self.place(x, y - 1, z + 1),
-            Dir::North => self.place(x, y - 1, z - 1),
-        }
+        let (x, y, z) = coordinates_beside(p, dir);
+        self.place(x, y - 1, z)
     }
 
     /// The positions of a sector where a component of machines stands, in order. It costs what
@@ -277,5 +257,24 @@ impl<'a> Frozen<'a> {
     {
         self.soundness();
         self.sector_at(self.bounds().sector_holding(p))
+    }
+}
+
+// The coordinates of the next position on that side, which the world may not have.
+#[inline(always)]
+#[tactic(auto, using(vx_base::proofs::Signed::signed))]
+fn coordinates_beside(p: Pos, dir: Dir) -> (i64, i64, i64)
+    ensures value { record { y = result.1; z = result.2; x = result.0 } ≡ neighbor p dir }
+    ensures above { FitsSigned w64 (result.1 +ℤ pos 1) }
+    ensures below { FitsSigned w64 (result.1 -ℤ pos 1) }
+{
+    let (x, y, z) = (i64::from(p.x), i64::from(p.y), i64::from(p.z));
+    match dir {
+        Dir::East => (x + 1, y, z),
+        Dir::West => (x - 1, y, z),
+        Dir::Up => (x, y + 1, z),
+        Dir::Down => (x, y - 1, z),
+        Dir::South => (x, y, z + 1),
+        Dir::North => (x, y, z - 1),
     }
 }

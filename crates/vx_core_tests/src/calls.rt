@@ -81,12 +81,24 @@ impl Place for Slot {
 #[test]
 fn a_list_has_what_the_record_says(rt: HostRuntime) -> Result<(), Fail> {
     let opening = opening(rt.alloc())?;
-    let mut sector = sector(rt.alloc(), &opening)?;
-    let mut lists = Lists::new(rt.alloc(), 1)?;
-    called(&rt, &mut lists, &mut sector)?;
-    told(&rt, &lists, &sector)?;
-    let archive = Archive::new(rt.alloc(), opening)?;
-    kept(&rt, archive, &lists, &sector)
+    in_a_sector(&rt, rt.alloc(), &opening)
+}
+
+fn in_a_sector(rt: &impl Abort, alloc: Global, opening: &Opening) -> Result<(), Fail> {
+    let mut sector = sector(alloc, opening)?;
+    listed(rt, alloc, opening, &mut sector)
+}
+
+fn listed(
+    rt: &impl Abort,
+    alloc: Global,
+    opening: &Opening,
+    sector: &mut Sector,
+) -> Result<(), Fail> {
+    let mut lists = Lists::new(alloc, 1)?;
+    called(rt, &mut lists, sector)?;
+    told(rt, &lists, sector)?;
+    recorded(rt, alloc, opening, &lists, sector)
 }
 
 fn called(rt: &impl Abort, lists: &mut Lists, sector: &mut Sector) -> Result<(), Fail> {
@@ -121,15 +133,29 @@ fn told(rt: &impl Abort, lists: &Lists, sector: &Sector) -> Result<(), Fail> {
     Ok(())
 }
 
-fn kept(rt: &impl Abort, archive: Archive, lists: &Lists, sector: &Sector) -> Result<(), Fail> {
-    let mut archive = archive;
+fn recorded(
+    rt: &impl Abort,
+    alloc: Global,
+    opening: &Opening,
+    lists: &Lists,
+    sector: &Sector,
+) -> Result<(), Fail> {
+    let mut archive = archive(alloc, opening)?;
     archive.reserve()?;
-    assert!(rt; archive.ticks().is_empty());
-    assert!(rt; archive.says(first(lists), 0, 0, sector.entries()));
-    assert!(rt; are_seated(archive.opening(), sector.entries()));
+    kept(rt, &archive, lists, sector);
     let chronicle = archive.into_chronicle();
     assert!(rt; chronicle.ticks.is_empty());
     Ok(())
+}
+
+fn kept(rt: &impl Abort, archive: &Archive, lists: &Lists, sector: &Sector) {
+    assert!(rt; archive.ticks().is_empty());
+    assert!(rt; archive.says(first(lists), 0, 0, sector.entries()));
+    assert!(rt; are_seated(archive.opening(), sector.entries()));
+}
+
+fn archive(alloc: Global, opening: &Opening) -> Result<Archive, Fail> {
+    Ok(Archive::new(alloc, opening.try_clone()?)?)
 }
 
 fn first(lists: &Lists) -> &[Call] {
@@ -189,7 +215,7 @@ fn judged(rt: &impl Abort, alloc: Global, opening: &Opening) -> Result<(), Fail>
 }
 
 fn filed(rt: &impl Abort, alloc: Global, opening: &Opening, known: &Known) -> Result<(), Fail> {
-    let archive = Archive::new(alloc, opening.try_clone()?)?;
+    let archive = archive(alloc, opening)?;
     acted(rt, alloc, opening, known, &archive)
 }
 
@@ -235,10 +261,15 @@ fn silent(alloc: Global) -> Result<Pass, Fail> {
 
 fn played(rt: &impl Abort, alloc: Global, opening: &Opening) -> Result<(Pass, Slot), Fail> {
     let mut sector = sector(alloc, opening)?;
-    let mut lists = Lists::new(alloc, 1)?;
-    called(rt, &mut lists, &mut sector)?;
+    let lists = calls_in(rt, alloc, &mut sector)?;
     let home = Some(sector);
     Ok((Pass { seat: 0, lists }, Slot { home }))
+}
+
+fn calls_in(rt: &impl Abort, alloc: Global, sector: &mut Sector) -> Result<Lists, Fail> {
+    let mut lists = Lists::new(alloc, 1)?;
+    called(rt, &mut lists, sector)?;
+    Ok(lists)
 }
 
 // What is found of one pass and one sector.
@@ -255,10 +286,19 @@ fn what_is_known(opening: &Opening) -> Result<Known, Fail> {
     let Some(cells) = opening.terrain().sectors().first() else {
         return Err("no sector")?;
     };
+    over(cells.try_clone()?, opening)
+}
+
+fn over(base: Cells, opening: &Opening) -> Result<Known, Fail> {
+    let version = version(opening)?;
+    since(base, version, opening)
+}
+
+fn since(base: Cells, version: Version, opening: &Opening) -> Result<Known, Fail> {
     Ok(Known {
-        base: cells.try_clone()?,
-        version: version(opening)?,
-        closed: 0,
         opening: opening.try_clone()?,
+        base,
+        version,
+        closed: 0,
     })
 }

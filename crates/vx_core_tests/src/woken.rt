@@ -213,6 +213,12 @@ fn ann() -> Result<Name, Fail> {
 }
 
 fn open(alloc: Global, map: &Whole) -> Result<Play<Brand>, Fail> {
-    let names = Vec::from_slice(alloc, &[ann()?])?;
-    Ok(Play::open(alloc, map.try_clone()?, names, Policy::new(alloc)?)?)
+    let ann = ann()?;
+    Ok(open_for(alloc, map, ann)?)
+}
+
+fn open_for(alloc: Global, map: &Whole, player: Name) -> Result<Play<Brand>, AllocError> {
+    let map = map.try_clone()?;
+    let names = Vec::from_slice(alloc, &[player])?;
+    Play::open(alloc, map, names, Policy::new(alloc)?)
 }

@@ -7,6 +7,7 @@ ghost use Rattle.vx_record.specs.Calls.{lists_after};
 
 use crate::books::Books;
 use crate::pass::Pass;
+use crate::patience::patiently;
 use crate::seats::Seats;
 use std::sync::ledger::Share;
 use std::sync::{Mutex, Wait};
@@ -79,7 +80,7 @@ impl<A: Places> Home<A> {
         if !is_recorded(&answer) {
             return answer;
         }
-        books.lock(rt).raise(rt, &mut self.share, &mut pass.share);
+        patiently(rt, books).raise(rt, &mut self.share, &mut pass.share);
         answer
     }
 

@@ -8,6 +8,7 @@ mod home;
 mod lifted;
 mod opening;
 mod pass;
+mod patience;
 mod report;
 mod room;
 mod seats;

@@ -11,6 +11,7 @@ use crate::books::Books;
 use crate::lifted::Lifted;
 use crate::opening::{locked, passes};
 use crate::pass::Pass;
+use crate::patience::patiently;
 use crate::room::Room;
 use crate::seats::Seats;
 use crate::slot::Slot;
@@ -32,10 +33,11 @@ pub struct World<A: Places, B: Seats> {
     pub(crate) bounds: Bounds,
     pub(crate) slots: Vec<Mutex<Slot<A>>>,
     pub(crate) came: Condvar,
-    pub(crate) books: Mutex<Books<A, B>>,
-    pub(crate) desk: Desk<A>,
-    pub(crate) room: Mutex<Room<A>>,
     seats: u8,
+    pub(crate) room: Mutex<Room<A>>,
+    pub(crate) desk: Desk<A>,
+    // Apart from the bounds and the slots, which every command reads.
+    pub(crate) books: Mutex<Books<A, B>>,
     ghost all_here: { vec_len slots ≡ A.all },
     ghost divided: { sector_count bounds ≡ A.all },
     ghost few: { A.all < 2 ^ 32 },
@@ -144,9 +146,8 @@ impl<A: Places, B: Seats> World<A, B> {
             return Err(Refusal::OutOfWorld);
         };
         let at = number as usize;
-        let mut slot = self
-            .came
-            .wait_while(rt, self.slots[at].lock(rt), |slot| !slot.is_home_of(p));
+        let slot = patiently(rt, &self.slots[at]);
+        let mut slot = self.came.wait_while(rt, slot, |slot| !slot.is_home_of(p));
         let Some(home) = &mut slot.home else {
             unreachable!()
         };

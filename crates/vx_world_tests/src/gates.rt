@@ -63,15 +63,15 @@ pub fn two_sectors<
     R: Threads + Wait + Abort + Sync,
 >(rt: &R, world: &World<A, B>, passes: Vec<Pass<A, B>>) -> Result<(), Fail> {
     let mut passes = passes;
-    let mut bob = passes.pop().ok_or("no pass")?;
-    let mut ann = passes.pop().ok_or("no pass")?;
+    let (ann, others) = passes.split_first_mut().ok_or("no pass")?;
+    let bob = others.first_mut().ok_or("no pass")?;
     let gate = Holding::new();
     let (first, second) = thread::join(
         rt,
-        || world.submit(rt, &mut ann, stone_at(5), &gate),
+        || world.submit(rt, ann, stone_at(5), &gate),
         || {
             gate.await_at(&gate.came);
-            let answer = world.submit(rt, &mut bob, stone_at(20), &NoGate);
+            let answer = world.submit(rt, bob, stone_at(20), &NoGate);
             gate.opened.store(1, Ordering::SeqCst);
             answer
         },
@@ -99,8 +99,8 @@ pub fn two_workers<
 ) -> Result<(), Fail> {
     let mut keeper = keeper;
     let mut passes = passes;
-    let mut ann = passes.pop().ok_or("no pass")?;
-    let placed = world.submit(rt, &mut ann, dust_at(5), &NoGate);
+    let ann = passes.first_mut().ok_or("no pass")?;
+    let placed = world.submit(rt, ann, dust_at(5), &NoGate);
     assert!(rt; placed.is_ok());
     let gate = Holding::new();
     let made = world.tick(rt, alloc, &mut keeper, 2, &gate);

@@ -12,7 +12,7 @@ use vx_keeper::{Keeper, Places};
 use vx_record::Fault;
 use vx_sector::Cmd;
 use vx_step::NoGate;
-use vx_world::{Lifted, Pass, Seats, SettleError, World};
+use vx_world::{Lifted, Pass, Seats, SettleError, Unsettled, World};
 
 // How many calls each player makes, and how many ticks are made meanwhile.
 const CALLS: i32 = 100;
@@ -36,30 +36,40 @@ pub fn three_players<
 {
     let mut keeper = keeper;
     let mut passes = passes;
-    let mut cyd = passes.pop().ok_or("no pass")?;
-    let mut bob = passes.pop().ok_or("no pass")?;
-    let mut ann = passes.pop().ok_or("no pass")?;
+    assert!(rt; all_play(rt, alloc, &world, &mut keeper, &mut passes)?);
+    let third = passes.pop().ok_or("no pass")?;
+    settle(rt, alloc, world.lift(), keeper, passes, third)
+}
+
+// Whether all ticks were made while the three played.
+fn all_play<A: Places + Send + Sync, B: Seats + Send + Sync, R: Threads + Wait + Sync>(
+    rt: &R,
+    alloc: Global,
+    world: &World<A, B>,
+    keeper: &mut Keeper<A>,
+    passes: &mut [Pass<A, B>],
+) -> Result<bool, Fail> {
+    let (ann, others) = passes.split_first_mut().ok_or("no pass")?;
+    let (bob, others) = others.split_first_mut().ok_or("no pass")?;
+    let (cyd, _) = others.split_first_mut().ok_or("no pass")?;
     let (_, (_, (_, ticked))) = thread::join(
         rt,
-        || play(rt, &world, &mut ann),
+        || play(rt, world, ann),
         || {
             thread::join(
                 rt,
-                || play(rt, &world, &mut bob),
+                || play(rt, world, bob),
                 || {
                     thread::join(
                         rt,
-                        || play(rt, &world, &mut cyd),
-                        || tick(rt, alloc, &world, &mut keeper),
+                        || play(rt, world, cyd),
+                        || tick(rt, alloc, world, keeper),
                     )
                 },
             )
         },
     );
-    assert!(rt; ticked);
-    passes.push(ann)?;
-    passes.push(bob)?;
-    settle(rt, alloc, world.lift(), keeper, passes, cyd)
+    Ok(ticked)
 }
 
 // Places and breaks stone here and there in the world.
@@ -107,11 +117,41 @@ fn settle<A: Places, B: Seats>(
         unsettled.error,
         SettleError::Disagreement(Fault::PassMissing)
     );
-    let mut passes = unsettled.passes;
-    passes.push(third)?;
-    let Ok(report) = unsettled.lifted.finish(alloc, unsettled.keeper, passes) else {
+    settle_with(rt, alloc, unsettled, third)
+}
+
+fn settle_with<A: Places, B: Seats>(
+    rt: &impl Abort,
+    alloc: Global,
+    unsettled: Unsettled<A, B>,
+    pass: Pass<A, B>,
+) -> Result<(), Fail>
+    requires ledgers { (A.all ≡ A.parts) × (B.all ≡ B.parts) }
+{
+    let Unsettled {
+        lifted,
+        keeper,
+        mut passes,
+        ..
+    } = unsettled;
+    passes.push(pass)?;
+    settles(rt, alloc, lifted, keeper, passes, (300, TICKS))
+}
+
+/// The world is settled, with so many calls and ticks.
+pub fn settles<A: Places, B: Seats>(
+    rt: &impl Abort,
+    alloc: Global,
+    lifted: Lifted<A, B>,
+    keeper: Keeper<A>,
+    passes: Vec<Pass<A, B>>,
+    counts: (u64, u64),
+) -> Result<(), Fail>
+    requires ledgers { (A.all ≡ A.parts) × (B.all ≡ B.parts) }
+{
+    let Ok(report) = lifted.finish(alloc, keeper, passes) else {
         return Err("not settled".into());
     };
-    assert_eq!(rt; (report.calls(), report.ticks()), (300, TICKS));
+    assert_eq!(rt; (report.calls(), report.ticks()), counts);
     Ok(())
 }

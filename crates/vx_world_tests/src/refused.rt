@@ -1,6 +1,7 @@
 //! Calls that are refused for want of memory, and made again.
 ghost use Rattle.std.specs.Prelude.{◌≡◌};
 
+use crate::passes::settles;
 use std::alloc::Global;
 use std::process::Abort;
 use std::sync::Wait;
@@ -11,7 +12,7 @@ use vx_geom::Pos;
 use vx_keeper::{Keeper, Places};
 use vx_sector::{Cmd, Refusal, Reply};
 use vx_step::NoGate;
-use vx_world::{Lifted, Pass, Seats, SettleError, World};
+use vx_world::{Lifted, Pass, Seats, SettleError, Unsettled, World};
 
 /// A command, a tick and a settlement that memory was refused to are done the second time, and what
 /// was refused left nothing.
@@ -30,10 +31,8 @@ pub fn made_again<
 {
     let mut keeper = keeper;
     let mut passes = passes;
-    let mut ann = passes.pop().ok_or("no pass")?;
-    act_again(rt, &world, &mut ann);
+    act_again(rt, &world, passes.first_mut().ok_or("no pass")?);
     tick_again(rt, alloc, &world, &mut keeper);
-    passes.push(ann)?;
     finish_again(rt, alloc, world.lift(), keeper, passes)
 }
 
@@ -81,19 +80,19 @@ fn finish_again<A: Places, B: Seats>(
 ) -> Result<(), Fail>
     requires ledgers { (A.all ≡ A.parts) × (B.all ≡ B.parts) }
 {
-    let report = match lifted.finish(alloc, keeper, passes) {
-        Ok(report) => report,
+    let counts = (1, 1);
+    match lifted.finish(alloc, keeper, passes) {
+        Ok(report) => assert_eq!(rt; (report.calls(), report.ticks()), counts),
         Err(unsettled) => {
             assert_eq!(rt; unsettled.error, SettleError::NoMemory);
-            let again = unsettled
-                .lifted
-                .finish(alloc, unsettled.keeper, unsettled.passes);
-            let Ok(report) = again else {
-                return Err("not settled".into());
-            };
-            report
+            let Unsettled {
+                lifted,
+                keeper,
+                passes,
+                ..
+            } = unsettled;
+            settles(rt, alloc, lifted, keeper, passes, counts)?;
         }
-    };
-    assert_eq!(rt; (report.calls(), report.ticks()), (1, 1));
+    }
     Ok(())
 }

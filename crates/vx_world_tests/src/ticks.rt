@@ -28,28 +28,45 @@ pub fn seen_after_a_tick<
 ) -> Result<(), Fail> {
     let mut keeper = keeper;
     let mut passes = passes;
-    let mut ann = passes.pop().ok_or("no pass")?;
-    let (west, east) = (Pos::new(5, 1, 5), Pos::new(20, 1, 5));
-    assert!(rt;
-        world
-            .submit(rt, &mut ann, Cmd::Place(west, Part::Stone), &NoGate)
-            .is_ok()
-    );
-    assert!(rt;
-        world
-            .submit(rt, &mut ann, Cmd::Place(east, Part::Dirt), &NoGate)
-            .is_ok()
-    );
-    assert!(rt; world.tick(rt, alloc, &mut keeper, 1, &NoGate).is_ok());
-    let seen = [
-        world.submit(rt, &mut ann, Cmd::Look(west), &NoGate),
-        world.submit(rt, &mut ann, Cmd::Look(east), &NoGate),
-    ];
-    assert_eq!(rt;
-        seen.as_slice(),
-        [Ok(Reply::Seen(Cell::Stone)), Ok(Reply::Seen(Cell::Dirt))].as_slice()
-    );
+    let ann = passes.first_mut().ok_or("no pass")?;
+    sees_both(rt, alloc, world, &mut keeper, ann);
     Ok(())
+}
+
+fn sees_both<A: Places, B: Seats, R: Threads + Wait + Abort + Sync>(
+    rt: &R,
+    alloc: Global,
+    world: &World<A, B>,
+    keeper: &mut Keeper<A>,
+    pass: &mut Pass<A, B>,
+) {
+    let (west, east) = (Pos::new(5, 1, 5), Pos::new(20, 1, 5));
+    is_done(rt, world, pass, Cmd::Place(west, Part::Stone));
+    is_done(rt, world, pass, Cmd::Place(east, Part::Dirt));
+    assert!(rt; world.tick(rt, alloc, keeper, 1, &NoGate).is_ok());
+    is_seen(rt, world, pass, west, Cell::Stone);
+    is_seen(rt, world, pass, east, Cell::Dirt);
+}
+
+fn is_done<A: Places, B: Seats, R: Wait + Abort>(
+    rt: &R,
+    world: &World<A, B>,
+    pass: &mut Pass<A, B>,
+    cmd: Cmd,
+) {
+    let answer = world.submit(rt, pass, cmd, &NoGate);
+    assert_eq!(rt; answer, Ok(Reply::Done(Rule::Default)));
+}
+
+fn is_seen<A: Places, B: Seats, R: Wait + Abort>(
+    rt: &R,
+    world: &World<A, B>,
+    pass: &mut Pass<A, B>,
+    p: Pos,
+    cell: Cell,
+) {
+    let answer = world.submit(rt, pass, Cmd::Look(p), &NoGate);
+    assert_eq!(rt; answer, Ok(Reply::Seen(cell)));
 }
 
 /// An edit denies nothing in the window in which it is accepted, and denies in the next.
@@ -66,27 +83,34 @@ pub fn edits_count_next<
 ) -> Result<(), Fail> {
     let mut keeper = keeper;
     let mut passes = passes;
-    let mut ann = passes.pop().ok_or("no pass")?;
+    let ann = passes.first_mut().ok_or("no pass")?;
+    plotted(rt, alloc, world)?;
+    is_denied_next(rt, alloc, world, &mut keeper, ann);
+    Ok(())
+}
+
+// A column becomes a plot of which nobody is a member.
+fn plotted<A: Places, B: Seats, R: Wait + Abort>(
+    rt: &R,
+    alloc: Global,
+    world: &World<A, B>,
+) -> Result<(), Fail> {
     let column = ShapeSpec::Cuboid(Pos::new(5, 0, 5), Pos::new(5, 63, 5));
     let plot = Edit::Define(String::from_str(alloc, "plot")?, column);
     assert!(rt; world.desk().edit(rt, alloc, plot).is_ok());
-    let before = world.submit(
-        rt,
-        &mut ann,
-        Cmd::Place(Pos::new(5, 1, 5), Part::Stone),
-        &NoGate,
-    );
-    assert_eq!(rt; before, Ok(Reply::Done(Rule::Default)));
-    assert!(rt; world.tick(rt, alloc, &mut keeper, 1, &NoGate).is_ok());
-    let after = world.submit(
-        rt,
-        &mut ann,
-        Cmd::Place(Pos::new(5, 2, 5), Part::Stone),
-        &NoGate,
-    );
-    assert_eq!(rt;
-        after,
-        Err(Refusal::Denied(Rule::Member { at: RegionNo(1) }))
-    );
     Ok(())
+}
+
+fn is_denied_next<A: Places, B: Seats, R: Threads + Wait + Abort + Sync>(
+    rt: &R,
+    alloc: Global,
+    world: &World<A, B>,
+    keeper: &mut Keeper<A>,
+    pass: &mut Pass<A, B>,
+) {
+    is_done(rt, world, pass, Cmd::Place(Pos::new(5, 1, 5), Part::Stone));
+    assert!(rt; world.tick(rt, alloc, keeper, 1, &NoGate).is_ok());
+    let cmd = Cmd::Place(Pos::new(5, 2, 5), Part::Stone);
+    let denied = Refusal::Denied(Rule::Member { at: RegionNo(1) });
+    assert_eq!(rt; world.submit(rt, pass, cmd, &NoGate), Err(denied));
 }

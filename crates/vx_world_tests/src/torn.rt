@@ -24,15 +24,24 @@ pub fn tampered<A: Places + Send + Sync, B: Seats + Send + Sync, R: Threads + Wa
     requires ledgers { (A.all ≡ A.parts) × (B.all ≡ B.parts) }
 {
     let mut keeper = keeper;
-    assert!(rt; world.tick(rt, alloc, &mut keeper, 1, &NoGate).is_ok());
-    assert!(rt; world.tamper(rt, Pos::new(20, 1, 5), Part::Stone));
-    is_torn(rt, alloc, &world, &mut keeper);
-    is_torn(rt, alloc, &world, &mut keeper);
+    is_tampered(rt, alloc, &world, &mut keeper);
     let Err(unsettled) = world.lift().finish(alloc, keeper, passes) else {
         return Err("settled".into());
     };
     assert_eq!(rt; unsettled.error, SettleError::Disagreement(Fault::Torn(1)));
     Ok(())
+}
+
+fn is_tampered<A: Places, B: Seats, R: Threads + Wait + Abort + Sync>(
+    rt: &R,
+    alloc: Global,
+    world: &World<A, B>,
+    keeper: &mut Keeper<A>,
+) {
+    assert!(rt; world.tick(rt, alloc, keeper, 1, &NoGate).is_ok());
+    assert!(rt; world.tamper(rt, Pos::new(20, 1, 5), Part::Stone));
+    is_torn(rt, alloc, world, keeper);
+    is_torn(rt, alloc, world, keeper);
 }
 
 // The tick is not made, and the chronicle stays.

@@ -289,11 +289,13 @@ fn what_is_known(opening: &Opening) -> Result<Known, Fail> {
     over(cells.try_clone()?, opening)
 }
 
+// What is known over this base. Each `?` lets go what is owned, so there is one a function.
 fn over(base: Cells, opening: &Opening) -> Result<Known, Fail> {
     let version = version(opening)?;
     since(base, version, opening)
 }
 
+// What is known since this version.
 fn since(base: Cells, version: Version, opening: &Opening) -> Result<Known, Fail> {
     Ok(Known {
         opening: opening.try_clone()?,

@@ -18,7 +18,6 @@ use vx_marks::Marks;
 /// What stands in one sector of the world: a cell at each position, and the slots of each chest.
 // The cells are a byte each, in one block of memory; the chests stand beside it, by their indices,
 // and marks where components of machines stand, and which of them are devices.
-#[derive(Drop)]
 pub struct Cells {
     bounds: Bounds,
     sector: u32,
@@ -37,6 +36,20 @@ impl Model for Cells {
     ghost view = { λ a. stored a.bounds a.sector a.store.items a.chests };
 
     ghost invariant = { λ a. IsKept a.bounds a.sector a.store.items a.chests a.components a.devices };
+}
+
+// Written out, so that what is above this crate need not prove how its parts are let go.
+impl Drop for Cells {
+    fn drop(self) {
+        let Cells {
+            bounds: _,
+            sector: _,
+            store: _store,
+            chests: _chests,
+            components: _components,
+            devices: _devices,
+        } = self;
+    }
 }
 
 impl Cells {

@@ -11,7 +11,6 @@ use vx_block::Cell;
 use vx_geom::{Bounds, Pos};
 
 /// The whole map of a world, with its sectors, each in its place.
-#[derive(Drop)]
 pub struct Whole {
     bounds: Bounds,
     sectors: Vec<Cells>,
@@ -25,6 +24,16 @@ impl Model for Whole {
     ghost view = { λ a. record { sizes = a.bounds; sectors = a.sectors.items } };
 
     ghost invariant = { λ a. AreSectors a.bounds a.sectors.items };
+}
+
+// Written out, so that what is above this crate need not prove how its parts are let go.
+impl Drop for Whole {
+    fn drop(self) {
+        let Whole {
+            bounds: _,
+            sectors: _sectors,
+        } = self;
+    }
 }
 
 impl Whole {
@@ -112,7 +121,8 @@ impl Whole {
         ensures sectors { result.1.items ≡ self.sectors }
         ensures whole { IsMap self }
     {
-        (self.bounds, self.sectors)
+        let Whole { bounds, sectors } = self;
+        (bounds, sectors)
     }
 }
 

@@ -13,7 +13,6 @@ use vx_region::Name;
 use vx_sector::Refusal;
 
 /// How a world opens: its terrain, its players in order of their seats, and its policy.
-#[derive(Drop)]
 pub struct Opening {
     terrain: Whole,
     names: Vec<Name>,
@@ -32,6 +31,17 @@ impl Model for Opening {
         record { terrain = a.terrain; names = texts a.names.items; policy = a.policy } };
 
     ghost invariant = { λ a. vec_len a.names ≤ MAX_PLAYERS };
+}
+
+// Written out, so that what is above this crate need not prove how its parts are let go.
+impl Drop for Opening {
+    fn drop(self) {
+        let Opening {
+            terrain: _terrain,
+            names: _names,
+            policy: _policy,
+        } = self;
+    }
 }
 
 impl Opening {
@@ -95,7 +105,12 @@ impl Opening {
         ensures policy { result.2 ≡ self.policy }
         ensures few { vec_len result.1 ≤ MAX_PLAYERS }
     {
-        (self.terrain, self.names, self.policy)
+        let Opening {
+            terrain,
+            names,
+            policy,
+        } = self;
+        (terrain, names, policy)
     }
 
     /// What holds of every opening: each sector of its terrain stands in its place, with something

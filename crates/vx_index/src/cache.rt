@@ -28,12 +28,22 @@ const FEW: usize = 12;
 /// What a sector keeps of the decisions by one set of regions: the regions near, for each of its
 /// chunks in which something was asked, the flags that are set nowhere, and the verdicts that were
 /// asked for last. Where memory is wanting less is kept, and the answers are the same.
-#[derive(Drop)]
 pub struct Cache {
     pub(crate) chunks: Vec<Chunk>,
     // None as long as nothing was asked.
     pub(crate) unset: Vec<Flag>,
     pub(crate) kept: Kept,
+}
+
+// Written out, so that what is above this crate need not prove how its parts are let go.
+impl Drop for Cache {
+    fn drop(self) {
+        let Cache {
+            chunks: _chunks,
+            unset: _unset,
+            kept: _kept,
+        } = self;
+    }
 }
 
 impl Cache {

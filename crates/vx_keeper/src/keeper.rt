@@ -36,7 +36,6 @@ use vx_wake::Waking;
 /// holds it makes the ticks, of sectors that were taken out of their locks.
 // It keeps where the map as the windows began does not rest, so that a tick looks there alone, and
 // the mark of what it knows, which it gives to the sectors that are part of that.
-#[derive(Drop)]
 pub struct Keeper<A: Places> {
     archive: Archive,
     known: Known,
@@ -55,6 +54,19 @@ impl<A: Places> Model for Keeper<A> {
 
     ghost invariant = { λ a. IsKeeper A.first A.all (keeper_data a.archive a.known a.waking)
         × IfSome a.mark (λ m. m ≡ Some a.known) };
+}
+
+// Written out, so that what is above this crate need not prove how its parts are let go.
+impl<A: Places> Drop for Keeper<A> {
+    fn drop(self) {
+        let Keeper {
+            archive: _archive,
+            known: _known,
+            waking: _waking,
+            stamper: _stamper,
+            mark: _mark,
+        } = self;
+    }
 }
 
 impl<A: Places> Keeper<A> {
@@ -278,7 +290,14 @@ impl<A: Places> Keeper<A> {
     pub fn into_chronicle(self) -> Chronicle
         ensures { chronicle_in result ≡ self.chronicle }
     {
-        self.archive.into_chronicle()
+        let Keeper {
+            archive,
+            known: _known,
+            waking: _waking,
+            stamper: _stamper,
+            mark: _mark,
+        } = self;
+        archive.into_chronicle()
     }
 
     // Whether the window of the sector began with what the keeper has of the sector of that number.

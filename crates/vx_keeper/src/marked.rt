@@ -17,7 +17,6 @@ use vx_sector::{Cmd, Refusal, Reply, Seat, Sector};
 use vx_stamp::Mark;
 
 /// A sector with the mark of a world of which its window began with its part.
-#[derive(Drop)]
 pub struct Marked<A: Places> {
     sector: Sector,
     mark: Option<Mark<Known, A>>,
@@ -32,6 +31,16 @@ impl<A: Places> Model for Marked<A> {
     ghost view = { λ a. a.sector };
 
     ghost invariant = { λ a. IsMarkOf a.mark a.sector };
+}
+
+// Written out, so that what is above this crate need not prove how its parts are let go.
+impl<A: Places> Drop for Marked<A> {
+    fn drop(self) {
+        let Marked {
+            sector: _sector,
+            mark: _mark,
+        } = self;
+    }
 }
 
 impl<A: Places> Marked<A> {
@@ -54,7 +63,11 @@ impl<A: Places> Marked<A> {
     pub fn into_sector(self) -> Sector
         ensures { result ≡ self }
     {
-        self.sector
+        let Marked {
+            sector,
+            mark: _mark,
+        } = self;
+        sector
     }
 
     /// Carries out a command and puts it on the list of that number, as `Lists::act` does. The mark

@@ -31,7 +31,6 @@ pub const MAX_TICKS: u64 = 1_099_511_627_776;
 /// A world at play: its sectors in their places, its players in order of their seats, and the desk
 /// where its policy is edited.
 // It keeps where the map as the windows began does not rest, so that a tick looks there alone.
-#[derive(Drop)]
 pub struct Play<J: Naming> {
     bounds: Bounds,
     sectors: Vec<Sector>,
@@ -66,6 +65,21 @@ impl<J: Naming> Model for Play<J> {
     ghost invariant = { λ a. (vec_len a.names ≤ MAX_PLAYERS) × (a.ticks ≤ most_ticks)
         × AreSectors a.bounds (map cells_of a.sectors.items)
         × RestsBut (map_before a.bounds a.sectors.items) a.waking };
+}
+
+// Written out, so that what is above this crate need not prove how its parts are let go.
+impl<J: Naming> Drop for Play<J> {
+    fn drop(self) {
+        let Play {
+            bounds: _,
+            sectors: _sectors,
+            version: _version,
+            names: _names,
+            desk: _desk,
+            ticks: _,
+            waking: _waking,
+        } = self;
+    }
 }
 
 impl<J: Naming> Play<J> {
@@ -251,7 +265,16 @@ impl<J: Naming> Play<J> {
     pub fn into_sectors(self) -> Vec<Sector>
         ensures { result.items ≡ self.sectors }
     {
-        self.sectors
+        let Play {
+            bounds: _,
+            sectors,
+            version: _version,
+            names: _names,
+            desk: _desk,
+            ticks: _,
+            waking: _waking,
+        } = self;
+        sectors
     }
 
     /// The version that judges the commands of the windows and the machines of the next tick.

@@ -13,7 +13,7 @@ use vx_region::RegionSet;
 
 /// The written policy: a set of regions that is changed by edits. Copies share it until one of them
 /// is changed.
-#[derive(Debug, Drop)]
+#[derive(Debug)]
 pub struct Policy {
     regions: Arc<RegionSet>,
 }
@@ -25,6 +25,13 @@ impl Model for Policy {
     ghost Value = { Regions };
 
     ghost view = { λ a. arc_value a.regions };
+}
+
+// Written out, so that what is above this crate need not prove how its parts are let go.
+impl Drop for Policy {
+    fn drop(self) {
+        let Policy { regions: _regions } = self;
+    }
 }
 
 impl Policy {

@@ -29,7 +29,7 @@ use vx_geom::{Pos, Shape};
 /// The regions of a world, in order of their numbers, and the flags of the world at large, which is
 /// `__global__` and has number 0. A number is never given twice. Copies share each region until one
 /// of them changes it.
-#[derive(Debug, Drop)]
+#[derive(Debug)]
 pub struct RegionSet {
     last: u32,
     regions: IndexMap<u32, SharedRegion>,
@@ -47,6 +47,18 @@ impl Model for RegionSet {
 
     ghost invariant = { λ a. IsSound
         (regions_of a.last a.regions.entries a.global) a.numbers };
+}
+
+// Written out, so that what is above this crate need not prove how its parts are let go.
+impl Drop for RegionSet {
+    fn drop(self) {
+        let RegionSet {
+            last: _,
+            regions: _regions,
+            numbers: _numbers,
+            global: _,
+        } = self;
+    }
 }
 
 impl RegionSet {

@@ -31,7 +31,6 @@ const MAX_ENTRIES: u64 = 1_099_511_627_776;
 
 /// One sector of the world: its cells, the version of the policy that judges the commands of its
 /// window, and their record.
-#[derive(Drop)]
 pub struct Sector {
     base: Cells,
     cells: Cells,
@@ -50,6 +49,19 @@ impl Model for Sector {
 
     ghost invariant = { λ a.
         IsSector (sector_data a.base a.cells a.judge a.entries.items a.closed) };
+}
+
+// Written out, so that what is above this crate need not prove how its parts are let go.
+impl Drop for Sector {
+    fn drop(self) {
+        let Sector {
+            base: _base,
+            cells: _cells,
+            judge: _judge,
+            entries: _entries,
+            closed: _,
+        } = self;
+    }
 }
 
 impl Sector {
@@ -230,7 +242,14 @@ impl Sector {
     pub fn into_entries(self) -> Vec<Entry>
         ensures { map entry_of result.items ≡ self.entries }
     {
-        self.entries
+        let Sector {
+            base: _base,
+            cells: _cells,
+            judge: _judge,
+            entries,
+            closed: _,
+        } = self;
+        entries
     }
 
     /// Carries out a command and records it with its answer, or refuses it by the first cause that

@@ -29,7 +29,7 @@ abbrev pub count_here : {A : Type 0} {P : _} {N : _} {H : _} → Slot A P N H �
 count_here slot = unwrap_or (option_map (λ home. count_of home.marked) slot.home) 0
 
 -- who made the calls of a pass
-abbrev pub caller_of : {A B : Type 0} {P : _} {L : _} {N : _} {H : _} {S : _} → Pass A B P L N H S
+abbrev pub caller_of : {A B : Type 0} {P : _} {N : _} {H : _} {S : _} → Pass A B P N H S
     → CallerData
 caller_of pass = record { seat = pass.seat.number; lists = pass.lists }
 

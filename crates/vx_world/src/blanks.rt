@@ -1,4 +1,4 @@
-ghost use Rattle.std.specs.Prelude.{◌≡◌, length};
+ghost use Rattle.std.specs.Prelude.{◌≡◌, ◌+◌, ◌*◌, length};
 
 use std::sync::ledger::Blank;
 use vx_core::Opening;
@@ -16,14 +16,19 @@ pub struct Blanks {
 }
 
 impl Blanks {
-    /// The books of a world that opens so. It takes no memory.
+    /// The books of a world that opens so: a part of the sectors' ledger for each sector and for the
+    /// reserve of each pass, and two of the passes' ledger for each pass. It takes no memory.
     pub fn new(opening: &Opening) -> Blanks
-        ensures places { result.places.parts ≡ length opening.now.terrain.sectors }
-        ensures seats { result.seats.parts ≡ length opening.now.names }
+        ensures places { result.places.parts
+            ≡ length opening.now.terrain.sectors + length opening.now.names }
+        ensures seats { result.seats.parts ≡ 2 * length opening.now.names }
     {
+        opening.soundness();
+        let sectors = opening.terrain().sectors().len() as u64;
+        let seats = opening.names().len() as u64;
         Blanks {
-            places: Blank::new(opening.terrain().sectors().len() as u64),
-            seats: Blank::new(opening.names().len() as u64),
+            places: Blank::new(sectors + seats),
+            seats: Blank::new(2 * seats),
             marks: Opened::new(),
         }
     }

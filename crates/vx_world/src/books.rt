@@ -1,11 +1,15 @@
 ghost use Rattle.std.specs.Prelude.{◌≡◌, ◌+◌, ◌<◌};
 
+use crate::reserve::Reserve;
 use std::sync::Wait;
 use std::sync::ledger::{Book, Ledger, Share};
 
+// By how many calls the books are raised at once.
+const AT_ONCE: u64 = 64;
+
 /// The books of the two ledgers, which are equal: as many calls are recorded in sectors as are on
-/// the lists of passes. What is left of the shares once each sector and each pass has its own stands
-/// beside them.
+/// the lists of passes, each beside what the passes have in reserve. What is left of the shares once
+/// each sector and each pass has its own stands beside them.
 #[derive(Drop)]
 pub struct Books<A: Ledger, B: Ledger> {
     count: u64,
@@ -41,14 +45,13 @@ impl<A: Ledger, B: Ledger> Books<A, B> {
         }
     }
 
-    /// One call more, in the share of the sector that recorded it and in that of the pass that made
-    /// it. At 2^64 - 1 calls, more than any world can record, it does not return.
-    pub fn raise<R: Wait>(&mut self, rt: &R, place: &mut Share<A>, seat: &mut Share<B>)
-        requires { (0 < place.old.parts) × (0 < seat.old.parts) }
-        ensures place { (place.new.amount ≡ place.old.amount + 1)
-            × (place.new.parts ≡ place.old.parts) }
-        ensures seat { (seat.new.amount ≡ seat.old.amount + 1)
-            × (seat.new.parts ≡ seat.old.parts) }
+    /// Raises both books by what a reserve gets anew. Within that of 2^64 calls, more than any world
+    /// can record, it does not return.
+    pub fn raise<R: Wait>(&mut self, rt: &R, reserve: &mut Reserve<A, B>)
+        requires part { 0 < reserve.old.places.parts }
+        requires spent { reserve.old.left ≡ 0 }
+        ensures part { reserve.new.places.parts ≡ reserve.old.places.parts }
+        ensures more { 0 < reserve.new.left }
     {
         let Books {
             count,
@@ -56,13 +59,48 @@ impl<A: Ledger, B: Ledger> Books<A, B> {
             on_lists,
             ..
         } = self;
-        let Some(next) = count.checked_add(1) else {
+        let Some(next) = count.checked_add(AT_ONCE) else {
             for _ in rt.forever() {}
             unreachable!()
         };
-        in_sectors.add(place, 1);
-        on_lists.add(seat, 1);
+        let Reserve {
+            places,
+            seats,
+            left,
+        } = reserve;
+        in_sectors.add(places, AT_ONCE);
+        on_lists.add(seats, AT_ONCE);
+        *left = AT_ONCE;
         *count = next;
+    }
+
+    /// Takes back what a reserve has left: the books count so many calls less. What it stood on is
+    /// joined to these shares.
+    pub fn take_back(&mut self, reserve: Reserve<A, B>, places: &mut Share<A>, seats: &mut Share<B>)
+        ensures places { (places.new.parts ≡ places.old.parts + reserve.places.parts)
+            × (places.new.amount ≡ places.old.amount) }
+        ensures seats { (seats.new.parts ≡ seats.old.parts + reserve.places.parts)
+            × (seats.new.amount ≡ seats.old.amount) }
+    {
+        let Books {
+            count,
+            in_sectors,
+            on_lists,
+            ..
+        } = self;
+        let Reserve {
+            places: place,
+            seats: seat,
+            left,
+        } = reserve;
+        let mut place = place;
+        let mut seat = seat;
+        in_sectors.audit(&mut place);
+        in_sectors.sub(&mut place, left);
+        on_lists.sub(&mut seat, left);
+        *count -= left;
+        places.merge(place);
+        seats.merge(seat);
     }
 
     /// A share of the sectors' ledger with no part of it.
@@ -79,7 +117,7 @@ impl<A: Ledger, B: Ledger> Books<A, B> {
         self.seat_rest.empty()
     }
 
-    /// How many calls were recorded: as many as all shares of each ledger say.
+    /// How many calls the books count: as many as all shares of each ledger say.
     pub fn calls(&mut self, places: &mut Share<A>, seats: &mut Share<B>) -> u64
         requires { (places.old.parts ≡ A.parts) × (seats.old.parts ≡ B.parts) }
         ensures places { result ≡ places.old.amount }

@@ -7,7 +7,6 @@ ghost use Rattle.vx_record.specs.Calls.{lists_after};
 
 use crate::books::Books;
 use crate::pass::Pass;
-use crate::patience::patiently;
 use crate::seats::Seats;
 use std::sync::ledger::Share;
 use std::sync::{Mutex, Wait};
@@ -55,7 +54,7 @@ impl<A: Places> Home<A> {
     }
 
     /// Carries out a command from the pass's seat, and puts it with its answer on the pass's list of
-    /// that number, where the sector records it. Then both books are raised, with both shares.
+    /// that number, where the sector records it. Then it counts in both shares.
     pub fn act<B: Seats, R: Wait>(
         &mut self,
         rt: &R,
@@ -80,7 +79,8 @@ impl<A: Places> Home<A> {
         if !is_recorded(&answer) {
             return answer;
         }
-        patiently(rt, books).raise(rt, &mut self.share, &mut pass.share);
+        pass.reserve
+            .spend(rt, books, &mut self.share, &mut pass.share);
         answer
     }
 

@@ -10,6 +10,7 @@ mod opening;
 mod pass;
 mod patience;
 mod report;
+mod reserve;
 mod room;
 mod seats;
 mod settle_error;

@@ -1,6 +1,6 @@
 //! How a world opens.
 ghost use Rattle.std.specs.List.{All};
-ghost use Rattle.std.specs.Prelude.{◌≡◌, ◌≤◌, ◌+◌, length, vec_len, map, replicate, [], IfOk, OnOk};
+ghost use Rattle.std.specs.Prelude.{◌≡◌, ◌≤◌, ◌+◌, ◌*◌, length, vec_len, map, replicate, [], IfOk, OnOk};
 ghost use Rattle.vx_region.specs.Texts.{texts};
 ghost use Rattle.vx_sector.specs.SectorData.{seat_of};
 ghost use Rattle.vx_sector.specs.Windows.{count_of};
@@ -9,8 +9,10 @@ ghost use Rattle.vx_world.specs.Openings.{seats_from};
 
 use crate::home::Home;
 use crate::pass::Pass;
+use crate::reserve::Reserve;
 use crate::seats::Seats;
 use crate::slot::Slot;
+use crossbeam_utils::CachePadded;
 use std::alloc::{AllocError, Global};
 use std::sync::Mutex;
 use std::sync::ledger::Share;
@@ -19,13 +21,14 @@ use vx_record::Lists;
 use vx_region::Name;
 use vx_sector::{Seat, Sector};
 
-/// The sectors under their locks, each with a part of the share.
+/// The sectors under their locks, each with a part of the share. What threads write in one sector
+/// stands apart from what others read of the next.
 pub fn locked<A: Places>(
     alloc: Global,
     keeper: &Keeper<A>,
     sectors: Vec<Sector>,
     rest: &mut Share<A>,
-) -> Result<Vec<Mutex<Slot<A>>>, AllocError>
+) -> Result<Vec<CachePadded<Mutex<Slot<A>>>>, AllocError>
     requires none { All (λ s. count_of s ≡ 0) sectors.items }
     requires parts { All (IsPartOf keeper.now.world) sectors.items }
     requires each { rest.old.parts ≡ vec_len sectors }
@@ -41,7 +44,11 @@ pub fn locked<A: Places>(
 }
 
 // A sector under its lock, with a part of the share.
-fn locked_slot<A: Places>(keeper: &Keeper<A>, sector: Sector, rest: &mut Share<A>) -> Mutex<Slot<A>>
+fn locked_slot<A: Places>(
+    keeper: &Keeper<A>,
+    sector: Sector,
+    rest: &mut Share<A>,
+) -> CachePadded<Mutex<Slot<A>>>
     requires none { count_of sector ≡ 0 }
     requires part { IsPartOf keeper.now.world sector }
     requires amount { rest.old.amount ≡ 0 }
@@ -51,25 +58,29 @@ fn locked_slot<A: Places>(keeper: &Keeper<A>, sector: Sector, rest: &mut Share<A
 {
     let share = rest.split_off(1, 0);
     let marked = Marked::new(sector, keeper.mark());
-    Mutex::new(Slot {
+    CachePadded::new(Mutex::new(Slot {
         home: Some(Home::new(marked, share)),
-    })
+    }))
 }
 
-/// A pass for each seat, in order.
+/// A pass for each seat, in order: each with two parts of the passes' share, and one of the sectors'.
 pub fn passes<A: Places, B: Seats>(
     alloc: Global,
     names: &[Name],
     sectors: usize,
-    rest: &mut Share<B>,
+    places: &mut Share<A>,
+    seats: &mut Share<B>,
 ) -> Result<Vec<Pass<A, B>>, AllocError>
     requires few { length names.now ≤ 16 }
     requires sectors { sectors ≡ A.all }
-    requires each { rest.old.parts ≡ length names.now }
-    requires amount { rest.old.amount ≡ 0 }
-    ensures seats { IfOk result (λ passes.
+    requires places { length names.now ≤ places.old.parts }
+    requires seats { seats.old.parts ≡ 2 * length names.now }
+    requires none { (places.old.amount ≡ 0) × (seats.old.amount ≡ 0) }
+    ensures seated { IfOk result (λ passes.
         map (λ pass. seat_of pass.seat) passes.items ≡ seats_from 0 (texts names.now)) }
-    ensures rest { OnOk result ((rest.new.parts ≡ 0) × (rest.new.amount ≡ 0)) }
+    ensures places { OnOk result ((places.new.parts + length names.now ≡ places.old.parts)
+        × (places.new.amount ≡ 0)) }
+    ensures seats { OnOk result ((seats.new.parts ≡ 0) × (seats.new.amount ≡ 0)) }
 {
     let mut passes = Vec::with_capacity(alloc, names.len())?;
     for (number, name) in names.iter().enumerate() {
@@ -77,19 +88,26 @@ pub fn passes<A: Places, B: Seats>(
             number: number as u8,
             name: *name,
         };
-        passes.push_reserved(pass(seat, Lists::new(alloc, sectors)?, rest));
+        passes.push_reserved(pass(seat, Lists::new(alloc, sectors)?, places, seats));
     }
     Ok(passes)
 }
 
-// The pass of a seat, with a part of the share.
-fn pass<A: Places, B: Seats>(seat: Seat, lists: Lists, rest: &mut Share<B>) -> Pass<A, B>
+// The pass of a seat, with its parts of the shares.
+fn pass<A: Places, B: Seats>(
+    seat: Seat,
+    lists: Lists,
+    places: &mut Share<A>,
+    seats: &mut Share<B>,
+) -> Pass<A, B>
     requires none { lists ≡ replicate A.all [] }
-    requires amount { rest.old.amount ≡ 0 }
-    requires more { 1 ≤ rest.old.parts }
+    requires amounts { (places.old.amount ≡ 0) × (seats.old.amount ≡ 0) }
+    requires more { (1 ≤ places.old.parts) × (2 ≤ seats.old.parts) }
     ensures seat { result.seat ≡ seat }
-    ensures parts { rest.new.parts + 1 ≡ rest.old.parts }
-    ensures amount { rest.new.amount ≡ 0 }
+    ensures places { (places.new.parts + 1 ≡ places.old.parts) × (places.new.amount ≡ 0) }
+    ensures seats { (seats.new.parts + 2 ≡ seats.old.parts) × (seats.new.amount ≡ 0) }
 {
-    Pass::new(seat, lists, rest.split_off(1, 0))
+    let share = seats.split_off(1, 0);
+    let reserve = Reserve::new(places.split_off(1, 0), seats.split_off(1, 0));
+    Pass::new(seat, lists, share, reserve)
 }

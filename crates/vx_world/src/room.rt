@@ -1,6 +1,7 @@
 ghost use Rattle.std.specs.Prelude.{◌≡◌, ◌≤◌, [], vec_len, vec_capacity};
 
 use crate::slot::Slot;
+use crossbeam_utils::CachePadded;
 use std::alloc::{AllocError, Global};
 use std::sync::Mutex;
 use vx_keeper::Places;
@@ -24,13 +25,13 @@ impl<A: Places> Room<A> {
     }
 
     /// What stands under these locks, in that order. It takes no memory.
-    pub fn filled(self, locks: Vec<Mutex<Slot<A>>>) -> Vec<Slot<A>>
+    pub fn filled(self, locks: Vec<CachePadded<Mutex<Slot<A>>>>) -> Vec<Slot<A>>
         requires { vec_len locks ≡ A.all }
         ensures { vec_len result ≡ A.all }
     {
         let mut slots = self.slots;
         for lock in locks {
-            slots.push_reserved(lock.into_inner());
+            slots.push_reserved(lock.into_inner().into_inner());
         }
         slots
     }

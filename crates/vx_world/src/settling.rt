@@ -1,6 +1,6 @@
 //! The settlement of a world that has ended.
 ghost use Rattle.std.specs.List.{All, sum_by};
-ghost use Rattle.std.specs.Prelude.{◌≡◌, ◌≤◌, [], true, None, map, vec_len, vec_capacity, IfOk, IfErr, OnOk};
+ghost use Rattle.std.specs.Prelude.{◌≡◌, ◌+◌, ◌*◌, ◌≤◌, [], true, None, map, vec_len, vec_capacity, IfOk, IfErr, OnOk};
 ghost use Rattle.vx_core.specs.Records.{chronicle_in};
 ghost use Rattle.vx_play.specs.Plays.{entries_in};
 ghost use Rattle.vx_record.specs.Calls.{calls_in};
@@ -8,6 +8,7 @@ ghost use Rattle.vx_record.specs.Settling.{IsFound, open_entries};
 ghost use Rattle.vx_keeper.specs.Keepers.{known};
 ghost use Rattle.vx_world.specs.Settlements.{found_by, sector_here, caller_of, count_here, is_home};
 
+use crate::books::Books;
 use crate::home::Home;
 use crate::lifted::Lifted;
 use crate::pass::Pass;
@@ -33,7 +34,7 @@ impl<A: Places, B: Seats> Lifted<A, B> {
         keeper: Keeper<A>,
         passes: Vec<Pass<A, B>>,
     ) -> Result<Report, Unsettled<A, B>>
-        requires ledgers { (A.all ≡ A.parts) × (B.all ≡ B.parts) }
+        requires ledgers { (A.parts ≡ A.all + B.all) × (B.parts ≡ 2 * B.all) }
         ensures settled { OnOk result (IsFound B.all (map caller_of passes.items)
             (map sector_here self.slots.items) (known keeper) keeper.chronicle.ticks None) }
         ensures unsettled { IfErr result (λ u. IsFound B.all (map caller_of passes.items)
@@ -81,7 +82,7 @@ impl<A: Places, B: Seats> Lifted<A, B> {
 
     // The record of a world in which all agree. There is room for its windows.
     fn report(self, keeper: Keeper<A>, passes: Vec<Pass<A, B>>, windows: Vec<Vec<Entry>>) -> Report
-        requires ledgers { (A.all ≡ A.parts) × (B.all ≡ B.parts) }
+        requires ledgers { (A.parts ≡ A.all + B.all) × (B.parts ≡ 2 * B.all) }
         requires home { All (λ slot. is_home slot ≡ true) self.slots.items }
         requires passes { vec_len passes ≡ B.all }
         requires none { windows.items ≡ [] }
@@ -92,10 +93,14 @@ impl<A: Places, B: Seats> Lifted<A, B> {
         ensures calls { result.calls ≡ sum_by (λ pass. calls_in pass.lists) passes.items }
         ensures entries { result.calls ≡ sum_by count_here self.slots.items }
     {
-        let Lifted { slots, books, .. } = self;
+        let Lifted {
+            slots,
+            books,
+            seats: _,
+        } = self;
         let mut books = books;
-        let mut seats = seat_shares(passes, books.no_seat());
-        let (mut places, windows) = place_shares(slots, books.no_place(), windows);
+        let (places, mut seats) = pass_shares(&mut books, passes);
+        let (mut places, windows) = place_shares(slots, places, windows);
         let calls = books.calls(&mut places, &mut seats);
         Report {
             chronicle: keeper.into_chronicle(),
@@ -105,36 +110,41 @@ impl<A: Places, B: Seats> Lifted<A, B> {
     }
 }
 
-// The shares of these passes, joined to one with no part.
-fn seat_shares<A: Places, B: Seats>(passes: Vec<Pass<A, B>>, rest: Share<B>) -> Share<B>
-    requires rest { (rest.parts ≡ 0) × (rest.amount ≡ 0) }
-    ensures parts { result.parts ≡ vec_len passes }
-    ensures amount { result.amount ≡ sum_by (λ pass. calls_in pass.lists) passes.items }
+// What these passes have of the ledgers, joined, once the books have back what is left of their
+// reserves.
+fn pass_shares<A: Places, B: Seats>(
+    books: &mut Books<A, B>,
+    passes: Vec<Pass<A, B>>,
+) -> (Share<A>, Share<B>)
+    ensures places { (result.0.parts ≡ vec_len passes) × (result.0.amount ≡ 0) }
+    ensures parts { result.1.parts ≡ 2 * vec_len passes }
+    ensures amount { result.1.amount ≡ sum_by (λ pass. calls_in pass.lists) passes.items }
 {
-    let mut all = rest;
+    let mut places = books.no_place();
+    let mut seats = books.no_seat();
     for pass in passes {
-        all.merge(pass.share);
+        pass.give_up(books, &mut places, &mut seats);
     }
-    all
+    (places, seats)
 }
 
-// The shares of these sectors, joined to one with no part, and their windows, for which there is
+// The shares of these sectors, joined to that of the passes, and their windows, for which there is
 // room.
 fn place_shares<A: Places>(
     slots: Vec<Slot<A>>,
-    rest: Share<A>,
+    of_passes: Share<A>,
     windows: Vec<Vec<Entry>>,
 ) -> (Share<A>, Vec<Vec<Entry>>)
-    requires rest { (rest.parts ≡ 0) × (rest.amount ≡ 0) }
+    requires amount { of_passes.amount ≡ 0 }
     requires home { All (λ slot. is_home slot ≡ true) slots.items }
     requires none { windows.items ≡ [] }
     requires room { vec_len slots ≤ vec_capacity windows }
-    ensures parts { result.0.parts ≡ vec_len slots }
+    ensures parts { result.0.parts ≡ of_passes.parts + vec_len slots }
     ensures amount { result.0.amount ≡ sum_by count_here slots.items }
     ensures windows { map entries_in result.1.items
         ≡ map (λ slot. open_entries (sector_here slot)) slots.items }
 {
-    let mut all = rest;
+    let mut all = of_passes;
     let mut windows = windows;
     for slot in slots {
         let (share, window) = closed(slot);

@@ -1,4 +1,4 @@
-ghost use Rattle.std.specs.Prelude.{◌≡◌, ℕ, ◌↔◌, ◌+◌, ◌<◌, ◌≤◌, true, false, None, Some, Err, map, length, vec_len, IfOk, IfSome, ◌^◌, []};
+ghost use Rattle.std.specs.Prelude.{◌≡◌, ℕ, ◌↔◌, ◌+◌, ◌*◌, ◌<◌, ◌≤◌, true, false, None, Some, Err, map, length, vec_len, IfOk, IfSome, ◌^◌, []};
 ghost use Rattle.vx_geom.specs.Sizes.{sector_count, sector_of};
 ghost use Rattle.vx_sector.specs.Commands.{place_of};
 ghost use Rattle.vx_sector.specs.SectorData.{seat_of};
@@ -15,6 +15,7 @@ use crate::patience::patiently;
 use crate::room::Room;
 use crate::seats::Seats;
 use crate::slot::Slot;
+use crossbeam_utils::CachePadded;
 use std::alloc::{AllocError, Global};
 use std::sync::{Condvar, Mutex, Wait};
 use vx_block::Part;
@@ -28,10 +29,9 @@ use vx_step::{Gate, Point};
 /// A world that threads share. Each of its sectors stands under a lock of its own; commands are
 /// carried out under that of one sector, and ticks take the sectors out and put them back.
 // Whatever has a share of a ledger stands under a lock, also the room for the end of the world.
-#[derive(Drop)]
 pub struct World<A: Places, B: Seats> {
     pub(crate) bounds: Bounds,
-    pub(crate) slots: Vec<Mutex<Slot<A>>>,
+    pub(crate) slots: Vec<CachePadded<Mutex<Slot<A>>>>,
     pub(crate) came: Condvar,
     seats: u8,
     pub(crate) room: Mutex<Room<A>>,
@@ -42,6 +42,21 @@ pub struct World<A: Places, B: Seats> {
     ghost divided: { sector_count bounds ≡ A.all },
     ghost few: { A.all < 2 ^ 32 },
     ghost seated: { seats ≡ B.all },
+}
+
+// Written out, so that what is above this crate need not prove how its parts are let go.
+impl<A: Places, B: Seats> Drop for World<A, B> {
+    fn drop(self) {
+        let World {
+            bounds: _,
+            slots: _slots,
+            came: _came,
+            seats: _,
+            room: _room,
+            desk: _desk,
+            books: _books,
+        } = self;
+    }
 }
 
 impl<A: Places, B: Seats> World<A, B> {
@@ -56,8 +71,8 @@ impl<A: Places, B: Seats> World<A, B> {
         requires places { (blanks.places.name ≡ A.name) × (blanks.places.parts ≡ A.parts) }
         requires seats { (blanks.seats.name ≡ B.name) × (blanks.seats.parts ≡ B.parts) }
         requires marks { blanks.marks ≡ A.book }
-        requires sectors { (length opening.terrain.sectors ≡ A.all) × (A.all ≡ A.parts) }
-        requires names { (length opening.names ≡ B.all) × (B.all ≡ B.parts) }
+        requires sectors { (length opening.terrain.sectors ≡ A.all) × (A.parts ≡ A.all + B.all) }
+        requires names { (length opening.names ≡ B.all) × (B.parts ≡ 2 * B.all) }
         requires first { opening.policy ≡ A.first }
         ensures bounds { IfOk result (λ opened.
             opened.0.bounds ≡ opening.terrain.sizes) }
@@ -77,7 +92,13 @@ impl<A: Places, B: Seats> World<A, B> {
         let (on_lists, mut seat_rest) = seats.open::<B>();
         let count = bounds.sectors() as usize;
         let number = opening.names().len() as u8;
-        let passes = passes(alloc, opening.names(), count, &mut seat_rest)?;
+        let passes = passes(
+            alloc,
+            opening.names(),
+            count,
+            &mut place_rest,
+            &mut seat_rest,
+        )?;
         let room = Room::new(alloc, count)?;
         let (keeper, sectors) = Keeper::new(alloc, opening, marks.named())?;
         let slots = locked(alloc, &keeper, sectors, &mut place_rest)?;
@@ -92,7 +113,7 @@ impl<A: Places, B: Seats> World<A, B> {
     // A world with these parts.
     fn of(
         bounds: Bounds,
-        slots: Vec<Mutex<Slot<A>>>,
+        slots: Vec<CachePadded<Mutex<Slot<A>>>>,
         books: Books<A, B>,
         desk: Desk<A>,
         room: Room<A>,
@@ -123,7 +144,8 @@ impl<A: Places, B: Seats> World<A, B> {
     /// Carries out a command from the seat of a pass under the lock of its sector, by the rules of
     /// docs/RULES.md, and waits while the sector is away. The gate is called under the lock. Where
     /// the answer is recorded, the command stands with it in the sector's record and on the pass's
-    /// list of that sector. At 2^64 - 1 recorded calls it does not return.
+    /// list of that sector. It does not return where there would be 2^64 recorded calls, and those
+    /// that passes have in reserve, at most 64 each, count among them.
     pub fn submit<R: Wait, G: Gate>(
         &self,
         rt: &R,
@@ -186,11 +208,13 @@ impl<A: Places, B: Seats> World<A, B> {
     /// Ends the world and takes its sectors out of their locks. It takes no memory.
     pub fn lift(self) -> Lifted<A, B> {
         let World {
+            bounds: _,
             slots,
-            books,
-            room,
+            came: _came,
             seats,
-            ..
+            room,
+            desk: _desk,
+            books,
         } = self;
         Lifted::new(room.into_inner().filled(slots), books.into_inner(), seats)
     }

@@ -1,5 +1,5 @@
 //! Worlds that are opened for a test, each in a function that is generic in their ledgers.
-ghost use Rattle.std.specs.Prelude.{◌≡◌, length};
+ghost use Rattle.std.specs.Prelude.{◌≡◌, ◌+◌, ◌*◌, length};
 
 use crate::{gates, passes, refused, ticks, torn};
 use std::alloc::Global;
@@ -66,8 +66,8 @@ fn spend_in<A: Places + Send + Sync, B: Seats + Send + Sync, R: Threads + Wait +
     requires places { (blanks.places.name ≡ A.name) × (blanks.places.parts ≡ A.parts) }
     requires seats { (blanks.seats.name ≡ B.name) × (blanks.seats.parts ≡ B.parts) }
     requires marks { blanks.marks ≡ A.book }
-    requires sectors { (length opening.terrain.sectors ≡ A.all) × (A.all ≡ A.parts) }
-    requires names { (length opening.names ≡ B.all) × (B.all ≡ B.parts) }
+    requires sectors { (length opening.terrain.sectors ≡ A.all) × (A.parts ≡ A.all + B.all) }
+    requires names { (length opening.names ≡ B.all) × (B.parts ≡ 2 * B.all) }
     requires first { opening.policy ≡ A.first }
 {
     let desk = Desk::new(alloc, opening.policy().try_clone()?);

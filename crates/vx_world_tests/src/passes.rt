@@ -1,5 +1,5 @@
 //! Players on threads of their own, and the settlement of what they did.
-ghost use Rattle.std.specs.Prelude.{◌≡◌};
+ghost use Rattle.std.specs.Prelude.{◌≡◌, ◌+◌, ◌*◌};
 
 use std::alloc::Global;
 use std::process::Abort;
@@ -32,7 +32,7 @@ pub fn three_players<
     keeper: Keeper<A>,
     passes: Vec<Pass<A, B>>,
 ) -> Result<(), Fail>
-    requires ledgers { (A.all ≡ A.parts) × (B.all ≡ B.parts) }
+    requires ledgers { (A.parts ≡ A.all + B.all) × (B.parts ≡ 2 * B.all) }
 {
     let mut keeper = keeper;
     let mut passes = passes;
@@ -108,7 +108,7 @@ fn settle<A: Places, B: Seats>(
     passes: Vec<Pass<A, B>>,
     third: Pass<A, B>,
 ) -> Result<(), Fail>
-    requires ledgers { (A.all ≡ A.parts) × (B.all ≡ B.parts) }
+    requires ledgers { (A.parts ≡ A.all + B.all) × (B.parts ≡ 2 * B.all) }
 {
     let Err(unsettled) = lifted.finish(alloc, keeper, passes) else {
         return Err("settled without a pass".into());
@@ -126,7 +126,7 @@ fn settle_with<A: Places, B: Seats>(
     unsettled: Unsettled<A, B>,
     pass: Pass<A, B>,
 ) -> Result<(), Fail>
-    requires ledgers { (A.all ≡ A.parts) × (B.all ≡ B.parts) }
+    requires ledgers { (A.parts ≡ A.all + B.all) × (B.parts ≡ 2 * B.all) }
 {
     let Unsettled {
         lifted,
@@ -147,7 +147,7 @@ pub fn settles<A: Places, B: Seats>(
     passes: Vec<Pass<A, B>>,
     counts: (u64, u64),
 ) -> Result<(), Fail>
-    requires ledgers { (A.all ≡ A.parts) × (B.all ≡ B.parts) }
+    requires ledgers { (A.parts ≡ A.all + B.all) × (B.parts ≡ 2 * B.all) }
 {
     let Ok(report) = lifted.finish(alloc, keeper, passes) else {
         return Err("not settled".into());

@@ -1,5 +1,5 @@
 //! Calls that are refused for want of memory, and made again.
-ghost use Rattle.std.specs.Prelude.{◌≡◌};
+ghost use Rattle.std.specs.Prelude.{◌≡◌, ◌+◌, ◌*◌};
 
 use crate::passes::settles;
 use std::alloc::Global;
@@ -27,7 +27,7 @@ pub fn made_again<
     keeper: Keeper<A>,
     passes: Vec<Pass<A, B>>,
 ) -> Result<(), Fail>
-    requires ledgers { (A.all ≡ A.parts) × (B.all ≡ B.parts) }
+    requires ledgers { (A.parts ≡ A.all + B.all) × (B.parts ≡ 2 * B.all) }
 {
     let mut keeper = keeper;
     let mut passes = passes;
@@ -78,7 +78,7 @@ fn finish_again<A: Places, B: Seats>(
     keeper: Keeper<A>,
     passes: Vec<Pass<A, B>>,
 ) -> Result<(), Fail>
-    requires ledgers { (A.all ≡ A.parts) × (B.all ≡ B.parts) }
+    requires ledgers { (A.parts ≡ A.all + B.all) × (B.parts ≡ 2 * B.all) }
 {
     let counts = (1, 1);
     match lifted.finish(alloc, keeper, passes) {

@@ -1,5 +1,5 @@
 //! A sector that was changed past the rules.
-ghost use Rattle.std.specs.Prelude.{◌≡◌};
+ghost use Rattle.std.specs.Prelude.{◌≡◌, ◌+◌, ◌*◌};
 
 use std::alloc::Global;
 use std::process::Abort;
@@ -21,7 +21,7 @@ pub fn tampered<A: Places + Send + Sync, B: Seats + Send + Sync, R: Threads + Wa
     keeper: Keeper<A>,
     passes: Vec<Pass<A, B>>,
 ) -> Result<(), Fail>
-    requires ledgers { (A.all ≡ A.parts) × (B.all ≡ B.parts) }
+    requires ledgers { (A.parts ≡ A.all + B.all) × (B.parts ≡ 2 * B.all) }
 {
     let mut keeper = keeper;
     is_tampered(rt, alloc, &world, &mut keeper);

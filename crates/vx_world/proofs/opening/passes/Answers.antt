@@ -15,6 +15,8 @@ loop-number-preserved g c =
           ∙ sym (seats_more 0 k k names c.index-names-number.result (omega arith) c.loop-number-test.true)),
       omega (arith, c.push_reserved.ensures.len, before.1),
       c.push_reserved.ensures.capacity ∙ before.2,
-      omega (arith, c.pass.ensures.parts, before.3),
-      c.pass.ensures.amount,
+      omega (arith, c.pass.ensures.places.0, before.3),
+      c.pass.ensures.places.1,
+      omega (arith, c.pass.ensures.seats.0, before.5),
+      c.pass.ensures.seats.1,
     )

@@ -1,4 +1,4 @@
-use Rattle.std.proofs.Common.{◌≡◌, ◌+◌, length, map, take}
+use Rattle.std.proofs.Common.{◌≡◌, ◌+◌, ◌*◌, length, map, take}
 use Rattle.std.specs.Vec.{vec_len, vec_capacity}
 use Rattle.vx_region.specs.Texts.{texts}
 use Rattle.vx_sector.specs.SectorData.{seat_of}
@@ -11,5 +11,7 @@ invariant-loop-number g l =
     (map (λ pass. seat_of pass.seat) l.passes.items ≡ seats_from 0 (texts (take l.number l.names)))
     × (vec_len l.passes ≡ l.number)
     × (vec_capacity l.passes ≡ length l.names)
-    × (l.rest.parts + l.number ≡ length l.names)
-    × (l.rest.amount ≡ 0)
+    × (l.places.parts + l.number ≡ l.fn.places.parts)
+    × (l.places.amount ≡ 0)
+    × (l.seats.parts + 2 * l.number ≡ 2 * length l.names)
+    × (l.seats.amount ≡ 0)

@@ -9,7 +9,7 @@ use Rattle.vx_world.proofs.settling.place_shares.Given as goal
 -- the shares so far are joined, the windows handed out, and the other sectors at home
 abbrev pub invariant-loop-slot : goal.invariant-loop-slot
 invariant-loop-slot g l =
-    (l.all.parts ≡ length l.yielded) × (l.all.amount ≡ sum_by count_here l.yielded)
+    (l.all.parts ≡ l.fn.of_passes.parts + length l.yielded) × (l.all.amount ≡ sum_by count_here l.yielded)
     × (map entries_in l.windows.items ≡ map (λ slot. open_entries (sector_here slot)) l.yielded)
     × (vec_len l.windows + length l.slot-iterator.rest.items ≡ vec_len l.fn.slots)
     × (vec_len l.fn.slots ≤ vec_capacity l.windows)

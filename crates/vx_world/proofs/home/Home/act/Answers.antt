@@ -14,6 +14,6 @@ invariant_of-self-2 g c =
     let traced : is_recorded c.act-answer.result ≡ true = search rules in
     let more = ap count_of c.act-answer.ensures.sector ∙ count_more _ _ _ _ traced in
     record {
-      one_part = c.raise.ensures.place.1 ∙ c.args.self.now.one_part;
-      counted = omega (arith, c.raise.ensures.place.0, c.args.self.now.counted, more);
+      one_part = c.spend.ensures.place.1 ∙ c.args.self.now.one_part;
+      counted = omega (arith, c.spend.ensures.place.0, c.args.self.now.counted, more);
     }

@@ -1,0 +1,78 @@
+ghost use Rattle.std.specs.Prelude.{◌≡◌, ◌+◌, ◌<◌};
+
+use crate::books::Books;
+use crate::patience::patiently;
+use std::sync::ledger::{Ledger, Share};
+use std::sync::{Mutex, Wait};
+
+/// Calls that both books count already and that were not made yet. Each pass has such a reserve, so
+/// that it takes the lock of the books once for many calls.
+#[derive(Drop)]
+pub struct Reserve<A: Ledger, B: Ledger> {
+    pub(crate) places: Share<A>,
+    pub(crate) seats: Share<B>,
+    pub(crate) left: u64,
+    ghost parts: { seats.parts ≡ places.parts },
+    ghost in_sectors: { places.amount ≡ left },
+    ghost on_lists: { seats.amount ≡ left },
+}
+
+impl<A: Ledger, B: Ledger> Reserve<A, B> {
+    /// A reserve of no call, which stands on these parts of the two ledgers.
+    pub fn new(places: Share<A>, seats: Share<B>) -> Reserve<A, B>
+        requires parts { seats.parts ≡ places.parts }
+        requires none { (places.amount ≡ 0) × (seats.amount ≡ 0) }
+        ensures parts { result.places.parts ≡ places.parts }
+        ensures none { result.left ≡ 0 }
+    {
+        Reserve {
+            places,
+            seats,
+            left: 0,
+        }
+    }
+
+    /// Takes a call out of the reserve: one more in the share of the sector that recorded it, and in
+    /// that of the pass that made it. Where none is left, the books are raised first.
+    pub fn spend<R: Wait>(
+        &mut self,
+        rt: &R,
+        books: &Mutex<Books<A, B>>,
+        place: &mut Share<A>,
+        seat: &mut Share<B>,
+    )
+        requires reserve { 0 < self.old.places.parts }
+        requires shares { (0 < place.old.parts) × (0 < seat.old.parts) }
+        ensures reserve { self.new.places.parts ≡ self.old.places.parts }
+        ensures place { (place.new.amount ≡ place.old.amount + 1)
+            × (place.new.parts ≡ place.old.parts) }
+        ensures seat { (seat.new.amount ≡ seat.old.amount + 1)
+            × (seat.new.parts ≡ seat.old.parts) }
+    {
+        if self.left == 0 {
+            patiently(rt, books).raise(rt, self);
+        }
+        self.give(place, seat);
+    }
+
+    // One of the calls that are left.
+    fn give(&mut self, place: &mut Share<A>, seat: &mut Share<B>)
+        requires left { 0 < self.old.left }
+        requires reserve { 0 < self.old.places.parts }
+        requires shares { (0 < place.old.parts) × (0 < seat.old.parts) }
+        ensures reserve { self.new.places.parts ≡ self.old.places.parts }
+        ensures place { (place.new.amount ≡ place.old.amount + 1)
+            × (place.new.parts ≡ place.old.parts) }
+        ensures seat { (seat.new.amount ≡ seat.old.amount + 1)
+            × (seat.new.parts ≡ seat.old.parts) }
+    {
+        let Reserve {
+            places,
+            seats,
+            left,
+        } = self;
+        places.transfer(place, 1);
+        seats.transfer(seat, 1);
+        *left -= 1;
+    }
+}

@@ -43,9 +43,18 @@ fn sees_both<A: Places, B: Seats, R: Threads + Wait + Abort + Sync>(
     let (west, east) = (Pos::new(5, 1, 5), Pos::new(20, 1, 5));
     is_done(rt, world, pass, Cmd::Place(west, Part::Stone));
     is_done(rt, world, pass, Cmd::Place(east, Part::Dirt));
-    assert!(rt; world.tick(rt, alloc, keeper, 1, &NoGate).is_ok());
+    makes_a_tick(rt, alloc, world, keeper);
     is_seen(rt, world, pass, west, Cell::Stone);
     is_seen(rt, world, pass, east, Cell::Dirt);
+}
+
+fn makes_a_tick<A: Places, B: Seats, R: Threads + Wait + Abort + Sync>(
+    rt: &R,
+    alloc: Global,
+    world: &World<A, B>,
+    keeper: &mut Keeper<A>,
+) {
+    assert!(rt; world.tick(rt, alloc, keeper, 1, &NoGate).is_ok());
 }
 
 fn is_done<A: Places, B: Seats, R: Wait + Abort>(
@@ -55,7 +64,7 @@ fn is_done<A: Places, B: Seats, R: Wait + Abort>(
     cmd: Cmd,
 ) {
     let answer = world.submit(rt, pass, cmd, &NoGate);
-    assert_eq!(rt; answer, Ok(Reply::Done(Rule::Default)));
+    assert!(rt; matches!(answer, Ok(Reply::Done(Rule::Default))));
 }
 
 fn is_seen<A: Places, B: Seats, R: Wait + Abort>(
@@ -109,8 +118,17 @@ fn is_denied_next<A: Places, B: Seats, R: Threads + Wait + Abort + Sync>(
     pass: &mut Pass<A, B>,
 ) {
     is_done(rt, world, pass, Cmd::Place(Pos::new(5, 1, 5), Part::Stone));
-    assert!(rt; world.tick(rt, alloc, keeper, 1, &NoGate).is_ok());
-    let cmd = Cmd::Place(Pos::new(5, 2, 5), Part::Stone);
+    makes_a_tick(rt, alloc, world, keeper);
+    is_denied(rt, world, pass, Cmd::Place(Pos::new(5, 2, 5), Part::Stone));
+}
+
+fn is_denied<A: Places, B: Seats, R: Wait + Abort>(
+    rt: &R,
+    world: &World<A, B>,
+    pass: &mut Pass<A, B>,
+    cmd: Cmd,
+) {
     let denied = Refusal::Denied(Rule::Member { at: RegionNo(1) });
-    assert_eq!(rt; world.submit(rt, pass, cmd, &NoGate), Err(denied));
+    let answer = world.submit(rt, pass, cmd, &NoGate);
+    assert!(rt; answer == Err(denied));
 }

@@ -49,23 +49,7 @@ impl<A: Ledger, B: Ledger> Reserve<A, B> {
         ensures seat { (seat.new.amount ≡ seat.old.amount + 1)
             × (seat.new.parts ≡ seat.old.parts) }
     {
-        if self.left == 0 {
-            patiently(rt, books).raise(rt, self);
-        }
-        self.give(place, seat);
-    }
-
-    // One of the calls that are left.
-    fn give(&mut self, place: &mut Share<A>, seat: &mut Share<B>)
-        requires left { 0 < self.old.left }
-        requires reserve { 0 < self.old.places.parts }
-        requires shares { (0 < place.old.parts) × (0 < seat.old.parts) }
-        ensures reserve { self.new.places.parts ≡ self.old.places.parts }
-        ensures place { (place.new.amount ≡ place.old.amount + 1)
-            × (place.new.parts ≡ place.old.parts) }
-        ensures seat { (seat.new.amount ≡ seat.old.amount + 1)
-            × (seat.new.parts ≡ seat.old.parts) }
-    {
+        self.fill(rt, books);
         let Reserve {
             places,
             seats,
@@ -74,5 +58,17 @@ impl<A: Ledger, B: Ledger> Reserve<A, B> {
         places.transfer(place, 1);
         seats.transfer(seat, 1);
         *left -= 1;
+    }
+
+    // Has the books raised where nothing is left.
+    fn fill<R: Wait>(&mut self, rt: &R, books: &Mutex<Books<A, B>>)
+        requires part { 0 < self.old.places.parts }
+        ensures part { self.new.places.parts ≡ self.old.places.parts }
+        ensures some { 0 < self.new.left }
+    {
+        if self.left > 0 {
+            return;
+        }
+        patiently(rt, books).raise(rt, self);
     }
 }

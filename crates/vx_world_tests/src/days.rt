@@ -71,14 +71,20 @@ fn spend_in<A: Places + Send + Sync, B: Seats + Send + Sync, R: Threads + Wait +
     requires first { opening.policy ≡ A.first }
 {
     let desk = Desk::new(alloc, opening.policy().try_clone()?);
-    let (world, keeper, passes) = World::<A, B>::new(alloc, opening, desk, blanks)?;
+    let (world, mut keeper, mut passes) = World::<A, B>::new(alloc, opening, desk, blanks)?;
     match day {
-        Day::TwoSectors => gates::two_sectors(rt, &world, passes),
-        Day::TwoWorkers => gates::two_workers(rt, alloc, &world, keeper, passes),
+        Day::TwoSectors => gates::two_sectors(rt, &world, &mut passes),
+        Day::TwoWorkers => gates::two_workers(rt, alloc, &world, &mut keeper, &mut passes),
         Day::ThreePlayers => passes::three_players(rt, alloc, world, keeper, passes),
         Day::Tampered => torn::tampered(rt, alloc, world, keeper, passes),
-        Day::SeenAfterATick => ticks::seen_after_a_tick(rt, alloc, &world, keeper, passes),
-        Day::EditsCountNext => ticks::edits_count_next(rt, alloc, &world, keeper, passes),
+        Day::SeenAfterATick => ticks::seen_after_a_tick(
+            rt,
+            alloc,
+            &world,
+            &mut keeper,
+            &mut passes,
+        ),
+        Day::EditsCountNext => ticks::edits_count_next(rt, alloc, &world, &mut keeper, &mut passes),
         Day::MadeAgain => refused::made_again(rt, alloc, world, keeper, passes),
     }
 }

@@ -1,5 +1,5 @@
 //! Commands and workers that are held at a gate until another has come.
-use std::alloc::{AllocError, Global};
+use std::alloc::Global;
 use std::process::Abort;
 use std::sync::Wait;
 use std::sync::atomic::{AtomicU64, Ordering};
@@ -8,7 +8,7 @@ use std::thread::{self, Threads};
 use vx_block::Part;
 use vx_geom::Pos;
 use vx_keeper::{Keeper, Places};
-use vx_sector::{Cmd, Refusal, Reply};
+use vx_sector::Cmd;
 use vx_step::{Gate, NoGate, Phase, Point};
 use vx_world::{Pass, Seats, World};
 
@@ -61,24 +61,42 @@ pub fn two_sectors<
     A: Places + Send + Sync,
     B: Seats + Send + Sync,
     R: Threads + Wait + Abort + Sync,
->(rt: &R, world: &World<A, B>, passes: Vec<Pass<A, B>>) -> Result<(), Fail> {
-    let mut passes = passes;
+>(rt: &R, world: &World<A, B>, passes: &mut [Pass<A, B>]) -> Result<(), Fail> {
     let (ann, others) = passes.split_first_mut().ok_or("no pass")?;
     let bob = others.first_mut().ok_or("no pass")?;
+    are_apart(rt, world, ann, bob);
+    Ok(())
+}
+
+fn are_apart<A: Places + Send + Sync, B: Seats + Send + Sync, R: Threads + Wait + Abort + Sync>(
+    rt: &R,
+    world: &World<A, B>,
+    ann: &mut Pass<A, B>,
+    bob: &mut Pass<A, B>,
+) {
     let gate = Holding::new();
     let (first, second) = thread::join(
         rt,
-        || world.submit(rt, ann, stone_at(5), &gate),
+        || is_placed(rt, world, ann, stone_at(5), &gate),
         || {
             gate.await_at(&gate.came);
-            let answer = world.submit(rt, bob, stone_at(20), &NoGate);
+            let placed = is_placed(rt, world, bob, stone_at(20), &NoGate);
             gate.opened.store(1, Ordering::SeqCst);
-            answer
+            placed
         },
     );
-    assert!(rt; first.is_ok() && second.is_ok());
-    assert_eq!(rt; gate.missed.load(Ordering::SeqCst), 0);
-    Ok(())
+    assert!(rt; first && second);
+    assert!(rt; gate.missed.load(Ordering::SeqCst) == 0);
+}
+
+fn is_placed<A: Places, B: Seats, R: Wait, G: Gate>(
+    rt: &R,
+    world: &World<A, B>,
+    pass: &mut Pass<A, B>,
+    cmd: Cmd,
+    gate: &G,
+) -> bool {
+    world.submit(rt, pass, cmd, gate).is_ok()
 }
 
 fn stone_at(x: i32) -> Cmd {
@@ -94,20 +112,25 @@ pub fn two_workers<
     rt: &R,
     alloc: Global,
     world: &World<A, B>,
-    keeper: Keeper<A>,
-    passes: Vec<Pass<A, B>>,
+    keeper: &mut Keeper<A>,
+    passes: &mut [Pass<A, B>],
 ) -> Result<(), Fail> {
-    let mut keeper = keeper;
-    let mut passes = passes;
     let ann = passes.first_mut().ok_or("no pass")?;
-    let placed = world.submit(rt, ann, dust_at(5), &NoGate);
-    assert!(rt; placed.is_ok());
-    let gate = Holding::new();
-    let made = world.tick(rt, alloc, &mut keeper, 2, &gate);
-    assert!(rt; made.is_ok());
-    assert_eq!(rt; gate.missed.load(Ordering::SeqCst), 0);
-    assert_eq!(rt; gate.opened.load(Ordering::SeqCst), 1);
+    assert!(rt; is_placed(rt, world, ann, dust_at(5), &NoGate));
+    meet(rt, alloc, world, keeper);
     Ok(())
+}
+
+fn meet<A: Places, B: Seats, R: Threads + Wait + Abort + Sync>(
+    rt: &R,
+    alloc: Global,
+    world: &World<A, B>,
+    keeper: &mut Keeper<A>,
+) {
+    let gate = Holding::new();
+    assert!(rt; world.tick(rt, alloc, keeper, 2, &gate).is_ok());
+    assert!(rt; gate.missed.load(Ordering::SeqCst) == 0);
+    assert!(rt; gate.opened.load(Ordering::SeqCst) == 1);
 }
 
 fn dust_at(x: i32) -> Cmd {

@@ -23,13 +23,11 @@ pub fn seen_after_a_tick<
     rt: &R,
     alloc: Global,
     world: &World<A, B>,
-    keeper: Keeper<A>,
-    passes: Vec<Pass<A, B>>,
+    keeper: &mut Keeper<A>,
+    passes: &mut [Pass<A, B>],
 ) -> Result<(), Fail> {
-    let mut keeper = keeper;
-    let mut passes = passes;
     let ann = passes.first_mut().ok_or("no pass")?;
-    sees_both(rt, alloc, world, &mut keeper, ann);
+    sees_both(rt, alloc, world, keeper, ann);
     Ok(())
 }
 
@@ -75,7 +73,7 @@ fn is_seen<A: Places, B: Seats, R: Wait + Abort>(
     cell: Cell,
 ) {
     let answer = world.submit(rt, pass, Cmd::Look(p), &NoGate);
-    assert_eq!(rt; answer, Ok(Reply::Seen(cell)));
+    assert!(rt; answer == Ok(Reply::Seen(cell)));
 }
 
 /// An edit denies nothing in the window in which it is accepted, and denies in the next.
@@ -87,14 +85,12 @@ pub fn edits_count_next<
     rt: &R,
     alloc: Global,
     world: &World<A, B>,
-    keeper: Keeper<A>,
-    passes: Vec<Pass<A, B>>,
+    keeper: &mut Keeper<A>,
+    passes: &mut [Pass<A, B>],
 ) -> Result<(), Fail> {
-    let mut keeper = keeper;
-    let mut passes = passes;
     let ann = passes.first_mut().ok_or("no pass")?;
     plotted(rt, alloc, world)?;
-    is_denied_next(rt, alloc, world, &mut keeper, ann);
+    is_denied_next(rt, alloc, world, keeper, ann);
     Ok(())
 }
 

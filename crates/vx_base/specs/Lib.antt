@@ -1,3 +1,4 @@
+pub mod Digits
 pub mod Ranges
 pub mod Then
 pub mod Unread

@@ -45,7 +45,7 @@ impl<J: Naming> Model for Machine<J> {
 impl<J: Naming> Machine<J> {
     ghost use Rattle.std.specs.Prelude.{◌<◌, true, length};
     ghost use Rattle.vx_core.specs.Events.{Acts, Edits, Takes, Works, Fixes, Puts, happening};
-    ghost use Rattle.vx_core.specs.Machines.{begun, after_event, fixed, is_at, is_home, is_unworked, have_reached, is_any_away};
+    ghost use Rattle.vx_core.specs.Machines.{begun, after_event, after_events, fixed, is_at, is_home, is_unworked, have_reached, is_any_away};
     ghost use Rattle.vx_core.specs.Records.{chronicle_in};
     ghost use Rattle.vx_play.specs.Plays.{most_ticks};
 
@@ -64,8 +64,18 @@ impl<J: Naming> Machine<J> {
         })
     }
 
-    /// Does what the event does where it may happen; else nothing.
-    pub fn take(&mut self, alloc: Global, event: &Event) -> Result<(), AllocError>
+    /// Takes these events, one after another.
+    pub fn take_all(&mut self, alloc: Global, events: &[Event]) -> Result<(), AllocError>
+        ensures { OnOk result (self.new ≡ after_events self.old (map happening events.now)) }
+    {
+        for event in events {
+            self.take(alloc, event)?;
+        }
+        Ok(())
+    }
+
+    // Does what the event does where it may happen; else nothing.
+    fn take(&mut self, alloc: Global, event: &Event) -> Result<(), AllocError>
         ensures { OnOk result (self.new ≡ after_event self.old (happening event.now)) }
     {
         match event {

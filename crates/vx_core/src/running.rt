@@ -47,8 +47,6 @@ fn run_named<J: Naming>(
         core.stages.items ≡ (run opening.now (map happening events.now)).stages) }
 {
     let mut machine = Machine::<J>::open(alloc, opening)?;
-    for event in events {
-        machine.take(alloc, event)?;
-    }
+    machine.take_all(alloc, events)?;
     machine.into_core(alloc, opening)
 }

@@ -14,6 +14,10 @@ use vx_record::{
 use vx_region::Name;
 use vx_sector::{Cmd, Fresh, Refusal, Reply, Seat, Sector};
 
+const DONE: Result<Reply, Refusal> = Ok(Reply::Done(Rule::Default));
+const OUTSIDE: Result<Reply, Refusal> = Err(Refusal::OutOfWorld);
+const NOTHING: Result<Reply, Refusal> = Err(Refusal::Nothing);
+
 // A player's list for the one sector of a world.
 #[derive(Drop)]
 struct Pass {
@@ -102,21 +106,33 @@ fn listed(
 }
 
 fn called(rt: &impl Abort, lists: &mut Lists, sector: &mut Sector) -> Result<(), Fail> {
-    let at = Pos::new(5, 1, 5);
     let seat = bob()?;
+    let at = Pos::new(5, 1, 5);
+    answers(rt, lists, sector, seat, Cmd::Place(at, Part::Chest), &DONE);
+    opens(rt, lists, sector, seat, at);
+    let outside = Cmd::Look(Pos::new(99, 1, 5));
+    answers(rt, lists, sector, seat, outside, &OUTSIDE);
+    answers(rt, lists, sector, seat, Cmd::Break(Pos::new(6, 1, 5)), &NOTHING);
+    Ok(())
+}
+
+// A command in the sector, as the player lists it, has this answer.
+fn answers(
+    rt: &impl Abort,
+    lists: &mut Lists,
+    sector: &mut Sector,
+    seat: Seat,
+    cmd: Cmd,
+    due: &Result<Reply, Refusal>,
+) {
     assert_eq!(rt; lists.len(), 1);
-    let placed = lists.act(0, sector, seat, Cmd::Place(at, Part::Chest));
-    assert_eq!(rt; placed, Ok(Reply::Done(Rule::Default)));
+    assert_eq!(rt; lists.act(0, sector, seat, cmd), *due);
+}
+
+fn opens(rt: &impl Abort, lists: &mut Lists, sector: &mut Sector, seat: Seat, at: Pos) {
     assert_eq!(rt; lists.len(), 1);
     let opened = lists.act(0, sector, seat, Cmd::OpenChest(at));
     assert!(rt; matches!(opened, Ok(Reply::Opened(Rule::Default, _))));
-    assert_eq!(rt; lists.len(), 1);
-    let outside = lists.act(0, sector, seat, Cmd::Look(Pos::new(99, 1, 5)));
-    assert_eq!(rt; outside, Err(Refusal::OutOfWorld));
-    assert_eq!(rt; lists.len(), 1);
-    let dug = lists.act(0, sector, seat, Cmd::Break(Pos::new(6, 1, 5)));
-    assert_eq!(rt; dug, Err(Refusal::Nothing));
-    Ok(())
 }
 
 fn told(rt: &impl Abort, lists: &Lists, sector: &Sector) -> Result<(), Fail> {

@@ -54,23 +54,27 @@ fn told(rt: &impl Abort, core: &Core) -> Result<(), Fail> {
         [Stage::Home, Stage::Home].as_slice()
     );
     assert_eq!(rt; (core.edits.len(), core.chronicle.ticks.len()), (1, 1));
-    first_tick(rt, &core.chronicle.ticks[0])?;
+    let bob = bob()?;
+    first_tick(rt, &core.chronicle.ticks[0], bob);
     assert_eq!(rt; core.sectors.len(), 2);
-    let denied = [entry(2, DENIED)?];
-    assert_eq!(rt; core.sectors[0].entries(), denied.as_slice());
+    has_entry(rt, core.sectors[0].entries(), entry(bob, 2, DENIED));
     Ok(())
 }
 
-fn first_tick(rt: &impl Abort, tick: &Tick) -> Result<(), Fail> {
+fn first_tick(rt: &impl Abort, tick: &Tick, bob: Seat) {
     assert_eq!(rt;
         (tick.number, tick.version.tick, tick.version.edits),
         (1, 1, 0)
     );
     assert_eq!(rt; (tick.windows.len(), tick.fates.len()), (2, 0));
-    let done = [entry(1, Ok(Reply::Done(Rule::Default)))?];
-    assert_eq!(rt; tick.windows[0].as_slice(), done.as_slice());
+    let done = entry(bob, 1, Ok(Reply::Done(Rule::Default)));
+    has_entry(rt, tick.windows[0].as_slice(), done);
     assert!(rt; tick.windows[1].is_empty());
-    Ok(())
+}
+
+// The window has this entry alone.
+fn has_entry(rt: &impl Abort, window: &[Entry], due: Entry) {
+    assert_eq!(rt; window, [due].as_slice());
 }
 
 // Parts are set inside the world, for 16 players at most.
@@ -135,11 +139,14 @@ fn place(x: i32, y: i32) -> Event {
     Event::Act(0, stone(x, y))
 }
 
-fn entry(y: i32, answer: Result<Reply, Refusal>) -> Result<Entry, Fail> {
-    let seat = Seat {
+fn bob() -> Result<Seat, Fail> {
+    Ok(Seat {
         number: 0,
         name: Name::read("bob")?,
-    };
+    })
+}
+
+fn entry(seat: Seat, y: i32, answer: Result<Reply, Refusal>) -> Entry {
     let cmd = stone(5, y);
-    Ok(Entry { seat, cmd, answer })
+    Entry { seat, cmd, answer }
 }

@@ -1,7 +1,8 @@
 ghost use Rattle.std.specs.Bool.{Decides};
 ghost use Rattle.std.specs.List.{All};
 ghost use Rattle.std.specs.Prelude.{◌≡◌, ◌<◌, ◌≤◌, ◌+◌, ◌↔◌, true, [], length, map, replicate, Some, Err, IfOk, IfErr, IfSome, MatchOption, OnOk};
-ghost use Rattle.vx_play.specs.Plays.{cells_of, most_ticks, all_renewed, opened_with, first_version};
+ghost use Rattle.vx_play.specs.Plays.{cells_of, most_ticks, all_renewed, opened_by, opened_with, first_version};
+ghost use Rattle.vx_wake.specs.Waking.{RestsBut};
 ghost use Rattle.vx_sector.specs.Windows.{count_of};
 ghost use Rattle.vx_core.specs.Records.{chronicle_in};
 ghost use Rattle.vx_record.specs.Settling.{AreKnown, BeganWith, IsKnown, IsTorn};
@@ -89,13 +90,10 @@ impl<A: Places> Keeper<A> {
             All (IsPartOf opened.0.world) opened.1.items) }
     {
         opening.soundness();
-        let version = first_version(&opening)?;
-        let (bounds, cells) = opening.terrain().try_clone()?.into_parts();
-        let sectors = open_sectors(alloc, cells, &version)?;
-        let (_, bases) = opening.terrain().try_clone()?.into_parts();
-        let waking = Waking::all(alloc, &opening.terrain().frozen())?;
+        let (known, waking) = begun(alloc, &opening)?;
+        let sectors = first_sectors(alloc, &opening, known.version())?;
         let archive = Archive::new(alloc, opening)?;
-        let keeper = Keeper::opened(archive, Known::new(bounds, bases, version), waking, stamper);
+        let keeper = Keeper::opened(archive, known, waking, stamper);
         Ok((keeper, sectors))
     }
 
@@ -372,6 +370,34 @@ fn is_at(sector: &Sector, at: usize) -> bool
     ensures { Decides result (sector.now.base.sector ≡ at) }
 {
     sector.base().sector() as usize == at
+}
+
+// The world of this opening as its windows begin, and where it does not rest.
+fn begun(alloc: Global, opening: &Opening) -> Result<(Known, Waking), AllocError>
+    ensures known { IfOk result (λ begun. begun.0 ≡ record {
+      map = opening.now.terrain;
+      version = first_version opening.now.policy;
+    }) }
+    ensures rests { IfOk result (λ begun. RestsBut opening.now.terrain begun.1) }
+{
+    opening.soundness();
+    let version = first_version(opening)?;
+    let (bounds, cells) = opening.terrain().try_clone()?.into_parts();
+    let waking = Waking::all(alloc, &opening.terrain().frozen())?;
+    Ok((Known::new(bounds, cells, version), waking))
+}
+
+// The sectors of this opening in their first windows.
+fn first_sectors(
+    alloc: Global,
+    opening: &Opening,
+    version: &Version,
+) -> Result<Vec<Sector>, AllocError>
+    ensures { IfOk result (λ sectors.
+        sectors.items ≡ map (opened_by version.now) opening.now.terrain.sectors) }
+{
+    let (_, cells) = opening.terrain().try_clone()?.into_parts();
+    open_sectors(alloc, cells, version)
 }
 
 // The policy of the opening as a version.

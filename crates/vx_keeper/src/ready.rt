@@ -1,5 +1,5 @@
 ghost use Rattle.std.specs.List.{All};
-ghost use Rattle.std.specs.Prelude.{◌≡◌, map, option_map, IfOk};
+ghost use Rattle.std.specs.Prelude.{◌≡◌, ◌≤◌, [], length, map, option_map, vec_capacity, IfOk};
 ghost use Rattle.vx_play.specs.Nexts.{AreNextOf};
 ghost use Rattle.vx_keeper.specs.Bases.{AreNextBases};
 ghost use Rattle.vx_keeper.specs.Readiness.{IsReady};
@@ -41,10 +41,8 @@ impl Ready {
     ) -> Result<Ready, AllocError>
         ensures { IfOk result (λ ready. IsReady sectors.now work version ready) }
     {
-        let nexts = all_next(alloc, sectors, &version)?;
-        let bases = next_bases(alloc, sectors)?;
-        let windows = Vec::with_capacity(alloc, sectors.len())?;
         let told = work.plan.fates.as_slice().to_vec(alloc)?;
+        let (nexts, bases, windows) = room_for(alloc, sectors, &version)?;
         let Work { plan, waking } = work;
         Ok(Ready {
             version,
@@ -57,6 +55,25 @@ impl Ready {
             windows,
         })
     }
+}
+
+// What the next window of each sector begins with, what brings a copy of its base up to its cells,
+// and room for the window that ends.
+fn room_for(
+    alloc: Global,
+    sectors: &[Sector],
+    version: &Version,
+) -> Result<(Vec<Next>, Vec<Option<Box<Cells>>>, Vec<Vec<Entry>>), AllocError>
+    ensures nexts { IfOk result (λ made. AreNextOf version.now sectors.now made.0.items) }
+    ensures bases { IfOk result (λ made. AreNextBases sectors.now
+        (map (λ base. option_map (λ b. b.value) base) made.1.items)) }
+    ensures windows { IfOk result (λ made. (made.2.items ≡ [])
+        × (length sectors.now ≤ vec_capacity made.2)) }
+{
+    let nexts = all_next(alloc, sectors, version)?;
+    let bases = next_bases(alloc, sectors)?;
+    let windows = Vec::with_capacity(alloc, sectors.len())?;
+    Ok((nexts, bases, windows))
 }
 
 // What brings a copy of each sector's base up to its cells.

@@ -88,19 +88,23 @@ fn ask_all(rt: &impl Abort, alloc: Global, regions: &RegionSet) -> Result<(), Fa
 
 fn ask_each(rt: &impl Abort, cached: &mut Cached<'_>, plain: &Plain<'_>, ann: &Subject) {
     for number in 0..257 {
-        ask_at(rt, cached, plain, ann, number);
+        ask_at(rt, cached, plain, ann, place(number));
     }
-    ask_at(rt, cached, plain, ann, 0);
+    ask_at(rt, cached, plain, ann, place(0));
 }
 
-fn ask_at(rt: &impl Abort, cached: &mut Cached<'_>, plain: &Plain<'_>, ann: &Subject, number: u32) {
-    let p = Pos::new(
+// The place of that number, row by row and layer by layer.
+fn place(number: u32) -> Pos {
+    Pos::new(
         (number % 16) as i32,
         (number / 256) as i32,
         (number / 16 % 16) as i32,
-    );
+    )
+}
+
+fn ask_at(rt: &impl Abort, cached: &mut Cached<'_>, plain: &Plain<'_>, ann: &Subject, p: Pos) {
     let told = plain.decide(ann, Action::Placing, p);
-    assert_eq!(rt; cached.ask(ann, Action::Placing, p), told, "{number}");
+    assert_eq!(rt; cached.ask(ann, Action::Placing, p), told);
 }
 
 fn ann() -> Result<Subject, Fail> {

@@ -45,8 +45,8 @@ impl<A: Ledger, B: Ledger> Books<A, B> {
         }
     }
 
-    /// Raises both books by what a reserve gets anew. Within that of 2^64 calls, more than any world
-    /// can record, it does not return.
+    /// Raises both books by what a reserve gets anew. Where that would pass 2^64 calls, more than any
+    /// world can record, it does not return.
     pub fn raise<R: Wait>(&mut self, rt: &R, reserve: &mut Reserve<A, B>)
         requires part { 0 < reserve.old.places.parts }
         requires spent { reserve.old.left ≡ 0 }

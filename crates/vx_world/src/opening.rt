@@ -10,20 +10,48 @@ ghost use Rattle.vx_world.specs.Openings.{seats_from};
 use crate::home::Home;
 use crate::pass::Pass;
 use crate::reserve::Reserve;
+use crate::room::Room;
 use crate::seats::Seats;
 use crate::slot::Slot;
 use crossbeam_utils::CachePadded;
 use std::alloc::{AllocError, Global};
 use std::sync::Mutex;
 use std::sync::ledger::Share;
-use vx_keeper::{Keeper, Marked, Places};
+use vx_core::Opening;
+use vx_keeper::{Keeper, Known, Marked, Places};
 use vx_record::Lists;
 use vx_region::Name;
 use vx_sector::{Seat, Sector};
+use vx_stamp::Opened;
 
-/// The sectors under their locks, each with a part of the share. What threads write in one sector
-/// stands apart from what others read of the next.
-pub fn locked<A: Places>(
+/// The keeper of a world that opens so, its sectors under their locks, each with a part of the
+/// share, and room for the end of the world.
+pub fn kept<A: Places>(
+    alloc: Global,
+    opening: Opening,
+    marks: Opened<Known>,
+    rest: &mut Share<A>,
+) -> Result<(Keeper<A>, Vec<CachePadded<Mutex<Slot<A>>>>, Room<A>), AllocError>
+    requires first { opening.policy ≡ A.first }
+    requires all { length opening.terrain.sectors ≡ A.all }
+    requires marks { marks ≡ A.book }
+    requires each { rest.old.parts ≡ A.all }
+    requires amount { rest.old.amount ≡ 0 }
+    ensures chronicle { IfOk result (λ kept.
+        kept.0.chronicle ≡ record { opening = opening; ticks = [] }) }
+    ensures each { IfOk result (λ kept. vec_len kept.1 ≡ A.all) }
+    ensures rest { OnOk result ((rest.new.parts ≡ 0) × (rest.new.amount ≡ 0)) }
+{
+    opening.soundness();
+    let room = Room::new(alloc, opening.terrain().sectors().len())?;
+    let (keeper, sectors) = Keeper::new(alloc, opening, marks.named())?;
+    let slots = locked(alloc, &keeper, sectors, rest)?;
+    Ok((keeper, slots, room))
+}
+
+// The sectors under their locks, each with a part of the share. What threads write in one sector
+// stands apart from what others read of the next.
+fn locked<A: Places>(
     alloc: Global,
     keeper: &Keeper<A>,
     sectors: Vec<Sector>,

@@ -41,8 +41,13 @@ impl<A: Places, B: Seats> Drop for Pass<A, B> {
 }
 
 impl<A: Places, B: Seats> Pass<A, B> {
-    /// The pass of a seat, with which nothing was called yet.
-    pub fn new(seat: Seat, lists: Lists, share: Share<B>, reserve: Reserve<A, B>) -> Pass<A, B>
+    // The pass of a seat, with which nothing was called yet.
+    pub(crate) fn new(
+        seat: Seat,
+        lists: Lists,
+        share: Share<B>,
+        reserve: Reserve<A, B>,
+    ) -> Pass<A, B>
         requires one_part { share.parts ≡ 1 }
         requires reserve_part { reserve.places.parts ≡ 1 }
         requires counted { share.amount ≡ calls_in lists }
@@ -73,9 +78,14 @@ impl<A: Places, B: Seats> Pass<A, B> {
         &self.lists
     }
 
-    /// Joins what it has of the ledgers to these shares, once the books have back what is left of its
-    /// reserve.
-    pub fn give_up(self, books: &mut Books<A, B>, places: &mut Share<A>, seats: &mut Share<B>)
+    // Joins what it has of the ledgers to these shares, once the books have back what is left of its
+    // reserve.
+    pub(crate) fn join_shares(
+        self,
+        books: &mut Books<A, B>,
+        places: &mut Share<A>,
+        seats: &mut Share<B>,
+    )
         ensures places { (places.new.parts ≡ places.old.parts + 1)
             × (places.new.amount ≡ places.old.amount) }
         ensures seats { (seats.new.parts ≡ seats.old.parts + 2)

@@ -123,7 +123,7 @@ fn pass_shares<A: Places, B: Seats>(
     let mut places = books.no_place();
     let mut seats = books.no_seat();
     for pass in passes {
-        pass.give_up(books, &mut places, &mut seats);
+        pass.join_shares(books, &mut places, &mut seats);
     }
     (places, seats)
 }

@@ -9,7 +9,7 @@ ghost use Rattle.vx_world.specs.Openings.{seats_from};
 use crate::blanks::Blanks;
 use crate::books::Books;
 use crate::lifted::Lifted;
-use crate::opening::{locked, passes};
+use crate::opening::{kept, passes};
 use crate::pass::Pass;
 use crate::patience::patiently;
 use crate::room::Room;
@@ -83,6 +83,8 @@ impl<A: Places, B: Seats> World<A, B> {
     {
         opening.soundness();
         let bounds = opening.terrain().frozen().bounds();
+        let count = bounds.sectors() as usize;
+        let number = opening.names().len() as u8;
         let Blanks {
             places,
             seats,
@@ -90,8 +92,6 @@ impl<A: Places, B: Seats> World<A, B> {
         } = blanks;
         let (in_sectors, mut place_rest) = places.open::<A>();
         let (on_lists, mut seat_rest) = seats.open::<B>();
-        let count = bounds.sectors() as usize;
-        let number = opening.names().len() as u8;
         let passes = passes(
             alloc,
             opening.names(),
@@ -99,9 +99,7 @@ impl<A: Places, B: Seats> World<A, B> {
             &mut place_rest,
             &mut seat_rest,
         )?;
-        let room = Room::new(alloc, count)?;
-        let (keeper, sectors) = Keeper::new(alloc, opening, marks.named())?;
-        let slots = locked(alloc, &keeper, sectors, &mut place_rest)?;
+        let (keeper, slots, room) = kept(alloc, opening, marks, &mut place_rest)?;
         let books = Books::new(in_sectors, on_lists, place_rest, seat_rest);
         Ok((
             World::of(bounds, slots, books, desk, room, number),

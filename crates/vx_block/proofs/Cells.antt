@@ -1,5 +1,8 @@
 -- No two cells have one text.
-use Rattle.std.proofs.Common.{◌≡◌, ℕ, ◌<◌, Bool, List, ◌∷◌, ◌++◌, refl, ap, sym, ◌∙◌, rules, arith}
+use Rattle.std.proofs.Common.{◌≡◌, ℕ, ◌<◌, Bool, false, true≢false, List, [], ◌∷◌, ◌++◌, refl, ap, sym, ◌∙◌, rules, arith}
+use Rattle.std.specs.Prelude.{nat_eq}
+use Rattle.std.proofs.lemmas.Bool.Decides.{Decides-eqb}
+use Rattle.vx_base.proofs.Named.{AreOwn, one_named}
 use Rattle.vx_geom.specs.declared.dir.Dir.{Dir}
 use Rattle.vx_block.specs.Cut.{colon, word_of, all_joined}
 use Rattle.vx_block.specs.Kind.{kind_word}
@@ -11,6 +14,7 @@ use Rattle.vx_block.specs.declared.mount.Mount.{Mount}
 use Rattle.vx_block.specs.declared.delay.Delay.{Delay}
 use Rattle.vx_block.specs.declared.lamp.Lamp.{Lamp}
 use Rattle.vx_block.specs.declared.kind.Kind.{Kind}
+use Rattle.vx_block.specs.declared.kind.Kind.TheVariants as kind
 use Rattle.vx_block.specs.declared.cell.Cell.{Cell}
 use Rattle.vx_block.specs.declared.cell.Cell.TheVariants as cell
 
@@ -41,8 +45,30 @@ one_small a b a_in b_in same = search (rules, arith)
 word_is : (c : Cell) → word_of (cell_text c) ≡ kind_word (kind_of c)
 word_is c = search rules
 
+abbrev kinds : List Kind
+kinds = kind.Air ∷ kind.Stone ∷ kind.Dirt ∷ kind.Planks ∷ kind.Glass ∷ kind.Obsidian ∷ kind.Bedrock ∷ kind.Chest
+    ∷ kind.Dust ∷ kind.Torch ∷ kind.Lever ∷ kind.Repeater ∷ kind.Lamp ∷ kind.Piston ∷ kind.StickyPiston ∷ kind.Head ∷ []
+
+own_kind : AreOwn kind_word kinds
+own_kind kind.Air = refl
+own_kind kind.Stone = refl
+own_kind kind.Dirt = refl
+own_kind kind.Planks = refl
+own_kind kind.Glass = refl
+own_kind kind.Obsidian = refl
+own_kind kind.Bedrock = refl
+own_kind kind.Chest = refl
+own_kind kind.Dust = refl
+own_kind kind.Torch = refl
+own_kind kind.Lever = refl
+own_kind kind.Repeater = refl
+own_kind kind.Lamp = refl
+own_kind kind.Piston = refl
+own_kind kind.StickyPiston = refl
+own_kind kind.Head = refl
+
 one_kind : (a b : Kind) → kind_word a ≡ kind_word b → a ≡ b
-one_kind a b same = search rules
+one_kind = one_named kind_word kinds own_kind
 
 same_kind : (a b : Cell) → cell_text a ≡ cell_text b → kind_of a ≡ kind_of b
 same_kind a b same = one_kind (kind_of a) (kind_of b) (sym (word_is a) ∙ ap word_of same ∙ word_is b)
@@ -85,6 +111,53 @@ one_repeater a b a_in b_in same =
     let wait = one_small a.wait b.wait (short_wait a.delay a.wait a_in) (short_wait b.delay b.wait b_in) on.1 in
     λ i. record { facing = facing.0 i; delay = delay.0 i; on = on.0 i; wait = wait i }
 
+-- the code of each kind, where the two kinds of piston have one
+abbrev kind_code : Kind → ℕ
+kind_code kind.Air = 0
+kind_code kind.Stone = 1
+kind_code kind.Dirt = 2
+kind_code kind.Planks = 3
+kind_code kind.Glass = 4
+kind_code kind.Obsidian = 5
+kind_code kind.Bedrock = 6
+kind_code kind.Chest = 7
+kind_code kind.Dust = 8
+kind_code kind.Torch = 9
+kind_code kind.Lever = 10
+kind_code kind.Repeater = 11
+kind_code kind.Lamp = 12
+kind_code kind.Piston = 13
+kind_code kind.StickyPiston = 13
+kind_code kind.Head = 14
+
+-- the same of a cell, which computes whatever its state
+abbrev cell_code : Cell → ℕ
+cell_code cell.Air = 0
+cell_code cell.Stone = 1
+cell_code cell.Dirt = 2
+cell_code cell.Planks = 3
+cell_code cell.Glass = 4
+cell_code cell.Obsidian = 5
+cell_code cell.Bedrock = 6
+cell_code cell.Chest = 7
+cell_code (cell.Dust level) = 8
+cell_code (cell.Torch facing lit) = 9
+cell_code (cell.Lever facing on) = 10
+cell_code (cell.Repeater r) = 11
+cell_code (cell.Lamp l) = 12
+cell_code (cell.Piston facing sticky extended) = 13
+cell_code (cell.Head facing sticky) = 14
+
+code_is : (c : Cell) → cell_code c ≡ kind_code (kind_of c)
+code_is c = search rules
+
+same_code : (a b : Cell) → cell_text a ≡ cell_text b → cell_code a ≡ cell_code b
+same_code a b same = code_is a ∙ ap kind_code (same_kind a b same) ∙ sym (code_is b)
+
+-- cells of different codes have no text in common: much less to check than a search for each two variants
+apart : (a b : Cell) → cell_code a ≡ cell_code b → nat_eq (cell_code a) (cell_code b) ≡ false → a ≡ b
+apart a b same differ = absurd (true≢false (sym ((Decides-eqb (cell_code a) (cell_code b)).1 same) ∙ differ))
+
 pub one_cell : (a b : Cell) → IsCell a → IsCell b → cell_text a ≡ cell_text b → a ≡ b
 one_cell cell.Air cell.Air a_in b_in same = refl
 one_cell cell.Stone cell.Stone a_in b_in same = refl
@@ -101,4 +174,4 @@ one_cell (cell.Repeater a) (cell.Repeater b) a_in b_in same = ap cell.Repeater (
 one_cell (cell.Lamp a) (cell.Lamp b) a_in b_in same = ap cell.Lamp (one_lamp a b same)
 one_cell (cell.Piston f s l) (cell.Piston g t m) a_in b_in same = one_piston f g s t l m same
 one_cell (cell.Head f l) (cell.Head g m) a_in b_in same = one_head f g l m same
-one_cell a b a_in b_in same = let kind = same_kind a b same in search rules
+one_cell a b a_in b_in same = apart a b (same_code a b same) refl

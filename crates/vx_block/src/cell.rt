@@ -24,7 +24,7 @@ use vx_geom::Dir;
 
 /// What stands at one position of the world, with its state. There are 165 cells. The slots of a
 /// chest stand beside it.
-#[derive(Clone, Copy, Debug, PartialEq, Eq, Hash)]
+#[derive(Clone, Copy, Debug, PartialEq, Eq)]
 pub enum Cell {
     Air,
     Stone,

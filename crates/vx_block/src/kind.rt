@@ -3,7 +3,7 @@ ghost use Rattle.vx_block.specs.Kind.{kind_word};
 
 /// What a cell is, whatever its state. Each kind has one word, with which the texts of its cells
 /// and parts begin.
-#[derive(Clone, Copy, Debug, PartialEq, Eq, Hash)]
+#[derive(Clone, Copy, Debug, PartialEq, Eq)]
 pub enum Kind {
     Air,
     Stone,

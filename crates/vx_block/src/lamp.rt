@@ -3,7 +3,7 @@ ghost use Rattle.vx_block.specs.Cut.{all_joined};
 ghost use Rattle.vx_block.specs.States.{lamp_words};
 
 /// The state of a lamp. One that loses its power stays lit for a tick more.
-#[derive(Clone, Copy, Debug, PartialEq, Eq, Hash)]
+#[derive(Clone, Copy, Debug, PartialEq, Eq)]
 pub enum Lamp {
     Off,
     Lit,

@@ -5,7 +5,7 @@ use crate::words::{read_small, small_word};
 use std::marker::Model;
 
 /// The level of dust, 0 to 15.
-#[derive(Clone, Copy, Debug, PartialEq, Eq, Hash)]
+#[derive(Clone, Copy, Debug, PartialEq, Eq)]
 pub struct Level {
     value: u8,
 }

@@ -5,7 +5,7 @@ use crate::side::Side;
 use vx_geom::Dir;
 
 /// What a torch stands on or hangs on: the block below it, or one beside it.
-#[derive(Clone, Copy, Debug, PartialEq, Eq, Hash)]
+#[derive(Clone, Copy, Debug, PartialEq, Eq)]
 pub enum Mount {
     Floor,
     Wall(Side),

@@ -20,7 +20,7 @@ use arrayvec::ArrayString;
 use vx_geom::Dir;
 
 /// What a player can place. Air, heads and extended pistons are no parts.
-#[derive(Clone, Copy, Debug, PartialEq, Eq, Hash)]
+#[derive(Clone, Copy, Debug, PartialEq, Eq)]
 pub enum Part {
     Stone,
     Dirt,

@@ -1,7 +1,7 @@
-ghost use Rattle.std.specs.Prelude.{◌≡◌, ◌<◌, ◌≤◌, length, IfSome, Some};
-ghost use Rattle.vx_block.specs.Cut.{all_joined};
+ghost use Rattle.std.specs.Prelude.{◌≡◌, ℕ, ◌<◌, ◌≤◌, Bool, [], ◌∷◌, ◌++◌, length, IfSome, Some};
+ghost use Rattle.vx_block.specs.Cut.{colon, joined, all_joined};
 ghost use Rattle.vx_block.specs.Repeating.{Repeating, IsRepeating, repeater_words};
-ghost use Rattle.vx_block.specs.States.{ticks_of};
+ghost use Rattle.vx_block.specs.States.{ticks_of, on_word, small_word};
 
 use crate::cut::cut;
 use crate::delay::Delay;
@@ -13,7 +13,7 @@ use std::marker::Model;
 
 /// A repeater: the side of its front, its delay, whether it is on, and how many ticks are left of a
 /// count, fewer than its delay.
-#[derive(Clone, Copy, Debug, PartialEq, Eq, Hash)]
+#[derive(Clone, Copy, Debug, PartialEq, Eq)]
 pub struct Repeater {
     facing: Side,
     delay: Delay,
@@ -87,17 +87,7 @@ impl Repeater {
             → all_joined (repeater_words r) ≡ text.now → result ≡ Some r }
     {
         let (facing, rest) = cut(text);
-        let facing = Side::read(facing)?;
-        let (delay, rest) = cut(rest?);
-        let delay = Delay::read(delay)?;
-        let (on, wait) = cut(rest?);
-        let on = read_on(on)?;
-        let wait = read_small(wait?)?;
-        if wait < delay.ticks() {
-            Some(Repeater::new(facing, delay, on, wait))
-        } else {
-            None
-        }
+        read_facing(Side::read(facing)?, rest?)
     }
 
     /// The words of this repeater, joined by colons.
@@ -108,4 +98,34 @@ impl Repeater {
         let state = two_words(on_word(self.on), small_word(self.wait));
         three_words(dir_word(self.facing.dir()), self.delay.word(), &state)
     }
+}
+
+// The repeater with its front on this side whose other words, joined by colons, are this text.
+fn read_facing(facing: Side, text: &str) -> Option<Repeater>
+    ensures found { IfSome result (λ r. IsRepeating r × (r.facing ≡ facing)
+        × (joined (small_word (ticks_of r.delay)) (on_word r.on ∷ small_word r.wait ∷ [])
+        ≡ text.now)) }
+    ensures only { (r : Repeating) → IsRepeating r → r.facing ≡ facing
+        → joined (small_word (ticks_of r.delay)) (on_word r.on ∷ small_word r.wait ∷ []) ≡ text.now
+        → result ≡ Some r }
+{
+    let (delay, rest) = cut(text);
+    let delay = Delay::read(delay)?;
+    let (on, wait) = read_count(rest?)?;
+    if wait < delay.ticks() {
+        Some(Repeater::new(facing, delay, on, wait))
+    } else {
+        None
+    }
+}
+
+// Whether a repeater is on, and what is left of its count, where this text tells both.
+fn read_count(text: &str) -> Option<(bool, u8)>
+    ensures found { IfSome result
+        (λ c. (c.1 < 16) × (on_word c.0 ++ colon ∷ small_word c.1 ≡ text.now)) }
+    ensures only { (on : Bool) → (wait : ℕ) → wait < 16
+        → on_word on ++ colon ∷ small_word wait ≡ text.now → result ≡ Some (on, wait) }
+{
+    let (on, wait) = cut(text);
+    Some((read_on(on)?, read_small(wait?)?))
 }

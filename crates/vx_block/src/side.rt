@@ -5,7 +5,7 @@ ghost use Rattle.vx_block.specs.States.{side_dir, dir_word};
 use vx_geom::Dir;
 
 /// One of the four horizontal directions.
-#[derive(Clone, Copy, Debug, PartialEq, Eq, Hash)]
+#[derive(Clone, Copy, Debug, PartialEq, Eq)]
 pub enum Side {
     East,
     West,

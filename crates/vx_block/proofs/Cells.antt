@@ -3,10 +3,11 @@ use Rattle.std.proofs.Common.{◌≡◌, ℕ, ◌<◌, Bool, false, true≢false
 use Rattle.std.specs.Prelude.{nat_eq}
 use Rattle.std.proofs.lemmas.Bool.Decides.{Decides-eqb}
 use Rattle.vx_base.proofs.Named.{AreOwn, one_named}
+use Rattle.vx_base.specs.Digits.{small_word}
 use Rattle.vx_geom.specs.declared.dir.Dir.{Dir}
 use Rattle.vx_block.specs.Cut.{colon, word_of, all_joined}
 use Rattle.vx_block.specs.Kind.{kind_word}
-use Rattle.vx_block.specs.States.{side_dir, mount_dir, ticks_of, dir_word, small_word, on_word, out_word, grip_word}
+use Rattle.vx_block.specs.States.{side_dir, mount_dir, ticks_of, dir_word, on_word, out_word, grip_word}
 use Rattle.vx_block.specs.Repeating.{Repeating, IsRepeating, repeater_words}
 use Rattle.vx_block.specs.Cell.{kind_of, cell_text, IsCell}
 use Rattle.vx_block.specs.declared.side.Side.{Side}

@@ -1,7 +1,8 @@
 use Rattle.std.specs.Prelude.{ℕ, ◌≡◌, ◌<◌, List, [], ◌∷◌, ◌++◌}
+use Rattle.vx_base.specs.Digits.{small_word}
 use Rattle.vx_block.specs.Cut.{colon, joined}
 use Rattle.vx_block.specs.Kind.{kind_word}
-use Rattle.vx_block.specs.States.{mount_dir, dir_word, small_word, on_word, out_word, grip_word, lamp_words}
+use Rattle.vx_block.specs.States.{mount_dir, dir_word, on_word, out_word, grip_word, lamp_words}
 use Rattle.vx_block.specs.Repeating.{IsRepeating, repeater_words}
 use Rattle.vx_block.specs.declared.kind.Kind.{Kind}
 use Rattle.vx_block.specs.declared.kind.Kind.TheVariants as kind

@@ -1,10 +1,11 @@
 use Rattle.std.specs.Prelude.{ℕ, true, false, bytes_eq, List, [], ◌∷◌, ◌++◌, map, find, Option}
+use Rattle.vx_base.specs.Digits.{small_word}
 use Rattle.vx_geom.specs.declared.dir.Dir.{Dir}
 use Rattle.vx_geom.specs.declared.dir.Dir.TheVariants as dir
 use Rattle.vx_block.specs.Cut.{joined}
 use Rattle.vx_block.specs.Kind.{kind_word}
 use Rattle.vx_block.specs.Cell.{kind_of}
-use Rattle.vx_block.specs.States.{side_dir, mount_dir, ticks_of, dir_word, small_word}
+use Rattle.vx_block.specs.States.{side_dir, mount_dir, ticks_of, dir_word}
 use Rattle.vx_block.specs.declared.side.Side.{Side}
 use Rattle.vx_block.specs.declared.side.Side.TheVariants as side
 use Rattle.vx_block.specs.declared.mount.Mount.{Mount}

@@ -1,7 +1,8 @@
 use Rattle.std.specs.Prelude.{ℕ, ◌<◌, Bool, List, [], ◌∷◌}
+use Rattle.vx_base.specs.Digits.{small_word}
 use Rattle.vx_block.specs.declared.side.Side.{Side}
 use Rattle.vx_block.specs.declared.delay.Delay.{Delay}
-use Rattle.vx_block.specs.States.{side_dir, ticks_of, dir_word, on_word, small_word}
+use Rattle.vx_block.specs.States.{side_dir, ticks_of, dir_word, on_word}
 
 -- a repeater: the side of its front, its delay, whether it is on, and how many ticks are left of a
 -- count, 0 where it counts none

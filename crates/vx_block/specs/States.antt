@@ -1,5 +1,5 @@
 -- The words that tell the state of a cell, or how a part is placed.
-use Rattle.std.specs.Prelude.{ℕ, ◌+◌, Bool, true, false, nat_lt, codes, if◌then◌else◌, List, [], ◌∷◌}
+use Rattle.std.specs.Prelude.{ℕ, Bool, true, false, codes, List, [], ◌∷◌}
 use Rattle.vx_geom.specs.declared.dir.Dir.{Dir}
 use Rattle.vx_geom.specs.declared.dir.Dir.TheVariants as dir
 use Rattle.vx_block.specs.declared.side.Side.{Side}
@@ -38,10 +38,6 @@ dir_word dir.Up = codes "up"
 dir_word dir.Down = codes "down"
 dir_word dir.South = codes "south"
 dir_word dir.North = codes "north"
-
--- a number below 20, in decimal digits
-abbrev pub small_word : ℕ → List ℕ
-small_word n = if nat_lt n 10 then (48 + n) ∷ [] else 49 ∷ (38 + n) ∷ []
 
 -- the word of what is on or off
 abbrev pub on_word : Bool → List ℕ

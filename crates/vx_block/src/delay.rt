@@ -1,5 +1,6 @@
 ghost use Rattle.std.specs.Prelude.{◌≡◌, ◌≤◌, length, IfSome, Some};
-ghost use Rattle.vx_block.specs.States.{ticks_of, small_word};
+ghost use Rattle.vx_base.specs.Digits.{small_word};
+ghost use Rattle.vx_block.specs.States.{ticks_of};
 
 /// After how many ticks a repeater follows its input.
 #[derive(Clone, Copy, Debug, PartialEq, Eq)]

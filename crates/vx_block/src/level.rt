@@ -1,8 +1,8 @@
 ghost use Rattle.std.specs.Prelude.{◌≡◌, ℕ, ◌<◌, ◌≤◌, length, IfSome, Some};
-ghost use Rattle.vx_block.specs.States.{small_word};
+ghost use Rattle.vx_base.specs.Digits.{small_word};
 
-use crate::words::{read_small, small_word};
 use std::marker::Model;
+use vx_base::{read_small, small_word};
 
 /// The level of dust, 0 to 15.
 #[derive(Clone, Copy, Debug, PartialEq, Eq)]

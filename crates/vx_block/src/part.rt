@@ -1,9 +1,10 @@
 ghost use Rattle.std.specs.Prelude.{◌≡◌, ◌∷◌, ◌++◌, codes, IfSome, Some};
+ghost use Rattle.vx_base.specs.Digits.{small_word};
 ghost use Rattle.vx_block.specs.Cell.{kind_of};
 ghost use Rattle.vx_block.specs.Cut.{colon, tail_of};
 ghost use Rattle.vx_block.specs.Kind.{kind_word};
 ghost use Rattle.vx_block.specs.Part.{part_cell, part_text, part_of};
-ghost use Rattle.vx_block.specs.States.{side_dir, ticks_of, dir_word, small_word};
+ghost use Rattle.vx_block.specs.States.{side_dir, ticks_of, dir_word};
 
 use crate::cell::Cell;
 use crate::cut::cut;

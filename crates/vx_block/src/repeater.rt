@@ -1,15 +1,17 @@
 ghost use Rattle.std.specs.Prelude.{◌≡◌, ℕ, ◌<◌, ◌≤◌, Bool, [], ◌∷◌, ◌++◌, length, IfSome, Some};
+ghost use Rattle.vx_base.specs.Digits.{small_word};
 ghost use Rattle.vx_block.specs.Cut.{colon, joined, all_joined};
 ghost use Rattle.vx_block.specs.Repeating.{Repeating, IsRepeating, repeater_words};
-ghost use Rattle.vx_block.specs.States.{ticks_of, on_word, small_word};
+ghost use Rattle.vx_block.specs.States.{ticks_of, on_word};
 
 use crate::cut::cut;
 use crate::delay::Delay;
 use crate::joined::{three_words, two_words};
 use crate::side::Side;
-use crate::words::{dir_word, on_word, read_on, read_small, small_word};
+use crate::words::{dir_word, on_word, read_on};
 use arrayvec::ArrayString;
 use std::marker::Model;
+use vx_base::{read_small, small_word};
 
 /// A repeater: the side of its front, its delay, whether it is on, and how many ticks are left of a
 /// count, fewer than its delay.

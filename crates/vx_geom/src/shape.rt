@@ -24,7 +24,7 @@ pub struct Shape {
 
 // A cuboid by its least and its greatest corner, a polygon by its points and its lowest and its
 // highest y.
-#[derive(Clone, Debug, Drop)]
+#[derive(Debug, Drop)]
 enum ShapeKind {
     Cuboid(Pos, Pos),
     Polygon(Vec<(i32, i32)>, i32, i32),
@@ -145,9 +145,13 @@ impl Clone for Shape {
     ghost is_clone = { λ shape copy. copy ≡ shape };
 
     fn clone(&self) -> Result<Shape, AllocError> {
-        Ok(Shape {
-            kind: self.kind.clone()?,
-        })
+        let kind = match &self.kind {
+            ShapeKind::Cuboid(low, high) => ShapeKind::Cuboid(*low, *high),
+            ShapeKind::Polygon(points, low, high) => {
+                ShapeKind::Polygon(points.clone()?, *low, *high)
+            }
+        };
+        Ok(Shape { kind })
     }
 }
 

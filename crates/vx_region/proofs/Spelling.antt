@@ -1,5 +1,5 @@
 -- What is read is a word in lower case.
-use Rattle.std.proofs.Common.{Some, None, if◌then◌else◌, ◌+◌, ◌≡◌, ℕ, ◌≤◌, Bool, true, false, not, ◌&&◌, List, [], ◌∷◌, ◌++◌, map, length, drop, arith, refl, ap, sym, ◌∙◌}
+use Rattle.std.proofs.Common.{Some, None, if◌then◌else◌, ◌+◌, ◌≡◌, ℕ, suc, ◌≤◌, ◌<◌, Bool, true, false, not, ◌&&◌, List, [], ◌∷◌, ◌++◌, map, length, drop, get_or, drop-cons, arith, refl, ap, sym, ◌∙◌}
 use Rattle.std.proofs.lemmas.Bool.Decides.{nat_tests}
 use Rattle.std.proofs.lemmas.List.{append-nil, drop_all, length-map}
 use Rattle.std.specs.List.{list_all}
@@ -59,8 +59,31 @@ word_over a most i text w some short over read passed =
     let none = drop_all i text over in
     word_made a most text w some short (sym (rw none at passed)) (rw (none, append-nil) at read)
 
+-- a byte that does not pass leaves no word
+pub word_refused : (a : Alphabet) (most i : ℕ) (text : List ℕ) → i < length text → false ≡ passes a (get_or text i 0)
+    → list_all (passes a) (drop i text) ≡ list_all (passes a) text → None ≡ read_word (passes a) most text
+unfolding read_word
+word_refused a most i text within refused passed =
+    let none : list_all (passes a) text ≡ false =
+    sym passed ∙ ap (list_all (passes a)) (drop-cons text i 0 within) ∙ ap (λ t. t && list_all (passes a) (drop (suc i) text)) (sym refused) in
+    by (is_amid 1 (length text) most) (list_all (passes a) text) none
+  where
+    by : (b t : Bool) → t ≡ false → None ≡ (if b && t then Some (map lower text) else None)
+    by true t is = sym (ap (λ u. if u then Some (map lower text) else None) is)
+    by false t is = refl
+
 amid_true : (n most : ℕ) → 1 ≤ n → n ≤ most → is_amid 1 n most ≡ true
 amid_true n most some short = grind (arith, nat_tests)
+
+-- and where all of the text was read the word is what it spells
+pub word_whole : (a : Alphabet) (most i : ℕ) (text w : List ℕ) → 1 ≤ length text → length text ≤ most → length text ≤ i
+    → w ++ map lower (drop i text) ≡ map lower text → list_all (passes a) (drop i text) ≡ list_all (passes a) text → Some w ≡ read_word (passes a) most text
+unfolding read_word
+word_whole a most i text w some short over read passed =
+    let none = drop_all i text over in
+    ap Some (rw (none, append-nil) at read)
+    ∙ sym (ap (λ t. if t && list_all (passes a) text then Some (map lower text) else None) (amid_true (length text) most some short)
+    ∙ ap (λ t. if t then Some (map lower text) else None) (sym (rw none at passed)))
 
 amid_parts : (n most : ℕ) → is_amid 1 n most ≡ true → (1 ≤ n) × (n ≤ most)
 amid_parts n most amid = (grind (arith, nat_tests), grind (arith, nat_tests))

@@ -116,12 +116,11 @@ impl RegionSet {
     fn in_place(&self, number: RegionNo) -> Option<&Region>
         ensures { IfSome result (λ region. region_at self.now number.0 ≡ Some region.now) }
     {
-        let place = number.0.checked_sub(1)?;
-        let (found, shared) = self.regions.get_index(place as usize)?;
-        if *found != number.0 {
-            return None;
+        let place = number.0.saturating_sub(1);
+        match self.regions.get_index(place as usize) {
+            Some((found, shared)) if *found == number.0 => Some(shared.region()),
+            _ => None,
         }
-        Some(shared.region())
     }
 
     /// The region at that place in order of number, counted from 0, with its number.

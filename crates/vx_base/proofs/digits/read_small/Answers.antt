@@ -1,6 +1,6 @@
 use Rattle.std.proofs.Common.{◌≡◌, ℕ, ◌≤◌, ◌<◌, length, ap, rules, arith}
-use Rattle.vx_block.specs.States.{small_word}
-use Rattle.vx_block.proofs.words.read_small.Goals as goal
+use Rattle.vx_base.specs.Digits.{small_word}
+use Rattle.vx_base.proofs.digits.read_small.Goals as goal
 
 filled : (n : ℕ) → 1 ≤ length (small_word n)
 filled n = search (rules, arith)

@@ -4,7 +4,7 @@ use vx_step::Phase;
 
 /// What happens in the core. Each is one atomic step of some thread; one that may not happen yet
 /// changes nothing.
-#[derive(Debug, Drop)]
+#[derive(Drop)]
 pub enum Event {
     /// The player of that seat asks for a command.
     Act(u8, Cmd),

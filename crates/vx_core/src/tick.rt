@@ -4,7 +4,7 @@ use vx_sector::Entry;
 use vx_step::Fate;
 
 /// A tick on record.
-#[derive(Debug, Drop)]
+#[derive(Drop)]
 pub struct Tick {
     /// Its number, from 1 on.
     pub number: u64,

@@ -17,14 +17,14 @@ const MAX_POINTS: usize = 64;
 
 /// The shape of a region: a cuboid with its corners and all between, or a polygon over columns
 /// between two heights.
-#[derive(Debug, Drop)]
+#[derive(Drop)]
 pub struct Shape {
     kind: ShapeKind,
 }
 
 // A cuboid by its least and its greatest corner, a polygon by its points and its lowest and its
 // highest y.
-#[derive(Debug, Drop)]
+#[derive(Drop)]
 enum ShapeKind {
     Cuboid(Pos, Pos),
     Polygon(Vec<(i32, i32)>, i32, i32),

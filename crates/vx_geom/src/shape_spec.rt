@@ -8,7 +8,7 @@ use crate::shape::{Shape, is_polygon};
 use std::alloc::{AllocError, Global};
 
 /// A shape as an edit or a file names it, before anything is asked of it.
-#[derive(Debug, Drop)]
+#[derive(Drop)]
 pub enum ShapeSpec {
     /// Two corners of a cuboid, in any order.
     Cuboid(Pos, Pos),

@@ -15,7 +15,7 @@ use vx_region::RegionSet;
 pub(crate) const MAX_HERE: usize = 32;
 
 /// The regions that lie in a chunk, a square of 16 by 16 columns, in the order of their numbers.
-#[derive(Debug, Drop)]
+#[derive(Drop)]
 pub(crate) struct Chunk {
     columns: Extent,
     patches: Vec<Patch>,

@@ -5,7 +5,7 @@ use vx_step::Fate;
 /// What a tick closed and did: the record of each sector's window, in the order of the sectors, and
 /// the fates of the moves that pistons asked for, each beside the position of its piston, in the
 /// order of positions.
-#[derive(Debug, Drop)]
+#[derive(Drop)]
 pub struct Ticked {
     pub windows: Vec<Vec<Entry>>,
     pub fates: Vec<(Pos, Fate)>,

@@ -10,7 +10,7 @@ use vx_region::Role;
 /// A change of the written policy, as it is asked for. Ids and names are texts, and shapes as they
 /// are written: what is wrong with them is told where the edit is applied. docs/RULES.md says what
 /// each edit does, and why it may be refused.
-#[derive(Debug, Drop)]
+#[derive(Drop)]
 pub enum Edit {
     /// A new region, of this id.
     Define(String, ShapeSpec),

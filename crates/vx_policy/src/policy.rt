@@ -13,7 +13,6 @@ use vx_region::RegionSet;
 
 /// The written policy: a set of regions that is changed by edits. Copies share it until one of them
 /// is changed.
-#[derive(Debug)]
 pub struct Policy {
     regions: Arc<RegionSet>,
 }

@@ -5,7 +5,7 @@ use crate::policy::Policy;
 use std::alloc::AllocError;
 
 /// The policy that judges one window of commands and the tick that ends it.
-#[derive(Debug, Drop)]
+#[derive(Drop)]
 pub struct Version {
     /// The number of the version and of its tick, 1 for the policy of the opening.
     pub tick: u64,

@@ -11,7 +11,7 @@ use std::marker::Model;
 use std::sync::Arc;
 
 /// The number of each region by its id. Copies share it until one of them changes it.
-#[derive(Debug, Drop)]
+#[derive(Drop)]
 pub(crate) struct IdNumbers {
     // `None` until there is an id, since an `Arc` takes memory.
     numbers: Option<Arc<IndexMap<Id, u32>>>,

@@ -22,7 +22,7 @@ const FEW: usize = 8;
 
 /// A region: where it lies, its priority and its parent, who its owners and its members are, and
 /// what it sets for each flag.
-#[derive(Debug, Drop)]
+#[derive(Drop)]
 pub struct Region {
     id: Id,
     shape: Shape,

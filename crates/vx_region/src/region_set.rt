@@ -29,7 +29,6 @@ use vx_geom::{Pos, Shape};
 /// The regions of a world, in order of their numbers, and the flags of the world at large, which is
 /// `__global__` and has number 0. A number is never given twice. Copies share each region until one
 /// of them changes it.
-#[derive(Debug)]
 pub struct RegionSet {
     last: u32,
     regions: IndexMap<u32, SharedRegion>,

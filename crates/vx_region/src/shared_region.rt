@@ -8,7 +8,7 @@ use std::marker::Model;
 use std::sync::Arc;
 
 /// A region as a set holds it: copies of the set share it until one of them changes it.
-#[derive(Debug, Drop)]
+#[derive(Drop)]
 pub(crate) struct SharedRegion {
     region: Arc<Region>,
 }

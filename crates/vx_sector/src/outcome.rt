@@ -3,7 +3,7 @@ use crate::refusal::Refusal;
 use crate::reply::Reply;
 
 /// The answer to a command, and what the command does.
-#[derive(Debug, Drop)]
+#[derive(Drop)]
 pub struct Outcome {
     pub answer: Result<Reply, Refusal>,
     pub effect: Effect,

@@ -1,4 +1,5 @@
 //! The calls of a player, beside the record of a sector.
+use crate::same::same;
 use std::alloc::Global;
 use std::process::Abort;
 use std::test::Fail;
@@ -15,7 +16,9 @@ use vx_region::Name;
 use vx_sector::{Cmd, Fresh, Refusal, Reply, Seat, Sector};
 
 const DONE: Result<Reply, Refusal> = Ok(Reply::Done(Rule::Default));
+
 const OUTSIDE: Result<Reply, Refusal> = Err(Refusal::OutOfWorld);
+
 const NOTHING: Result<Reply, Refusal> = Err(Refusal::Nothing);
 
 // A player's list for the one sector of a world.
@@ -112,7 +115,14 @@ fn called(rt: &impl Abort, lists: &mut Lists, sector: &mut Sector) -> Result<(),
     opens(rt, lists, sector, seat, at);
     let outside = Cmd::Look(Pos::new(99, 1, 5));
     answers(rt, lists, sector, seat, outside, &OUTSIDE);
-    answers(rt, lists, sector, seat, Cmd::Break(Pos::new(6, 1, 5)), &NOTHING);
+    answers(
+        rt,
+        lists,
+        sector,
+        seat,
+        Cmd::Break(Pos::new(6, 1, 5)),
+        &NOTHING,
+    );
     Ok(())
 }
 
@@ -125,20 +135,21 @@ fn answers(
     cmd: Cmd,
     due: &Result<Reply, Refusal>,
 ) {
-    assert_eq!(rt; lists.len(), 1);
-    assert_eq!(rt; lists.act(0, sector, seat, cmd), *due);
+    assert!(rt; lists.len() == 1);
+    same(rt, &lists.act(0, sector, seat, cmd), due);
 }
 
 fn opens(rt: &impl Abort, lists: &mut Lists, sector: &mut Sector, seat: Seat, at: Pos) {
-    assert_eq!(rt; lists.len(), 1);
+    assert!(rt; lists.len() == 1);
     let opened = lists.act(0, sector, seat, Cmd::OpenChest(at));
     assert!(rt; matches!(opened, Ok(Reply::Opened(Rule::Default, _))));
 }
 
 fn told(rt: &impl Abort, lists: &Lists, sector: &Sector) -> Result<(), Fail> {
-    assert_eq!(rt; lists.len(), 1);
+    assert!(rt; lists.len() == 1);
     let calls = lists.calls(0);
-    assert_eq!(rt; (calls.len(), sector.entries().len()), (3, 3));
+    assert!(rt; calls.len() == 3);
+    same(rt, &sector.entries().len(), &3);
     let all = calls.iter().zip(sector.entries());
     for (call, entry) in all {
         assert!(rt; call.is_in(entry));
@@ -255,17 +266,23 @@ fn compared(
     archive: &Archive,
 ) -> Result<(), Fail> {
     let silent = silent(alloc)?;
-    assert_eq!(rt; found(pass, home, known, archive), None);
-    assert_eq!(rt;
-        found(&silent, home, known, archive),
-        Some(Fault::ListsDiffer(0, 0))
+    same(rt, &found(pass, home, known, archive), &None);
+    same(
+        rt,
+        &found(&silent, home, known, archive),
+        &Some(Fault::ListsDiffer(0, 0)),
     );
     let away = [Slot { home: None }];
-    assert_eq!(rt; found(pass, &away[0], known, archive), Some(Fault::Torn(0)));
+    same(
+        rt,
+        &found(pass, &away[0], known, archive),
+        &Some(Fault::Torn(0)),
+    );
     let nobody: [Pass; 0] = [];
-    assert_eq!(rt;
-        disagreement(&nobody, 1, &away, known, archive),
-        Some(Fault::PassMissing)
+    same(
+        rt,
+        &disagreement(&nobody, 1, &away, known, archive),
+        &Some(Fault::PassMissing),
     );
     Ok(())
 }

@@ -1,4 +1,5 @@
 //! The core machine, event by event.
+use crate::same::same;
 use std::alloc::{AllocError, Global};
 use std::process::Abort;
 use std::test::Fail;
@@ -49,24 +50,26 @@ fn worked(alloc: Global, opening: &Opening, edit: Edit) -> Result<Core, AllocErr
 }
 
 fn told(rt: &impl Abort, core: &Core) -> Result<(), Fail> {
-    assert_eq!(rt;
-        core.stages.as_slice(),
-        [Stage::Home, Stage::Home].as_slice()
+    same(
+        rt,
+        &core.stages.as_slice(),
+        &[Stage::Home, Stage::Home].as_slice(),
     );
-    assert_eq!(rt; (core.edits.len(), core.chronicle.ticks.len()), (1, 1));
+    same(rt, &core.edits.len(), &1);
+    assert!(rt; core.chronicle.ticks.len() == 1 && core.sectors.len() == 2);
     let bob = bob()?;
     first_tick(rt, &core.chronicle.ticks[0], bob);
-    assert_eq!(rt; core.sectors.len(), 2);
     has_entry(rt, core.sectors[0].entries(), entry(bob, 2, DENIED));
     Ok(())
 }
 
 fn first_tick(rt: &impl Abort, tick: &Tick, bob: Seat) {
-    assert_eq!(rt;
-        (tick.number, tick.version.tick, tick.version.edits),
-        (1, 1, 0)
+    same(
+        rt,
+        &(tick.number, tick.version.tick, tick.version.edits),
+        &(1, 1, 0),
     );
-    assert_eq!(rt; (tick.windows.len(), tick.fates.len()), (2, 0));
+    assert!(rt; tick.windows.len() == 2 && tick.fates.is_empty());
     let done = entry(bob, 1, Ok(Reply::Done(Rule::Default)));
     has_entry(rt, tick.windows[0].as_slice(), done);
     assert!(rt; tick.windows[1].is_empty());
@@ -74,7 +77,7 @@ fn first_tick(rt: &impl Abort, tick: &Tick, bob: Seat) {
 
 // The window has this entry alone.
 fn has_entry(rt: &impl Abort, window: &[Entry], due: Entry) {
-    assert_eq!(rt; window, [due].as_slice());
+    same(rt, &window, &[due].as_slice());
 }
 
 // Parts are set inside the world, for 16 players at most.
@@ -82,7 +85,7 @@ fn has_entry(rt: &impl Abort, window: &[Entry], due: Entry) {
 fn an_opening_has_its_parts_and_players(rt: HostRuntime) -> Result<(), Fail> {
     let mut opening = opening(rt.alloc(), 16)?;
     has_parts(&rt, &mut opening);
-    assert_eq!(rt; opening.names().len(), 16);
+    same(&rt, &opening.names().len(), &16);
     are_too_many(&rt, rt.alloc(), 17)
 }
 
@@ -90,11 +93,11 @@ fn has_parts(rt: &impl Abort, opening: &mut Opening) {
     let inside = Pos::new(31, 63, 15);
     is_told(rt, opening, inside, Ok(()));
     is_told(rt, opening, Pos::new(32, 1, 5), Err(Refusal::OutOfWorld));
-    assert_eq!(rt; opening.terrain().frozen().cell(inside), Cell::Stone);
+    same(rt, &opening.terrain().frozen().cell(inside), &Cell::Stone);
 }
 
 fn is_told(rt: &impl Abort, opening: &mut Opening, p: Pos, due: Result<(), Refusal>) {
-    assert_eq!(rt; opening.set(p, Part::Stone), due);
+    same(rt, &opening.set(p, Part::Stone), &due);
 }
 
 fn are_too_many(rt: &impl Abort, alloc: Global, players: usize) -> Result<(), Fail> {

@@ -10,6 +10,8 @@ mod events;
 #[cfg(test)]
 mod maps;
 #[cfg(test)]
+mod same;
+#[cfg(test)]
 mod ticks;
 #[cfg(test)]
 mod woken;

@@ -1,6 +1,7 @@
 //! Maps by the texts of their cells, and their ticks on several threads.
 ghost use Rattle.std.specs.Prelude.{◌<◌, ◌≤◌};
 
+use crate::same::same;
 use std::alloc::{AllocError, Global};
 use std::process::Abort;
 use std::test::Fail;
@@ -69,7 +70,7 @@ fn is_tick(
     fates: &[(Pos, Fate)],
 ) {
     assert!(rt; parted.sectors() == next.sectors());
-    assert_eq!(rt; told, fates);
+    same(rt, &told, &fates);
 }
 
 pub fn parted<R: Threads + Sync, G: Gate + Sync>(

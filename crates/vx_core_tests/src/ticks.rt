@@ -1,5 +1,6 @@
 //! Ticks on several threads: what comes of them, and that they are on several.
 use crate::maps::{Placed, all_agree, parted, world};
+use crate::same::same;
 use std::alloc::{AllocError, Global};
 use std::process::Abort;
 use std::sync::atomic::{AtomicU64, Ordering};
@@ -131,7 +132,7 @@ fn two_workers_of_a_tick_meet(rt: HostRuntime) -> Result<(), Fail> {
         missed: AtomicU64::new(0),
     };
     meet(&rt, rt.alloc(), &meeting)?;
-    assert_eq!(&rt; meeting.missed.load(Ordering::SeqCst), 0);
+    same(&rt, &meeting.missed.load(Ordering::SeqCst), &0);
     Ok(())
 }
 

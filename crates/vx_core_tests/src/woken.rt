@@ -1,5 +1,6 @@
 //! Ticks that look where something changed, beside ticks that look everywhere.
 use crate::maps::{Placed, all_agree, world};
+use crate::same::same;
 use std::alloc::{AllocError, Global};
 use std::marker::Brand;
 use std::process::Abort;
@@ -187,7 +188,7 @@ fn told(
     fates: &[(Pos, Fate)],
 ) -> Result<(), Fail> {
     let done = play.tick(alloc).ok().ok_or("no tick")?;
-    assert_eq!(rt; done.fates.as_slice(), fates);
+    same(rt, &done.fates.as_slice(), &fates);
     Ok(())
 }
 

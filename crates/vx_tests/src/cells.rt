@@ -2,6 +2,7 @@
 ghost use Rattle.std.specs.Prelude.{◌≤◌};
 ghost use Rattle.vx_cells.specs.SectorCells.{IsSlot};
 
+use crate::same::same;
 use std::alloc::{AllocError, Global};
 use std::process::Abort;
 use std::test::Fail;
@@ -90,7 +91,7 @@ fn put_both(rt: &impl Abort, cells: &mut Cells, copy: &mut Cells, p: Pos, cell: 
 }
 
 fn compares(rt: &impl Abort, cells: &Cells, other: &Cells, due: bool) {
-    assert_eq!(rt; (*cells == *other, *cells != *other), (due, !due));
+    same(rt, &(*cells == *other, *cells != *other), &(due, !due));
 }
 
 #[test]

@@ -1,4 +1,5 @@
 //! Deciders by an index, with verdicts kept and without, beside the walk over all regions.
+use crate::same::same;
 use std::alloc::Global;
 use std::process::Abort;
 use std::test::Fail;
@@ -65,11 +66,11 @@ fn all_say(rt: &impl Abort, cached: &mut Cached<'_>, ann: &Subject, verdict: &Ve
 }
 
 fn says<D: Decide>(rt: &impl Abort, decider: &D, ann: &Subject, verdict: &Verdict) {
-    assert_eq!(rt; decider.decide(ann, Action::Breaking, PLACE), *verdict);
+    same(rt, &decider.decide(ann, Action::Breaking, PLACE), verdict);
 }
 
 fn keeps(rt: &impl Abort, cached: &mut Cached<'_>, ann: &Subject, verdict: &Verdict) {
-    assert_eq!(rt; cached.ask(ann, Action::Breaking, PLACE), *verdict);
+    same(rt, &cached.ask(ann, Action::Breaking, PLACE), verdict);
 }
 
 // One more than are kept, and then the first again, which gave way to the last.
@@ -104,7 +105,7 @@ fn place(number: u32) -> Pos {
 
 fn ask_at(rt: &impl Abort, cached: &mut Cached<'_>, plain: &Plain<'_>, ann: &Subject, p: Pos) {
     let told = plain.decide(ann, Action::Placing, p);
-    assert_eq!(rt; cached.ask(ann, Action::Placing, p), told);
+    same(rt, &cached.ask(ann, Action::Placing, p), &told);
 }
 
 fn ann() -> Result<Subject, Fail> {

@@ -1,4 +1,5 @@
 //! The desk, alone and shared by threads.
+use crate::same::same;
 use std::alloc::{AllocError, Global};
 use std::marker::Brand;
 use std::process::Abort;
@@ -31,7 +32,7 @@ fn leave(
     first: &Version,
 ) -> Result<(), Fail> {
     edit_on(rt, alloc, desk)?;
-    assert_eq!(rt; seen(first), (1, 1, 1));
+    same(rt, &seen(first), &(1, 1, 1));
     Ok(())
 }
 
@@ -53,19 +54,19 @@ fn answers(
     due: Result<Edited, DeskError>,
 ) -> Result<(), Fail> {
     let edit = define(alloc, id)?;
-    assert_eq!(rt; desk.apply(alloc, edit), due);
+    same(rt, &desk.apply(alloc, edit), &due);
     Ok(())
 }
 
 fn fixes_two(rt: &impl Abort, desk: &DeskState<Brand>) -> Result<(), Fail> {
     let version = desk.fix(2)?;
-    assert_eq!(rt; seen(&version), (2, 2, 2));
+    same(rt, &seen(&version), &(2, 2, 2));
     Ok(())
 }
 
 fn has_two(rt: &impl Abort, desk: &DeskState<Brand>) {
     let counts = (desk.count(), desk.accepted().len());
-    assert_eq!(rt; (counts, desk.policy().regions().count()), ((2, 2), 2));
+    same(rt, &(counts, desk.policy().regions().count()), &((2, 2), 2));
 }
 
 #[test]
@@ -92,7 +93,7 @@ fn fixes(
     due: (u64, u64, u32),
 ) -> Result<(), Fail> {
     let version = desk.fix(rt, tick)?;
-    assert_eq!(rt; seen(&version), due);
+    same(rt, &seen(&version), &due);
     Ok(())
 }
 
@@ -104,7 +105,7 @@ fn tells(
     number: u32,
 ) -> Result<(), Fail> {
     let edit = define(alloc, id)?;
-    assert_eq!(rt; desk.edit(rt, alloc, edit), told(number));
+    same(rt, &desk.edit(rt, alloc, edit), &told(number));
     Ok(())
 }
 
@@ -121,7 +122,7 @@ where
 {
     let mut counts = edit_by_two(rt, desk);
     counts.sort_unstable();
-    assert_eq!(rt; counts, [1, 2, 3, 4, 5, 6, 7, 8]);
+    same(rt, &counts, &[1, 2, 3, 4, 5, 6, 7, 8]);
 }
 
 // The counts that two threads are told, each of four definitions.

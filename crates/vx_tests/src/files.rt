@@ -1,4 +1,5 @@
 //! The regions file, which no program reads yet.
+use crate::same::same;
 use std::alloc::{AllocError, Global};
 use std::process::Abort;
 use std::test::Fail;
@@ -64,7 +65,7 @@ fn each_is_told(rt: &impl Abort, decider: &Plain<'_>, cases: &[(&str, Action, Ve
     for (name, action, verdict) in cases {
         let player = Subject::Player(Name::read(name).expect(rt, "no such name"));
         let told = decider.decide(&player, *action, Pos::new(4, 1, 4));
-        assert_eq!(rt; told, *verdict, "{name} {action:?}");
+        same(rt, &told, verdict);
     }
 }
 
@@ -76,7 +77,7 @@ fn a_file_of_all_that_can_be_said(rt: HostRuntime) -> Result<(), Fail> {
 }
 
 fn is_all_of_mill(rt: &impl Abort, regions: &RegionSet) {
-    assert_eq!(rt; [regions.count(), regions.last()], [2, 2]);
+    same(rt, &[regions.count(), regions.last()], &[2, 2]);
     is_mill(rt, region(rt, regions, 1));
     is_town(rt, region(rt, regions, 2));
     is_global(rt, regions);
@@ -88,8 +89,12 @@ fn is_all_of_mill(rt: &impl Abort, regions: &RegionSet) {
 }
 
 fn is_mill(rt: &impl Abort, mill: &Region) {
-    assert_eq!(rt; mill.id().as_str(), "mill");
-    assert_eq!(rt; (mill.priority(), mill.parent()), (-3, Some(RegionNo(2))));
+    same(rt, &mill.id().as_str(), &"mill");
+    same(
+        rt,
+        &(mill.priority(), mill.parent()),
+        &(-3, Some(RegionNo(2))),
+    );
     contains(rt, mill, Pos::new(1, -4, 1), true);
     contains(rt, mill, Pos::new(1, 70, 1), true);
     contains(rt, mill, Pos::new(1, -5, 1), false);
@@ -106,8 +111,8 @@ fn is_mill(rt: &impl Abort, mill: &Region) {
 }
 
 fn is_town(rt: &impl Abort, town: &Region) {
-    assert_eq!(rt; town.id().as_str(), "town");
-    assert_eq!(rt; (town.priority(), town.parent()), (0, None));
+    same(rt, &town.id().as_str(), &"town");
+    same(rt, &(town.priority(), town.parent()), &(0, None));
     contains(rt, town, Pos::new(-20, 1, -20), true);
     contains(rt, town, Pos::new(20, 9, 20), true);
     contains(rt, town, Pos::new(-21, 1, -20), false);
@@ -115,11 +120,11 @@ fn is_town(rt: &impl Abort, town: &Region) {
 }
 
 fn contains(rt: &impl Abort, region: &Region, p: Pos, due: bool) {
-    assert_eq!(rt; region.contains(p), due, "{p:?}");
+    same(rt, &region.contains(p), &due);
 }
 
 fn sets(rt: &impl Abort, region: &Region, flag: Flag, due: Option<Setting>) {
-    assert_eq!(rt; region.setting(flag), due, "{flag}");
+    same(rt, &region.setting(flag), &due);
 }
 
 fn is_global(rt: &impl Abort, regions: &RegionSet) {
@@ -134,13 +139,13 @@ fn is_global(rt: &impl Abort, regions: &RegionSet) {
 }
 
 fn sets_global(rt: &impl Abort, regions: &RegionSet, flag: Flag, due: Option<Setting>) {
-    assert_eq!(rt; regions.setting(RegionNo(0), flag), due, "{flag}");
+    same(rt, &regions.setting(RegionNo(0), flag), &due);
 }
 
 fn is_associated(rt: &impl Abort, regions: &RegionSet, name: &str, number: u32, due: Association) {
     let player = Subject::Player(Name::read(name).expect(rt, "no such name"));
     let association = regions.association(&player, RegionNo(number));
-    assert_eq!(rt; association, due, "{name} {number}");
+    same(rt, &association, &due);
 }
 
 fn setting(state: State, group: Group) -> Option<Setting> {
@@ -159,23 +164,19 @@ fn each_beginning_of_a_file_is_read_or_is_none(rt: HostRuntime) {
         for end in 0..text.len() {
             match read_policy(alloc, &text.as_bytes()[..end]) {
                 Ok(_) => {}
-                Err(fault) => assert_eq!(rt; fault, Unread::Faulty, "{end}"),
+                Err(fault) => same(&rt, &fault, &Unread::Faulty),
             }
         }
     }
 }
 
 fn refused(rt: &impl Abort, alloc: Global, bytes: &[u8]) {
-    assert_eq!(rt;
-        read_policy(alloc, bytes).err(),
-        Some(Unread::Faulty),
-        "{bytes:?}"
-    );
+    same(rt, &read_policy(alloc, bytes).err(), &Some(Unread::Faulty));
 }
 
 fn counts(rt: &impl Abort, alloc: Global, text: &str, regions: u32) -> Result<(), Fail> {
     let policy = read_policy(alloc, text.as_bytes())?;
-    assert_eq!(rt; policy.regions().count(), regions, "{text}");
+    same(rt, &policy.regions().count(), &regions);
     Ok(())
 }
 
@@ -342,7 +343,7 @@ fn want_of_memory_is_no_bad_file(rt: HostRuntime) {
     for text in [SPAWN, MILL] {
         match read_policy(rt.alloc(), text.as_bytes()) {
             Ok(policy) => assert!(rt; policy.regions().count() > 0),
-            Err(fault) => assert_eq!(rt; fault, Unread::NoMemory),
+            Err(fault) => same(&rt, &fault, &Unread::NoMemory),
         }
     }
 }

@@ -13,6 +13,8 @@ mod files;
 #[cfg(test)]
 mod policies;
 #[cfg(test)]
+mod same;
+#[cfg(test)]
 mod sectors;
 #[cfg(test)]
 mod shapes;

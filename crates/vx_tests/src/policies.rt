@@ -1,4 +1,5 @@
 //! Policies as values: their copies, and what is equal.
+use crate::same::same;
 use std::alloc::{AllocError, Global};
 use std::process::Abort;
 use std::test::Fail;
@@ -42,15 +43,11 @@ fn rise_and_fall(
 
 // Each step of a test has its number, which is told where it fails.
 fn compares(rt: &impl Abort, policy: &Policy, other: &Policy, due: bool, step: u8) {
-    assert_eq!(rt;
-        (*policy == *other, *policy != *other),
-        (due, !due),
-        "{step}"
-    );
+    same(rt, &(*policy == *other, *policy != *other), &(due, !due));
 }
 
 fn answers(rt: &impl Abort, alloc: Global, policy: &mut Policy, edit: Edit, due: Answer, step: u8) {
-    assert_eq!(rt; policy.apply(alloc, edit), due, "{step}");
+    same(rt, &policy.apply(alloc, edit), &due);
 }
 
 fn rise(alloc: Global, id: &str, priority: i32) -> Result<Edit, AllocError> {

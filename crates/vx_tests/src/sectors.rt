@@ -1,6 +1,7 @@
 //! The windows of a sector, by its calls.
 ghost use Rattle.std.specs.Prelude.{◌≡◌, IfOk};
 
+use crate::same::same;
 use std::alloc::{AllocError, Global};
 use std::process::Abort;
 use std::test::Fail;
@@ -36,7 +37,7 @@ fn a_window_is_judged_by_its_version(rt: HostRuntime) -> Result<(), Fail> {
 
 fn leaves(rt: &impl Abort, sector: Sector, bob: &Seat) {
     let left = sector.into_entries();
-    assert_eq!(rt; left.as_slice(), [done(bob)].as_slice());
+    same(rt, &left.as_slice(), &[done(bob)].as_slice());
 }
 
 fn two_windows(
@@ -55,7 +56,7 @@ fn second_window(rt: &impl Abort, sector: &mut Sector, next: Fresh, bob: &Seat)
     requires { next.cells ≡ sector.old.cells }
 {
     let closed = sector.renew(next);
-    assert_eq!(rt; closed.as_slice(), refused(bob).as_slice());
+    same(rt, &closed.as_slice(), &refused(bob).as_slice());
     judged_anew(rt, sector, &[done(bob)]);
 }
 
@@ -79,11 +80,12 @@ fn judged_anew(rt: &impl Abort, sector: &mut Sector, calls: &[Entry]) {
 // The entries of closed windows and of all, the number of the version, and whether the cells are
 // those with which the window began.
 fn stands(rt: &impl Abort, sector: &Sector, due: (u64, u64, u64), is_base: bool) {
-    assert_eq!(rt;
-        (sector.closed(), sector.count(), sector.version().tick),
-        due
+    same(
+        rt,
+        &(sector.closed(), sector.count(), sector.version().tick),
+        &due,
     );
-    assert_eq!(rt; *sector.base() == *sector.cells(), is_base);
+    same(rt, &(sector.base() == sector.cells()), &is_base);
 }
 
 // Gives the commands one after another, compares the answers, and finds them in the record.
@@ -91,12 +93,12 @@ fn play(rt: &impl Abort, sector: &mut Sector, calls: &[Entry]) {
     for call in calls {
         answers(rt, sector, call);
     }
-    assert_eq!(rt; sector.entries(), calls);
+    same(rt, &sector.entries(), &calls);
 }
 
 fn answers(rt: &impl Abort, sector: &mut Sector, call: &Entry) {
     let cmd = call.cmd;
-    assert_eq!(rt; sector.act(call.seat, cmd), call.answer, "{cmd:?}");
+    same(rt, &sector.act(call.seat, cmd), &call.answer);
 }
 
 // The second window over these cells, under a policy without regions.

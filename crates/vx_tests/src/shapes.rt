@@ -1,4 +1,5 @@
 //! Positions, bounds and shapes where no world lies, and their copies.
+use crate::same::same;
 use std::alloc::{AllocError, Global};
 use std::process::Abort;
 use std::test::Fail;
@@ -19,26 +20,23 @@ fn steps_lead_to_the_neighbor_and_not_past_the_ends(rt: HostRuntime) {
 }
 
 fn steps(rt: &impl Abort, dir: Dir, due: Pos, is_up: bool) {
-    assert_eq!(rt; Pos::new(1, 2, 3).step(dir), Some(due));
+    same(rt, &Pos::new(1, 2, 3).step(dir), &Some(due));
     let last = Pos::new(i32::MAX, i32::MAX, i32::MAX);
-    assert_eq!(rt; last.step(dir).is_none(), is_up);
+    same(rt, &last.step(dir).is_none(), &is_up);
     let first = Pos::new(i32::MIN, i32::MIN, i32::MIN);
-    assert_eq!(rt; first.step(dir).is_none(), !is_up);
+    same(rt, &first.step(dir).is_none(), &!is_up);
 }
 
 #[test]
 fn sectors_count_from_the_north_west(rt: HostRuntime) -> Result<(), Fail> {
     let bounds = Bounds::new(3, 2, 2).ok_or("no bounds")?;
-    assert_eq!(rt;
-        [bounds.sectors(), bounds.span(), bounds.sector_cells()],
-        [6, 32, 65_536]
+    same(
+        &rt,
+        &[bounds.sectors(), bounds.span(), bounds.sector_cells()],
+        &[6, 32, 65_536],
     );
     for (x, z, sector) in [(0, 0, 0), (32, 31, 1), (95, 0, 2), (31, 32, 3), (95, 63, 5)] {
-        assert_eq!(rt;
-            bounds.sector_of(Pos::new(x, 9, z)),
-            Some(sector),
-            "at {x} {z}"
-        );
+        same(&rt, &bounds.sector_of(Pos::new(x, 9, z)), &Some(sector));
     }
     Ok(())
 }
@@ -57,7 +55,7 @@ fn distances_may_be_as_great_as_the_numbers(rt: HostRuntime) -> Result<(), Fail>
         (1, last, 0, false),
         (last - 1, 0, first + 1, false),
     ] {
-        assert_eq!(rt; half.contains(Pos::new(x, y, z)), is_in, "at {x} {y} {z}");
+        same(&rt, &half.contains(Pos::new(x, y, z)), &is_in);
     }
     Ok(())
 }
@@ -97,7 +95,7 @@ fn cuboids_compare(rt: &impl Abort, alloc: Global, cuboid: &Shape) -> Result<(),
 
 fn is_cuboid(rt: &impl Abort, shape: &Shape, first: Pos, last: Pos, due: bool) {
     let other = Shape::cuboid(first, last);
-    assert_eq!(rt; (*shape == other, *shape != other), (due, !due));
+    same(rt, &(*shape == other, *shape != other), &(due, !due));
 }
 
 fn is_its_copy(rt: &impl Abort, alloc: Global, shape: &Shape) -> Result<(), AllocError> {

@@ -1,4 +1,5 @@
 //! Words that no script reads or writes, or not all of them.
+use crate::same::same;
 use std::alloc::{AllocError, Global};
 use std::fmt::Display;
 use std::process::Abort;
@@ -31,7 +32,7 @@ fn is_shown<T: Display>(
     due: &str,
 ) -> Result<(), AllocError> {
     let text = format!(in alloc; "{shown}")?;
-    assert_eq!(rt; text.as_str(), due);
+    same(rt, &text.as_str(), &due);
     Ok(())
 }
 
@@ -99,18 +100,14 @@ fn ids_and_names_are_shown_in_lower_case(rt: HostRuntime) -> Result<(), Fail> {
 }
 
 fn is_neither(rt: &impl Abort, text: &str) {
-    assert_eq!(rt; Id::read(text), Err(BadId), "at {text:?}");
-    assert_eq!(rt; Name::read(text), Err(BadName), "at {text:?}");
+    same(rt, &Id::read(text), &Err(BadId));
+    same(rt, &Name::read(text), &Err(BadName));
 }
 
 fn has_text(rt: &impl Abort, cell: &Cell, kind: Kind, text: &str) {
-    assert_eq!(rt; cell.kind(), kind, "{text}");
-    is_written(rt, cell, text);
-    assert_eq!(rt; Cell::read(text), Some(*cell), "{text}");
-}
-
-fn is_written(rt: &impl Abort, cell: &Cell, text: &str) {
-    assert_eq!(rt; cell.text().as_str(), text);
+    same(rt, &cell.kind(), &kind);
+    same(rt, &cell.text().as_str(), &text);
+    same(rt, &Cell::read(text), &Some(*cell));
 }
 
 // A text is read back as its cell, also where no part begins as that.

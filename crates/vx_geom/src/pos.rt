@@ -1,4 +1,4 @@
-ghost use Rattle.std.specs.Prelude.{◌≡◌, SomeIff};
+ghost use Rattle.std.specs.Prelude.{◌≡◌, ◌+ℤ◌, SomeIff};
 ghost use Rattle.vx_geom.specs.Neighbor.{neighbor, FitsPos};
 ghost use Rattle.vx_geom.specs.Order.{comes_before};
 
@@ -35,30 +35,42 @@ impl Pos {
         ensures { SomeIff result (FitsPos (neighbor self dir)) (neighbor self dir) }
     {
         match dir {
-            Dir::East => Some(Pos {
-                x: self.x.checked_add(1)?,
-                ..self
-            }),
-            Dir::West => Some(Pos {
-                x: self.x.checked_sub(1)?,
-                ..self
-            }),
-            Dir::Up => Some(Pos {
-                y: self.y.checked_add(1)?,
-                ..self
-            }),
-            Dir::Down => Some(Pos {
-                y: self.y.checked_sub(1)?,
-                ..self
-            }),
-            Dir::South => Some(Pos {
-                z: self.z.checked_add(1)?,
-                ..self
-            }),
-            Dir::North => Some(Pos {
-                z: self.z.checked_sub(1)?,
-                ..self
-            }),
+            Dir::East => self.further_east(1),
+            Dir::West => self.further_east(-1),
+            Dir::Up => self.further_up(1),
+            Dir::Down => self.further_up(-1),
+            Dir::South => self.further_south(1),
+            Dir::North => self.further_south(-1),
         }
+    }
+
+    // The position so much further east, or `None` past the ends of `i32`.
+    fn further_east(self, by: i32) -> Option<Pos>
+        ensures { let p : Pos = record self { x = self.x +ℤ by } in SomeIff result (FitsPos p) p }
+    {
+        Some(Pos {
+            x: self.x.checked_add(by)?,
+            ..self
+        })
+    }
+
+    // The same upwards.
+    fn further_up(self, by: i32) -> Option<Pos>
+        ensures { let p : Pos = record self { y = self.y +ℤ by } in SomeIff result (FitsPos p) p }
+    {
+        Some(Pos {
+            y: self.y.checked_add(by)?,
+            ..self
+        })
+    }
+
+    // The same to the south.
+    fn further_south(self, by: i32) -> Option<Pos>
+        ensures { let p : Pos = record self { z = self.z +ℤ by } in SomeIff result (FitsPos p) p }
+    {
+        Some(Pos {
+            z: self.z.checked_add(by)?,
+            ..self
+        })
     }
 }

@@ -21,7 +21,7 @@ use Rattle.std.specs.Bool.{beq}
 use Rattle.vx_block.specs.Components.{is_dust, is_device, is_component}
 use Rattle.vx_block.specs.Conductors.{conducts}
 use Rattle.vx_cells.specs.SectorCells.{is_chest}
-use Rattle.vx_cells.specs.Codes.{code_count, is_odd, dir_at, lamp_at, repeater_at, cell_with_state, cell_of}
+use Rattle.vx_cells.specs.Codes.{code_count, is_odd, mount_at, dir_at, lamp_at, repeater_at, cell_with_state, cell_of}
 
 pistons : ℕ → Cell
 pistons n = if nat_lt n 141 then cell.Piston (dir_at ((n - 129) / 2)) false (is_odd (n - 129))
@@ -37,6 +37,23 @@ past n k a b far = grind arith
 here : {X : Type 0} (n k : ℕ) (a b : X) → n < k → (if nat_lt n k then a else b) ≡ a
 here n k a b near = grind arith
 
+less : (k n : ℕ) → k + n - k ≡ n
+less k n = omega arith
+
+pub at_dust : (n : ℕ) → n < 16 → cell_of (8 + n) ≡ cell.Dust n
+unfolding cell_of cell_with_state
+at_dust n small = past (8 + n) 8 _ _ (omega arith) ∙ here (8 + n) 24 _ _ (omega (arith, small)) ∙ ap cell.Dust (less 8 n)
+
+pub at_torch : (n : ℕ) → n < 10 → cell_of (24 + n) ≡ cell.Torch (mount_at (n / 2)) (is_odd n)
+unfolding cell_of cell_with_state
+at_torch n small = past (24 + n) 8 _ _ (omega arith) ∙ past (24 + n) 24 _ _ (omega arith) ∙ here (24 + n) 34 _ _ (omega (arith, small))
+    ∙ ap (λ k. cell.Torch (mount_at (k / 2)) (is_odd k)) (less 24 n)
+
+pub at_lever : (n : ℕ) → n < 12 → cell_of (34 + n) ≡ cell.Lever (dir_at (n / 2)) (is_odd n)
+unfolding cell_of cell_with_state
+at_lever n small = past (34 + n) 8 _ _ (omega arith) ∙ past (34 + n) 24 _ _ (omega arith) ∙ past (34 + n) 34 _ _ (omega arith)
+    ∙ here (34 + n) 46 _ _ (omega (arith, small)) ∙ ap (λ k. cell.Lever (dir_at (k / 2)) (is_odd k)) (less 34 n)
+
 before_repeaters : (n : ℕ) → 46 ≤ n → cell_of n ≡ (if nat_lt n 126 then cell.Repeater (repeater_at (n - 46)) else later n)
 unfolding cell_of cell_with_state later pistons
 before_repeaters n far = past n 8 _ _ (omega (arith, far)) ∙ past n 24 _ _ (omega (arith, far)) ∙ past n 34 _ _ (omega (arith, far)) ∙ past n 46 _ _ far
@@ -48,8 +65,10 @@ before_pistons n far = before_repeaters n (omega (arith, far)) ∙ past n 126 _ 
 at_repeater_offset : (n : ℕ) → 46 ≤ n → n < 126 → cell_of n ≡ cell.Repeater (repeater_at (n - 46))
 at_repeater_offset n far near = before_repeaters n far ∙ here n 126 _ _ near
 
-less : (k n : ℕ) → k + n - k ≡ n
-less k n = omega arith
+pub at_lamp : (n : ℕ) → n < 3 → cell_of (126 + n) ≡ cell.Lamp (lamp_at n)
+unfolding later
+at_lamp n small = before_repeaters (126 + n) (omega arith) ∙ past (126 + n) 126 _ _ (omega arith) ∙ here (126 + n) 129 _ _ (omega (arith, small))
+    ∙ ap (λ k. cell.Lamp (lamp_at k)) (less 126 n)
 
 pub at_repeater : (n : ℕ) → n < 80 → cell_of (46 + n) ≡ cell.Repeater (repeater_at n)
 at_repeater n small = at_repeater_offset (46 + n) (omega arith) (omega (arith, small)) ∙ ap (λ k. cell.Repeater (repeater_at k)) (less 46 n)

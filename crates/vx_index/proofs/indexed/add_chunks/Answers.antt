@@ -1,4 +1,5 @@
 use Rattle.std.proofs.Common.{arith}
+use Rattle.std.proofs.lemmas.Result.{IfOk-from_err}
 use Rattle.vx_index.proofs.Edges.{west_fits, north_fits}
 use Rattle.vx_index.proofs.indexed.add_chunks.Goals as goal
 
@@ -11,3 +12,9 @@ pub new-requires-clause-north : goal.new-requires-clause-north
 new-requires-clause-north c =
     rw c.north.ensures.value
     (north_fits c.args.bounds.now c.args.sector c.loop-row.row c.soundness.ensures c.requires.sector (omega (arith, c.span-side.ensures)))
+
+pub returns-in_err-new : goal.returns-in_err-new
+returns-in_err-new c = IfOk-from_err c.from_residual.result _ c.from_residual.ensures.0
+
+pub returns-in_err-push : goal.returns-in_err-push
+returns-in_err-push c = IfOk-from_err c.from_residual-in_err-push.result _ c.from_residual-in_err-push.ensures.0

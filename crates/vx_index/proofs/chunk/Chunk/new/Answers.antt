@@ -1,4 +1,5 @@
 use Rattle.std.proofs.Common.{arith}
+use Rattle.std.proofs.lemmas.Result.{IfOk-from_err}
 use Rattle.vx_index.specs.Patches.{square}
 use Rattle.vx_index.proofs.Adding.{of_none, of_one_more}
 use Rattle.vx_index.proofs.chunk.Chunk.new.Goals as goal
@@ -12,3 +13,9 @@ loop-place-preserved c =
     of_one_more c.args.regions.now.entries (square c.args.west c.args.north) c.loop-place.place _
     c.loop-place.patches.items c.add_patches.new.patches.items (omega (arith, c.loop-place-test.true)) c.nth.ensures
     c.loop-place.invariant (rw c.shape.ensures at c.in_ok-add_patches.ensures)
+
+pub returns-in_err-add_patches-clause-of : goal.returns-in_err-add_patches-clause-of
+returns-in_err-add_patches-clause-of c = IfOk-from_err c.from_residual.result _ c.from_residual.ensures.0
+
+pub returns-in_err-add_patches-clause-columns : goal.returns-in_err-add_patches-clause-columns
+returns-in_err-add_patches-clause-columns c = IfOk-from_err c.from_residual.result _ c.from_residual.ensures.0

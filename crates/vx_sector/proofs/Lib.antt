@@ -3,6 +3,7 @@ pub mod Catching
 pub mod ChestLemmas
 pub mod ContentsLemmas
 pub mod Keeping
+pub mod Leaving
 pub mod Outside
 pub mod Transfers
 pub mod WindowLemmas

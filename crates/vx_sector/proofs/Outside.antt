@@ -1,5 +1,5 @@
 -- Which commands are out of the world.
-use Rattle.std.proofs.Common.{◌≡◌, ◌≢◌, ◌<◌, Bool, true, false, not, if◌then◌else◌, Result, Err, refl, subst, inl, inr}
+use Rattle.std.proofs.Common.{◌≡◌, ◌≢◌, ◌<◌, ◌⊎◌, ◌↔◌, Bool, true, false, not, if◌then◌else◌, Result, Err, refl, subst, ◌∙◌, inl, inr}
 use Rattle.std.proofs.lemmas.Bool.{cases_Bool, leb-false}
 use Rattle.vx_cells.specs.SectorCells.{SectorCells, holds}
 use Rattle.vx_region.specs.Regions.{Regions}
@@ -11,7 +11,7 @@ use Rattle.vx_sector.specs.Laws.{OutsideIsRefused}
 use Rattle.vx_sector.specs.declared.cmd.Cmd.{Cmd}
 use Rattle.vx_sector.specs.declared.reply.Reply.{Reply}
 use Rattle.vx_sector.specs.declared.refusal.Refusal.{Refusal}
-use Rattle.vx_sector.specs.declared.refusal.Refusal.TheVariants.{OutOfWorld, HistoryFull}
+use Rattle.vx_sector.specs.declared.refusal.Refusal.TheVariants.{OutOfWorld, HistoryFull, NoMemory}
 use Rattle.vx_sector.proofs.ActingLemmas.{answer_recorded}
 
 recorded_inside : (held full : Bool) (answer : Result Reply Refusal) → held ≡ true → is_recorded answer ≡ true
@@ -66,3 +66,26 @@ pub after_answer : (s : SectorData) (seat : SeatData) (cmd : Cmd) (answer : Resu
 unfolding sector_after
 after_answer s seat cmd answer acts =
     let kept : is_recorded answer ≡ true = rw acts (answer_recorded s.version.policy s.cells seat cmd) in rw kept refl
+
+-- a refusal that leaves no trace leaves the sector
+pub untraced : (s : SectorData) (seat : SeatData) (cmd : Cmd) (refusal : Refusal) → leaves_trace refusal ≡ false → s ≡ sector_after s seat cmd (Err refusal)
+unfolding sector_after
+untraced s seat cmd refusal no_trace = rw no_trace refl
+
+-- at a position of the sector, where there is room, this is answered by the rules, or for want of memory
+module _ (s : SectorData) (seat : SeatData) (cmd : Cmd) (answer : Result Reply Refusal) (held : holds s.cells (place_of cmd) ≡ true) (free : is_full s ≡ false)
+    (said : (answer ≡ rules_answer s.version.policy s.cells seat cmd) ⊎ (answer ≡ Err NoMemory)) where
+  pub there_answered : (answer ≡ answer_of s seat cmd) ⊎ (answer ≡ Err NoMemory)
+  there_answered = elim said [ inl same ↦ inl (same ∙ answered_by_the_rules s seat cmd held free) | inr lost ↦ inr lost ]
+
+  never : (refusal : Refusal) → leaves_trace refusal ≡ false → NoMemory ≢ refusal → answer ≢ Err refusal
+  never refusal no_trace other is = elim said [
+    | inl same ↦ not_answered s.version.policy s.cells seat cmd answer refusal same no_trace is
+    | inr lost ↦ other (cc)
+  ]
+
+  pub there_not_outside : (answer ≡ Err OutOfWorld) ↔ (holds s.cells (place_of cmd) ≡ false)
+  there_not_outside = (λ is. absurd (never OutOfWorld refl (λ same. cc) is), λ elsewhere. absurd (cc))
+
+  pub there_not_full : (answer ≡ Err HistoryFull) ↔ ((holds s.cells (place_of cmd) ≡ true) × (is_full s ≡ true))
+  there_not_full = (λ is. absurd (never HistoryFull refl (λ same. cc) is), λ full. let is : is_full s ≡ true = full.1 in absurd (cc))

@@ -1,15 +1,21 @@
 -- One more entry at the end of a window.
-use Rattle.std.proofs.Common.{◌≡◌, ◌<◌, true, List, [], ◌∷◌, ◌++◌, length-append, refl, ap, sym, subst, arith, ◌∙◌, inl, inr}
+use Rattle.std.proofs.Common.{◌≡◌, ℕ, ◌+◌, ◌<◌, ◌≤◌, true, List, [], ◌∷◌, ◌++◌, map, length, length-append, refl, ap, sym, subst, arith, ◌∙◌, inl, inr}
+use Rattle.std.specs.Prelude.{Vec}
+use Rattle.std.specs.Vec.{vec_len}
+use Rattle.std.specs.declared.alloc.Global.{Global}
 use Rattle.std.proofs.lemmas.Bool.{cases_Bool}
+use Rattle.std.proofs.lemmas.List.{length-map}
 use Rattle.vx_geom.specs.declared.pos.Pos.{Pos}
 use Rattle.vx_sector.specs.declared.effect.Effect.{Effect}
 use Rattle.vx_cells.specs.SectorCells.{SectorCells, holds}
+use Rattle.vx_policy.specs.declared.version.Version.{Version}
 use Rattle.vx_region.specs.Regions.{Regions}
-use Rattle.vx_sector.specs.SectorData.{SectorData, SeatData, EntryData}
+use Rattle.vx_sector.specs.SectorData.{SectorData, SeatData, EntryData, FreshData, entry_of, sector_data}
 use Rattle.vx_sector.specs.Commands.{place_of}
 use Rattle.vx_sector.specs.Acting.{rules_answer, applied, effect_by, cells_by}
-use Rattle.vx_sector.specs.Windows.{cells_after, IsWindow, IsSector, most_entries, count_of, is_full, answer_of, recorded, sector_after}
+use Rattle.vx_sector.specs.Windows.{cells_after, IsWindow, IsSector, most_entries, count_of, is_full, answer_of, recorded, renewed, sector_after}
 use Rattle.vx_sector.specs.declared.cmd.Cmd.{Cmd}
+use Rattle.vx_sector.specs.declared.entry.Entry.{Entry}
 use Rattle.vx_sector.proofs.Outside.{elsewhere_is_refused, full_is_refused, answered_by_the_rules, after_answer, room_where_not_full}
 
 -- the entry has the answer that the rules give on the cells
@@ -59,3 +65,28 @@ command_keeps_sector s seat cmd sector = elim (cases_Bool (holds s.cells (place_
         (sector_recorded s (record { seat = seat; cmd = cmd; answer = rules_answer s.version.policy s.cells seat cmd }) sector (held, refl) (room_where_not_full s free)))
   ]
 ]
+
+-- how many entries there are with those of the windows before
+pub counted : (entries : Vec Entry Global) (closed n : ℕ) → n ≡ vec_len entries → closed + n ≡ length (map entry_of entries.items) + closed
+counted entries closed n same = omega (arith, length-map entries.items entry_of, entries.ok.0)
+
+-- a window with no entry yet over cells that stand twice
+pub begun : (base cells : SectorCells) (version : Version) (entries : List Entry) (closed : ℕ) → base ≡ cells → entries ≡ [] → closed ≤ most_entries
+    → IsSector (sector_data base cells version entries closed)
+begun base cells version entries closed same none most = subst (λ l. IsSector (sector_data base cells version l closed)) (sym none) (record {
+  window = tt;
+  cells = sym same;
+  most = omega (arith, most);
+})
+
+-- and it is the next window of a sector that had so many entries
+pub is_renewed : (base cells : SectorCells) (version : Version) (entries : List Entry) (closed : ℕ) (old : SectorData) (fresh : FreshData) → base ≡ cells → entries ≡ []
+    → record { cells = cells; version = version } ≡ fresh → closed ≡ count_of old → sector_data base cells version entries closed ≡ renewed old fresh
+unfolding renewed
+is_renewed base cells version entries closed old fresh same none view count = λ i. record {
+  base = (same ∙ ap (λ (f : FreshData). f.cells) view) i;
+  cells = (view i).cells;
+  version = (view i).version;
+  entries = map entry_of (none i);
+  closed = count i;
+}

@@ -141,6 +141,16 @@ reply_of regions c seat (OpenChest p) =
 reply_of regions c seat (Put p slot item count) = Done (rule_of (judged regions seat Reaching p))
 reply_of regions c seat (Take p slot count) = Done (rule_of (judged regions seat Reaching p))
 
+-- the reply to a command that nothing stands against, by leave of a rule
+abbrev pub reply_by : Rule → SectorCells → Cmd → Reply
+reply_by rule c (Look p) = Seen (cell_at c p)
+reply_by rule c (Place p part) = Done rule
+reply_by rule c (Break p) = Done rule
+reply_by rule c (Turn p) = Done rule
+reply_by rule c (OpenChest p) = Opened rule (slots_at c p)
+reply_by rule c (Put p slot item count) = Done rule
+reply_by rule c (Take p slot count) = Done rule
+
 -- what a command does where nothing stands against it
 abbrev pub effect_of : SectorCells → Cmd → Effect
 effect_of c (Look p) = Same

@@ -1,9 +1,9 @@
 //! What the rules answer to a command, and what it does.
 ghost use Rattle.std.specs.Prelude.{◌≡◌, ◌⊎◌, true, Some, None, IfOk, IfErr, MatchResult, Ok, Err};
-ghost use Rattle.vx_cells.specs.SectorCells.{IsWhole, holds};
+ghost use Rattle.vx_cells.specs.SectorCells.{SectorCells, IsWhole, holds};
 ghost use Rattle.vx_sector.specs.SectorData.{seat_of};
 ghost use Rattle.vx_sector.specs.Commands.{place_of};
-ghost use Rattle.vx_sector.specs.Acting.{leave, hindrance, slots_at, effect_of, effect_by, permitted_effect, rules_answer, Fits};
+ghost use Rattle.vx_sector.specs.Acting.{hindrance, ok_unless, slots_at, reply_by, effect_of, effect_by, permitted_effect, rules_answer, Fits};
 
 use crate::chests::{is_in_use, opening, putting, taking};
 use crate::cmd::Cmd;
@@ -18,7 +18,6 @@ use std::alloc::Global;
 use vx_block::{Cell, Part};
 use vx_cells::Cells;
 use vx_decide::{Rule, Verdict};
-use vx_flag::Action;
 use vx_geom::Pos;
 
 /// The answer of the rules to a command at a position of the sector, and what the command does. It
@@ -54,7 +53,6 @@ pub fn outcome_of(
 }
 
 // The reply to a command that nothing stands against, and what the command does.
-#[tactic(auto, unfolding(crate::specs::Acting::rules_answer))]
 fn carried_out(
     alloc: Global,
     judge: &mut Judge,
@@ -72,52 +70,64 @@ fn carried_out(
     ensures fits { IfOk result (λ done. Fits cells.now (place_of cmd.now) done.1) }
     ensures judge { judge.new ≡ judge.old }
 {
+    let rule = permitted(judge, seat, cmd)?;
+    by_leave(alloc, cells, rule, cmd)
+}
+
+// The rule that permits the player of the seat what the command asks leave for. A look asks nobody,
+// and its reply tells no rule.
+fn permitted(judge: &mut Judge, seat: &Seat, cmd: &Cmd) -> Result<Rule, Refusal>
+    ensures leave { MatchResult result
+        (λ rule. (c : SectorCells) → rules_answer judge.old.policy c (seat_of seat.now) cmd.now
+        ≡ ok_unless (hindrance c cmd.now) (reply_by rule c cmd.now))
+        (λ refusal. (c : SectorCells) → rules_answer judge.old.policy c (seat_of seat.now) cmd.now
+        ≡ Err refusal) }
+    ensures judge { judge.new ≡ judge.old }
+{
+    let Some(action) = cmd.action() else {
+        return Ok(Rule::Default);
+    };
+    match judge.ask(&seat.name, action, cmd.place()) {
+        Verdict::Permit(rule) => Ok(rule),
+        Verdict::Deny(rule) => Err(Refusal::Denied(rule)),
+    }
+}
+
+// The reply to a command by leave of the rule, and what the command does.
+fn by_leave(alloc: Global, cells: &Cells, rule: Rule, cmd: &Cmd) -> Result<(Reply, Effect), Refusal>
+    requires held { holds cells.now (place_of cmd.now) ≡ true }
+    requires whole { IsWhole cells.now }
+    ensures answer { MatchResult result
+        (λ done. (hindrance cells.now cmd.now ≡ None)
+        × (done.0 ≡ reply_by rule cells.now cmd.now))
+        (λ refusal. (hindrance cells.now cmd.now ≡ Some refusal)
+        ⊎ (refusal ≡ Refusal.NoMemory)) }
+    ensures effect { IfOk result (λ done. done.1 ≡ effect_of cells.now cmd.now) }
+    ensures fits { IfOk result (λ done. Fits cells.now (place_of cmd.now) done.1) }
+{
     match cmd {
         Cmd::Look(p) => Ok((Reply::Seen(cells.get(*p)), Effect::Same)),
-        Cmd::Place(p, part) => {
-            let rule = permitted(judge, seat, Action::Placing, *p)?;
-            Ok((Reply::Done(rule), placing(cells, *p, *part)?))
-        }
-        Cmd::Break(p) => {
-            let rule = permitted(judge, seat, Action::Breaking, *p)?;
-            Ok((Reply::Done(rule), breaking(cells, *p)?))
-        }
-        Cmd::Turn(p) => {
-            let rule = permitted(judge, seat, Action::Turning, *p)?;
-            Ok((Reply::Done(rule), turning(cells, *p)?))
-        }
-        Cmd::OpenChest(p) => {
-            let rule = permitted(judge, seat, Action::Reaching, *p)?;
-            Ok((Reply::Opened(rule, shown(alloc, cells, *p)?), Effect::Same))
-        }
+        Cmd::Place(p, part) => done(rule, placing(cells, *p, *part)),
+        Cmd::Break(p) => done(rule, breaking(cells, *p)),
+        Cmd::Turn(p) => done(rule, turning(cells, *p)),
+        Cmd::OpenChest(p) => Ok((Reply::Opened(rule, shown(alloc, cells, *p)?), Effect::Same)),
         Cmd::Put {
             at,
             slot,
             item,
             count,
-        } => {
-            let rule = permitted(judge, seat, Action::Reaching, *at)?;
-            Ok((
-                Reply::Done(rule),
-                putting(cells, *at, *slot, *item, *count)?,
-            ))
-        }
-        Cmd::Take { at, slot, count } => {
-            let rule = permitted(judge, seat, Action::Reaching, *at)?;
-            Ok((Reply::Done(rule), taking(cells, *at, *slot, *count)?))
-        }
+        } => done(rule, putting(cells, *at, *slot, *item, *count)),
+        Cmd::Take { at, slot, count } => done(rule, taking(cells, *at, *slot, *count)),
     }
 }
 
-// The rule that permits the player of the seat the action at the place.
-fn permitted(judge: &mut Judge, seat: &Seat, action: Action, p: Pos) -> Result<Rule, Refusal>
-    ensures leave { result ≡ leave judge.old.policy (seat_of seat.now) action p }
-    ensures judge { judge.new ≡ judge.old }
+// The reply to what is done by leave of the rule, unless something stands against it.
+fn done(rule: Rule, effect: Result<Effect, Refusal>) -> Result<(Reply, Effect), Refusal>
+    ensures { MatchResult result
+        (λ done. (done.0 ≡ Reply.Done rule) × (effect ≡ Ok done.1))
+        (λ refusal. effect ≡ Err refusal) }
 {
-    match judge.ask(&seat.name, action, p) {
-        Verdict::Permit(rule) => Ok(rule),
-        Verdict::Deny(rule) => Err(Refusal::Denied(rule)),
-    }
+    Ok((Reply::Done(rule), effect?))
 }
 
 // What the chest to be opened holds.

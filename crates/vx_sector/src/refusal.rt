@@ -1,4 +1,5 @@
-ghost use Rattle.std.specs.Prelude.{Some};
+ghost use Rattle.std.specs.Prelude.{◌≡◌, ◌≢◌, Some};
+ghost use Rattle.vx_sector.specs.Texts.{refusal_text};
 
 use std::error::Error;
 use std::fmt;
@@ -45,22 +46,33 @@ impl fmt::Display for Refusal {
     ghost output = { λ refusal. Some (refusal_text refusal) };
 
     fn fmt<W: fmt::Write>(&self, f: &mut fmt::Formatter<W>) -> fmt::Result {
-        match self {
-            Refusal::OutOfWorld => write!(f, "refused 1 out of world"),
-            Refusal::HistoryFull => write!(f, "refused 13 history"),
-            Refusal::Denied(rule) => write!(f, "refused 2 {rule}"),
-            Refusal::Occupied => write!(f, "refused 3 occupied"),
-            Refusal::Nothing => write!(f, "refused 4 nothing"),
-            Refusal::NotLever => write!(f, "refused 5 not lever"),
-            Refusal::NotChest => write!(f, "refused 6 not chest"),
-            Refusal::NotEmpty => write!(f, "refused 7 not empty"),
-            Refusal::Extended => write!(f, "refused 8 extended"),
-            Refusal::Unbreakable => write!(f, "refused 9 unbreakable"),
-            Refusal::NoSlot => write!(f, "refused 10 no slot"),
-            Refusal::OtherItem => write!(f, "refused 11 other item"),
-            Refusal::BadCount => write!(f, "refused 12 bad count"),
-            Refusal::NoMemory => write!(f, "refused 14 memory"),
-        }
+        let Refusal::Denied(rule) = self else {
+            return write!(f, "{}", words(self));
+        };
+        write!(f, "refused 2 {rule}")
+    }
+}
+
+// The number and the words of a refusal other than a denial.
+fn words(refusal: &Refusal) -> &'static str
+    ensures { ((rule : Rule) → refusal.now ≢ Refusal.Denied rule)
+        → result.now ≡ refusal_text refusal.now }
+{
+    match refusal {
+        Refusal::OutOfWorld => "refused 1 out of world",
+        Refusal::HistoryFull => "refused 13 history",
+        Refusal::Denied(_) => "refused 2",
+        Refusal::Occupied => "refused 3 occupied",
+        Refusal::Nothing => "refused 4 nothing",
+        Refusal::NotLever => "refused 5 not lever",
+        Refusal::NotChest => "refused 6 not chest",
+        Refusal::NotEmpty => "refused 7 not empty",
+        Refusal::Extended => "refused 8 extended",
+        Refusal::Unbreakable => "refused 9 unbreakable",
+        Refusal::NoSlot => "refused 10 no slot",
+        Refusal::OtherItem => "refused 11 other item",
+        Refusal::BadCount => "refused 12 bad count",
+        Refusal::NoMemory => "refused 14 memory",
     }
 }
 

@@ -255,7 +255,6 @@ impl Sector {
     /// Carries out a command and records it with its answer, or refuses it by the first cause that
     /// stands against it. A refusal leaves the cells as they were; one for a position outside the
     /// sector, for a full record or for want of memory is not recorded.
-    #[tactic(auto, unfolding(crate::specs::Windows::sector_after))]
     pub fn act(&mut self, seat: Seat, cmd: Cmd) -> Result<Reply, Refusal>
         ensures answer { (result ≡ answer_of self.old (seat_of seat) cmd)
             ⊎ (result ≡ Err Refusal.NoMemory) }
@@ -274,6 +273,19 @@ impl Sector {
         if self.is_full() {
             return Err(Refusal::HistoryFull);
         }
+        self.carry_out(seat, cmd)
+    }
+
+    // Carries out a command at a position of the sector, where there is room for its record.
+    #[tactic(auto, unfolding(crate::specs::Windows::sector_after))]
+    fn carry_out(&mut self, seat: Seat, cmd: Cmd) -> Result<Reply, Refusal>
+        requires room { count_of self.old < most_entries }
+        requires held { holds self.old.cells (place_of cmd) ≡ true }
+        ensures answer { (result
+            ≡ rules_answer self.old.version.policy self.old.cells (seat_of seat) cmd)
+            ⊎ (result ≡ Err Refusal.NoMemory) }
+        ensures after { self.new ≡ sector_after self.old (seat_of seat) cmd result }
+    {
         let alloc = *self.entries.allocator();
         self.cells.soundness();
         let outcome = outcome_of(alloc, &mut self.judge, &self.cells, &seat, &cmd)?;

@@ -15,7 +15,7 @@ use vx_keeper::{Keeper, Places};
 use vx_policy::Policy;
 use vx_region::Name;
 use vx_sector::Cmd;
-use vx_world::{Blanks, Pass, Seats, World};
+use vx_world::{Blanks, Lifted, Pass, Seats, World};
 
 /// What is done with a world of ann, bob and cyd, of two sectors with their border at x 15/16.
 #[derive(Clone, Copy)]
@@ -72,20 +72,46 @@ fn spend_in<A: Places + Send + Sync, B: Seats + Send + Sync, R: Threads + Wait +
 {
     let desk = Desk::new(alloc, opening.policy().try_clone()?);
     let (world, mut keeper, mut passes) = World::<A, B>::new(alloc, opening, desk, blanks)?;
+    played(rt, alloc, day, &world, &mut keeper, &mut passes)?;
+    settled(rt, alloc, day, world.lift(), keeper, passes)
+}
+
+// What is done while the world stands.
+fn played<A: Places + Send + Sync, B: Seats + Send + Sync, R: Threads + Wait + Abort + Sync>(
+    rt: &R,
+    alloc: Global,
+    day: Day,
+    world: &World<A, B>,
+    keeper: &mut Keeper<A>,
+    passes: &mut [Pass<A, B>],
+) -> Result<(), Fail> {
     match day {
-        Day::TwoSectors => gates::two_sectors(rt, &world, &mut passes),
-        Day::TwoWorkers => gates::two_workers(rt, alloc, &world, &mut keeper, &mut passes),
+        Day::TwoSectors => gates::two_sectors(rt, world, passes),
+        Day::TwoWorkers => gates::two_workers(rt, alloc, world, keeper, passes),
         Day::ThreePlayers => passes::three_players(rt, alloc, world, keeper, passes),
-        Day::Tampered => torn::tampered(rt, alloc, world, keeper, passes),
-        Day::SeenAfterATick => ticks::seen_after_a_tick(
-            rt,
-            alloc,
-            &world,
-            &mut keeper,
-            &mut passes,
-        ),
-        Day::EditsCountNext => ticks::edits_count_next(rt, alloc, &world, &mut keeper, &mut passes),
+        Day::Tampered => torn::tampered(rt, alloc, world, keeper),
+        Day::SeenAfterATick => ticks::seen_after_a_tick(rt, alloc, world, keeper, passes),
+        Day::EditsCountNext => ticks::edits_count_next(rt, alloc, world, keeper, passes),
         Day::MadeAgain => refused::made_again(rt, alloc, world, keeper, passes),
+    }
+}
+
+// What is done once it has ended.
+fn settled<A: Places, B: Seats>(
+    rt: &impl Abort,
+    alloc: Global,
+    day: Day,
+    lifted: Lifted<A, B>,
+    keeper: Keeper<A>,
+    passes: Vec<Pass<A, B>>,
+) -> Result<(), Fail>
+    requires ledgers { (A.parts ≡ A.all + B.all) × (B.parts ≡ 2 * B.all) }
+{
+    match day {
+        Day::ThreePlayers => passes::settles_with_all(rt, alloc, lifted, keeper, passes),
+        Day::Tampered => torn::is_not_settled(rt, alloc, lifted, keeper, passes),
+        Day::MadeAgain => refused::finished_again(rt, alloc, lifted, keeper, passes),
+        _ => Ok(()),
     }
 }
 

@@ -12,15 +12,14 @@ use vx_keeper::{Keeper, Places};
 use vx_record::Fault;
 use vx_sector::Cmd;
 use vx_step::NoGate;
-use vx_world::{Lifted, Pass, Seats, SettleError, Unsettled, World};
+use vx_world::{Lifted, Pass, Report, Seats, SettleError, Unsettled, World};
 
 // How many calls each player makes, and how many ticks are made meanwhile.
 const CALLS: i32 = 100;
 
 const TICKS: u64 = 5;
 
-/// Three players call at once while ticks are made; all of their calls are in the record in the end,
-/// and without the pass of one of them there is no settlement.
+/// Three players call at once while ticks are made, and each tick is made.
 pub fn three_players<
     A: Places + Send + Sync,
     B: Seats + Send + Sync,
@@ -28,27 +27,10 @@ pub fn three_players<
 >(
     rt: &R,
     alloc: Global,
-    world: World<A, B>,
-    keeper: Keeper<A>,
-    passes: Vec<Pass<A, B>>,
-) -> Result<(), Fail>
-    requires ledgers { (A.parts ≡ A.all + B.all) × (B.parts ≡ 2 * B.all) }
-{
-    let mut keeper = keeper;
-    let mut passes = passes;
-    assert!(rt; all_play(rt, alloc, &world, &mut keeper, &mut passes)?);
-    let third = passes.pop().ok_or("no pass")?;
-    settle(rt, alloc, world.lift(), keeper, passes, third)
-}
-
-// Whether all ticks were made while the three played.
-fn all_play<A: Places + Send + Sync, B: Seats + Send + Sync, R: Threads + Wait + Sync>(
-    rt: &R,
-    alloc: Global,
     world: &World<A, B>,
     keeper: &mut Keeper<A>,
     passes: &mut [Pass<A, B>],
-) -> Result<bool, Fail> {
+) -> Result<(), Fail> {
     let (ann, others) = passes.split_first_mut().ok_or("no pass")?;
     let (bob, others) = others.split_first_mut().ok_or("no pass")?;
     let (cyd, _) = others.split_first_mut().ok_or("no pass")?;
@@ -69,7 +51,8 @@ fn all_play<A: Places + Send + Sync, B: Seats + Send + Sync, R: Threads + Wait +
             )
         },
     );
-    Ok(ticked)
+    assert!(rt; ticked);
+    Ok(())
 }
 
 // Places and breaks stone here and there in the world.
@@ -99,24 +82,24 @@ fn tick<A: Places, B: Seats, R: Threads + Wait + Sync>(
     all
 }
 
-// Without the pass of the third player there is no settlement, and with it there is.
-fn settle<A: Places, B: Seats>(
+/// Without the pass of the third player there is no settlement, and with it there is, of all calls.
+pub fn settles_with_all<A: Places, B: Seats>(
     rt: &impl Abort,
     alloc: Global,
     lifted: Lifted<A, B>,
     keeper: Keeper<A>,
     passes: Vec<Pass<A, B>>,
-    third: Pass<A, B>,
 ) -> Result<(), Fail>
     requires ledgers { (A.parts ≡ A.all + B.all) × (B.parts ≡ 2 * B.all) }
 {
+    let mut passes = passes;
+    let Some(third) = passes.pop() else {
+        return Err("no pass".into());
+    };
     let Err(unsettled) = lifted.finish(alloc, keeper, passes) else {
         return Err("settled without a pass".into());
     };
-    assert_eq!(rt;
-        unsettled.error,
-        SettleError::Disagreement(Fault::PassMissing)
-    );
+    assert!(rt; unsettled.error == SettleError::Disagreement(Fault::PassMissing));
     settle_with(rt, alloc, unsettled, third)
 }
 
@@ -152,8 +135,13 @@ pub fn settles<A: Places, B: Seats>(
     let Ok(report) = lifted.finish(alloc, keeper, passes) else {
         return Err("not settled".into());
     };
+    has_counts(rt, &report, counts);
+    Ok(())
+}
+
+/// So many calls and ticks are in the report.
+pub fn has_counts(rt: &impl Abort, report: &Report, counts: (u64, u64)) {
     let (calls, ticks) = counts;
     assert!(rt; report.calls() == calls);
     assert!(rt; report.ticks() == ticks);
-    Ok(())
 }

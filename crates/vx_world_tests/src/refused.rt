@@ -1,7 +1,7 @@
 //! Calls that are refused for want of memory, and made again.
 ghost use Rattle.std.specs.Prelude.{◌≡◌, ◌+◌, ◌*◌};
 
-use crate::passes::settles;
+use crate::passes::{has_counts, settles};
 use std::alloc::Global;
 use std::process::Abort;
 use std::sync::Wait;
@@ -14,26 +14,18 @@ use vx_sector::{Cmd, Refusal, Reply};
 use vx_step::NoGate;
 use vx_world::{Lifted, Pass, Seats, SettleError, Unsettled, World};
 
-/// A command, a tick and a settlement that memory was refused to are done the second time, and what
-/// was refused left nothing.
-pub fn made_again<
-    A: Places + Send + Sync,
-    B: Seats + Send + Sync,
-    R: Threads + Wait + Abort + Sync,
->(
+/// A command and a tick that memory was refused to are done the second time, and what was refused
+/// left nothing.
+pub fn made_again<A: Places, B: Seats, R: Threads + Wait + Abort + Sync>(
     rt: &R,
     alloc: Global,
-    world: World<A, B>,
-    keeper: Keeper<A>,
-    passes: Vec<Pass<A, B>>,
-) -> Result<(), Fail>
-    requires ledgers { (A.parts ≡ A.all + B.all) × (B.parts ≡ 2 * B.all) }
-{
-    let mut keeper = keeper;
-    let mut passes = passes;
-    act_again(rt, &world, passes.first_mut().ok_or("no pass")?);
-    tick_again(rt, alloc, &world, &mut keeper);
-    finish_again(rt, alloc, world.lift(), keeper, passes)
+    world: &World<A, B>,
+    keeper: &mut Keeper<A>,
+    passes: &mut [Pass<A, B>],
+) -> Result<(), Fail> {
+    act_again(rt, world, passes.first_mut().ok_or("no pass")?);
+    tick_again(rt, alloc, world, keeper);
+    Ok(())
 }
 
 fn act_again<A: Places, B: Seats, R: Wait + Abort>(
@@ -65,13 +57,14 @@ fn tick_again<A: Places, B: Seats, R: Threads + Wait + Abort + Sync>(
     keeper: &mut Keeper<A>,
 ) {
     if world.tick(rt, alloc, keeper, 1, &NoGate).is_err() {
-        assert_eq!(rt; keeper.archive().ticks().len(), 0);
+        assert!(rt; keeper.archive().ticks().is_empty());
         assert!(rt; world.tick(rt, alloc, keeper, 1, &NoGate).is_ok());
     }
-    assert_eq!(rt; keeper.archive().ticks().len(), 1);
+    assert!(rt; keeper.archive().ticks().len() == 1);
 }
 
-fn finish_again<A: Places, B: Seats>(
+/// So is a settlement.
+pub fn finished_again<A: Places, B: Seats>(
     rt: &impl Abort,
     alloc: Global,
     lifted: Lifted<A, B>,
@@ -81,18 +74,19 @@ fn finish_again<A: Places, B: Seats>(
     requires ledgers { (A.parts ≡ A.all + B.all) × (B.parts ≡ 2 * B.all) }
 {
     let counts = (1, 1);
-    match lifted.finish(alloc, keeper, passes) {
-        Ok(report) => assert_eq!(rt; (report.calls(), report.ticks()), counts),
-        Err(unsettled) => {
-            assert_eq!(rt; unsettled.error, SettleError::NoMemory);
-            let Unsettled {
-                lifted,
-                keeper,
-                passes,
-                ..
-            } = unsettled;
-            settles(rt, alloc, lifted, keeper, passes, counts)?;
+    let unsettled = match lifted.finish(alloc, keeper, passes) {
+        Ok(report) => {
+            has_counts(rt, &report, counts);
+            return Ok(());
         }
-    }
-    Ok(())
+        Err(unsettled) => unsettled,
+    };
+    assert!(rt; unsettled.error == SettleError::NoMemory);
+    let Unsettled {
+        lifted,
+        keeper,
+        passes,
+        ..
+    } = unsettled;
+    settles(rt, alloc, lifted, keeper, passes, counts)
 }

@@ -11,38 +11,38 @@ use vx_geom::Pos;
 use vx_keeper::{Keeper, Places, TickError};
 use vx_record::Fault;
 use vx_step::NoGate;
-use vx_world::{Pass, Seats, SettleError, World};
+use vx_world::{Lifted, Pass, Seats, SettleError, World};
 
-/// No tick is made of it, and the world is not settled.
-pub fn tampered<A: Places + Send + Sync, B: Seats + Send + Sync, R: Threads + Wait + Abort + Sync>(
+/// No tick is made of it.
+pub fn tampered<A: Places, B: Seats, R: Threads + Wait + Abort + Sync>(
     rt: &R,
     alloc: Global,
-    world: World<A, B>,
+    world: &World<A, B>,
+    keeper: &mut Keeper<A>,
+) -> Result<(), Fail> {
+    assert!(rt; world.tick(rt, alloc, keeper, 1, &NoGate).is_ok());
+    assert!(rt; world.tamper(rt, Pos::new(20, 1, 5), Part::Stone));
+    is_torn(rt, alloc, world, keeper);
+    is_torn(rt, alloc, world, keeper);
+    Ok(())
+}
+
+/// The world is not settled with it.
+pub fn is_not_settled<A: Places, B: Seats>(
+    rt: &impl Abort,
+    alloc: Global,
+    lifted: Lifted<A, B>,
     keeper: Keeper<A>,
     passes: Vec<Pass<A, B>>,
 ) -> Result<(), Fail>
     requires ledgers { (A.parts ≡ A.all + B.all) × (B.parts ≡ 2 * B.all) }
 {
-    let mut keeper = keeper;
-    is_tampered(rt, alloc, &world, &mut keeper);
-    let Err(unsettled) = world.lift().finish(alloc, keeper, passes) else {
+    let Err(unsettled) = lifted.finish(alloc, keeper, passes) else {
         return Err("settled".into());
     };
     let torn = SettleError::Disagreement(Fault::Torn(1));
     assert!(rt; unsettled.error == torn);
     Ok(())
-}
-
-fn is_tampered<A: Places, B: Seats, R: Threads + Wait + Abort + Sync>(
-    rt: &R,
-    alloc: Global,
-    world: &World<A, B>,
-    keeper: &mut Keeper<A>,
-) {
-    assert!(rt; world.tick(rt, alloc, keeper, 1, &NoGate).is_ok());
-    assert!(rt; world.tamper(rt, Pos::new(20, 1, 5), Part::Stone));
-    is_torn(rt, alloc, world, keeper);
-    is_torn(rt, alloc, world, keeper);
 }
 
 // The tick is not made, and the chronicle stays.

@@ -111,17 +111,17 @@ fn listed(
 fn called(rt: &impl Abort, lists: &mut Lists, sector: &mut Sector) -> Result<(), Fail> {
     let seat = bob()?;
     let at = Pos::new(5, 1, 5);
-    answers(rt, lists, sector, seat, Cmd::Place(at, Part::Chest), &DONE);
+    answers(rt, lists, sector, seat, Cmd::Place(at, Part::Chest), DONE);
     opens(rt, lists, sector, seat, at);
     let outside = Cmd::Look(Pos::new(99, 1, 5));
-    answers(rt, lists, sector, seat, outside, &OUTSIDE);
+    answers(rt, lists, sector, seat, outside, OUTSIDE);
     answers(
         rt,
         lists,
         sector,
         seat,
         Cmd::Break(Pos::new(6, 1, 5)),
-        &NOTHING,
+        NOTHING,
     );
     Ok(())
 }
@@ -133,10 +133,10 @@ fn answers(
     sector: &mut Sector,
     seat: Seat,
     cmd: Cmd,
-    due: &Result<Reply, Refusal>,
+    due: Result<Reply, Refusal>,
 ) {
     assert!(rt; lists.len() == 1);
-    same(rt, &lists.act(0, sector, seat, cmd), due);
+    same(rt, &lists.act(0, sector, seat, cmd), &due);
 }
 
 fn opens(rt: &impl Abort, lists: &mut Lists, sector: &mut Sector, seat: Seat, at: Pos) {

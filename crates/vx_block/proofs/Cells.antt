@@ -1,8 +1,7 @@
 -- No two cells have one text.
-use Rattle.std.proofs.Common.{◌≡◌, ℕ, ◌<◌, Bool, false, true≢false, List, [], ◌∷◌, ◌++◌, refl, ap, sym, ◌∙◌, rules, arith}
+use Rattle.std.proofs.Common.{◌≡◌, ℕ, ◌<◌, Bool, false, true≢false, List, ◌∷◌, ◌++◌, refl, ap, sym, ◌∙◌, rules, arith}
 use Rattle.std.specs.Prelude.{nat_eq}
 use Rattle.std.proofs.lemmas.Bool.Decides.{Decides-eqb}
-use Rattle.vx_base.proofs.Named.{AreOwn, one_named}
 use Rattle.vx_base.specs.Digits.{small_word}
 use Rattle.vx_geom.specs.declared.dir.Dir.{Dir}
 use Rattle.vx_block.specs.Cut.{colon, word_of, all_joined}
@@ -18,6 +17,7 @@ use Rattle.vx_block.specs.declared.kind.Kind.{Kind}
 use Rattle.vx_block.specs.declared.kind.Kind.TheVariants as kind
 use Rattle.vx_block.specs.declared.cell.Cell.{Cell}
 use Rattle.vx_block.specs.declared.cell.Cell.TheVariants as cell
+use Rattle.vx_block.proofs.KindWords.{one_kind}
 
 one_dir : (a b : Dir) → dir_word a ≡ dir_word b → a ≡ b
 one_dir a b same = search rules
@@ -45,31 +45,6 @@ one_small a b a_in b_in same = search (rules, arith)
 
 word_is : (c : Cell) → word_of (cell_text c) ≡ kind_word (kind_of c)
 word_is c = search rules
-
-abbrev kinds : List Kind
-kinds = kind.Air ∷ kind.Stone ∷ kind.Dirt ∷ kind.Planks ∷ kind.Glass ∷ kind.Obsidian ∷ kind.Bedrock ∷ kind.Chest
-    ∷ kind.Dust ∷ kind.Torch ∷ kind.Lever ∷ kind.Repeater ∷ kind.Lamp ∷ kind.Piston ∷ kind.StickyPiston ∷ kind.Head ∷ []
-
-own_kind : AreOwn kind_word kinds
-own_kind kind.Air = refl
-own_kind kind.Stone = refl
-own_kind kind.Dirt = refl
-own_kind kind.Planks = refl
-own_kind kind.Glass = refl
-own_kind kind.Obsidian = refl
-own_kind kind.Bedrock = refl
-own_kind kind.Chest = refl
-own_kind kind.Dust = refl
-own_kind kind.Torch = refl
-own_kind kind.Lever = refl
-own_kind kind.Repeater = refl
-own_kind kind.Lamp = refl
-own_kind kind.Piston = refl
-own_kind kind.StickyPiston = refl
-own_kind kind.Head = refl
-
-one_kind : (a b : Kind) → kind_word a ≡ kind_word b → a ≡ b
-one_kind = one_named kind_word kinds own_kind
 
 same_kind : (a b : Cell) → cell_text a ≡ cell_text b → kind_of a ≡ kind_of b
 same_kind a b same = one_kind (kind_of a) (kind_of b) (sym (word_is a) ∙ ap word_of same ∙ word_is b)

@@ -1,4 +1,5 @@
 pub mod Cells
 pub mod Colons
 pub mod Counts
+pub mod KindWords
 pub mod Parts

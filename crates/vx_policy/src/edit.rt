@@ -1,5 +1,5 @@
 ghost use Rattle.std.specs.Prelude.{◌≡◌, IfOk, string_bytes};
-ghost use Rattle.vx_policy.specs.Asked.{Listed, asked};
+ghost use Rattle.vx_policy.specs.Asked.{Listed, asked, target};
 
 use crate::listing::Listing;
 use std::alloc::{AllocError, Global};
@@ -47,48 +47,41 @@ impl Edit {
     pub fn try_clone(&self, alloc: Global) -> Result<Edit, AllocError>
         ensures { IfOk result (λ copy. asked copy ≡ asked self.now) }
     {
+        let id = String::from_str(alloc, self.target())?;
         match self {
-            Edit::Define(id, shape) => {
-                let id = String::from_str(alloc, id)?;
-                Ok(Edit::Define(id, shape.try_clone(alloc)?))
+            Edit::Define(_, shape) => Ok(Edit::Define(id, shape.try_clone(alloc)?)),
+            Edit::Reshape(_, shape) => Ok(Edit::Reshape(id, shape.try_clone(alloc)?)),
+            Edit::Remove(_) => Ok(Edit::Remove(id)),
+            Edit::Priority(_, priority) => Ok(Edit::Priority(id, *priority)),
+            Edit::Parent(_, Some(parent)) => {
+                Ok(Edit::Parent(id, Some(String::from_str(alloc, parent)?)))
             }
-            Edit::Reshape(id, shape) => {
-                let id = String::from_str(alloc, id)?;
-                Ok(Edit::Reshape(id, shape.try_clone(alloc)?))
+            Edit::Parent(_, None) => Ok(Edit::Parent(id, None)),
+            Edit::SetFlag(_, flag, setting) => Ok(Edit::SetFlag(id, *flag, *setting)),
+            Edit::ClearFlag(_, flag) => Ok(Edit::ClearFlag(id, *flag)),
+            Edit::Owner(_, listing, name) => {
+                Ok(Edit::Owner(id, *listing, String::from_str(alloc, name)?))
             }
-            Edit::Remove(id) => Ok(Edit::Remove(String::from_str(alloc, id)?)),
-            Edit::Priority(id, priority) => Ok(Edit::Priority(
-                String::from_str(alloc, id)?,
-                *priority,
-            )),
-            Edit::Parent(id, parent) => {
-                let id = String::from_str(alloc, id)?;
-                match parent {
-                    Some(parent) => Ok(Edit::Parent(id, Some(String::from_str(alloc, parent)?))),
-                    None => Ok(Edit::Parent(id, None)),
-                }
+            Edit::Member(_, listing, name) => {
+                Ok(Edit::Member(id, *listing, String::from_str(alloc, name)?))
             }
-            Edit::SetFlag(id, flag, setting) => Ok(Edit::SetFlag(
-                String::from_str(alloc, id)?,
-                *flag,
-                *setting,
-            )),
-            Edit::ClearFlag(id, flag) => Ok(Edit::ClearFlag(String::from_str(alloc, id)?, *flag)),
-            Edit::Owner(id, listing, name) => copied(alloc, Role::Owner, id, *listing, name),
-            Edit::Member(id, listing, name) => copied(alloc, Role::Member, id, *listing, name),
         }
     }
-}
 
-fn copied(
-    alloc: Global,
-    role: Role,
-    id: &str,
-    listing: Listing,
-    name: &str,
-) -> Result<Edit, AllocError>
-    ensures { IfOk result (λ copy. asked copy ≡ Listed role id.now listing name.now) }
-{
-    let id = String::from_str(alloc, id)?;
-    Ok(Edit::listed(role, id, listing, String::from_str(alloc, name)?))
+    // The id that it names.
+    fn target(&self) -> &str
+        ensures { result.now ≡ target (asked self.now) }
+    {
+        match self {
+            Edit::Define(id, _) => id,
+            Edit::Reshape(id, _) => id,
+            Edit::Remove(id) => id,
+            Edit::Priority(id, _) => id,
+            Edit::Parent(id, _) => id,
+            Edit::SetFlag(id, _, _) => id,
+            Edit::ClearFlag(id, _) => id,
+            Edit::Owner(id, _, _) => id,
+            Edit::Member(id, _, _) => id,
+        }
+    }
 }

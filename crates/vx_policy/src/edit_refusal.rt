@@ -1,4 +1,5 @@
-ghost use Rattle.std.specs.Prelude.{Some};
+ghost use Rattle.std.specs.Prelude.{◌≡◌, Some};
+ghost use Rattle.vx_policy.specs.Texts.{edit_refusal_text};
 
 use std::error::Error;
 use std::fmt;
@@ -27,23 +28,30 @@ pub enum EditRefusal {
     TooManyRegions,
 }
 
-impl fmt::Display for EditRefusal {
-    ghost use Rattle.vx_policy.specs.Texts.{edit_refusal_text};
+impl EditRefusal {
+    // Its number and its words.
+    fn text(self) -> &'static str
+        ensures { result.now ≡ edit_refusal_text self }
+    {
+        match self {
+            EditRefusal::BadId => "refused 20 bad id",
+            EditRefusal::Known => "refused 21 known",
+            EditRefusal::Unknown => "refused 22 unknown",
+            EditRefusal::HasChildren => "refused 23 has children",
+            EditRefusal::Cycle => "refused 24 cycle",
+            EditRefusal::BadShape => "refused 25 bad shape",
+            EditRefusal::BadName => "refused 26 bad name",
+            EditRefusal::GlobalHasNone => "refused 27 global has none",
+            EditRefusal::TooManyRegions => "refused 28 too many regions",
+        }
+    }
+}
 
+impl fmt::Display for EditRefusal {
     ghost output = { λ refusal. Some (edit_refusal_text refusal) };
 
     fn fmt<W: fmt::Write>(&self, f: &mut fmt::Formatter<W>) -> fmt::Result {
-        match self {
-            EditRefusal::BadId => write!(f, "refused 20 bad id"),
-            EditRefusal::Known => write!(f, "refused 21 known"),
-            EditRefusal::Unknown => write!(f, "refused 22 unknown"),
-            EditRefusal::HasChildren => write!(f, "refused 23 has children"),
-            EditRefusal::Cycle => write!(f, "refused 24 cycle"),
-            EditRefusal::BadShape => write!(f, "refused 25 bad shape"),
-            EditRefusal::BadName => write!(f, "refused 26 bad name"),
-            EditRefusal::GlobalHasNone => write!(f, "refused 27 global has none"),
-            EditRefusal::TooManyRegions => write!(f, "refused 28 too many regions"),
-        }
+        f.write_str(self.text())
     }
 }
 

@@ -64,40 +64,20 @@ fn change(
     match edit {
         Edit::Define(id, shape) => Ok(Some(define(regions, alloc, &id, shape)?)),
         Edit::Owner(id, listing, name) => {
-            list(regions, Role::Owner, &id, listing, &name)?;
-            Ok(None)
+            list(regions, Role::Owner, &id, listing, &name).and(Ok(None))
         }
         Edit::Member(id, listing, name) => {
-            list(regions, Role::Member, &id, listing, &name)?;
-            Ok(None)
+            list(regions, Role::Member, &id, listing, &name).and(Ok(None))
         }
-        Edit::Reshape(id, shape) => {
-            reshape(regions, &id, shape)?;
-            Ok(None)
-        }
-        Edit::Remove(id) => {
-            remove(regions, &id)?;
-            Ok(None)
-        }
-        Edit::Priority(id, priority) => {
-            set_priority(regions, &id, priority)?;
-            Ok(None)
-        }
-        Edit::Parent(id, parent) => {
-            match parent {
-                Some(parent) => set_parent(regions, &id, &parent)?,
-                None => clear_parent(regions, &id)?,
-            }
-            Ok(None)
-        }
-        Edit::SetFlag(id, flag, setting) => {
-            set_flag(regions, &id, flag, setting)?;
-            Ok(None)
-        }
-        Edit::ClearFlag(id, flag) => {
-            clear_flag(regions, &id, flag)?;
-            Ok(None)
-        }
+        Edit::Reshape(id, shape) => reshape(regions, &id, shape).and(Ok(None)),
+        Edit::Remove(id) => remove(regions, &id).and(Ok(None)),
+        Edit::Priority(id, priority) => set_priority(regions, &id, priority).and(Ok(None)),
+        Edit::Parent(id, parent) => match parent {
+            Some(parent) => set_parent(regions, &id, &parent).and(Ok(None)),
+            None => clear_parent(regions, &id).and(Ok(None)),
+        },
+        Edit::SetFlag(id, flag, setting) => set_flag(regions, &id, flag, setting).and(Ok(None)),
+        Edit::ClearFlag(id, flag) => clear_flag(regions, &id, flag).and(Ok(None)),
     }
 }
 

@@ -1,6 +1,6 @@
 //! The two halves of an acceptance: one that tests and makes every growth, and one that cannot
 //! fail. What is to be told of an edit before it counts can be told between them.
-ghost use Rattle.std.specs.Prelude.{◌≡◌, ◌+◌, ◌<◌, ◌++◌, ◌∷◌, ◌⊎◌, [], None, Some, Err, length, map, option_map, vec_len, vec_capacity, IfOk, OnErr};
+ghost use Rattle.std.specs.Prelude.{◌≡◌, ◌+◌, ◌<◌, ◌++◌, ◌∷◌, ◌⊎◌, [], None, Some, Err, length, map, option_map, vec_len, vec_capacity, MatchOption, IfOk, IfErr, OnOk, OnErr};
 ghost use Rattle.vx_board.specs.Accepted.{IsRefused, most_edits};
 ghost use Rattle.vx_board.specs.Spares.{IsSpare};
 ghost use Rattle.vx_policy.specs.Asked.{asked};
@@ -13,7 +13,7 @@ use crate::edited::Edited;
 use crate::naming::Naming;
 use crate::spare::Spare;
 use crate::turns::take_turns;
-use std::alloc::Global;
+use std::alloc::{AllocError, Global};
 use vx_policy::{Edit, Policy};
 use vx_region::RegionNo;
 
@@ -52,25 +52,81 @@ pub fn make_ready<J: Naming>(
     ensures spare { IsSpare J.first (map asked accepted.old.items) spare.new }
     ensures err { OnErr result (policy.new ≡ policy.old) }
 {
-    if MAX_EDITS <= accepted.len() as u64 {
-        return Err(DeskError::HistoryFull);
+    let region = accept::<J>(alloc, policy, spare, accepted, &edit)?;
+    Ok(Ready { edit, region })
+}
+
+// Tests an edit, makes room for it in the list, and applies a copy of it to the policy. It answers
+// the number that a definition gave.
+fn accept<J: Naming>(
+    alloc: Global,
+    policy: &mut Policy,
+    spare: &mut Option<Spare>,
+    accepted: &mut Vec<Edit>,
+    edit: &Edit,
+) -> Result<Option<RegionNo>, DeskError>
+    requires accepted { AreAccepted J.first (map asked accepted.old.items) }
+    requires policy { policy.old ≡ after J.first (map asked accepted.old.items) }
+    requires spare { IsSpare J.first (map asked accepted.old.items) spare.old }
+    ensures ok { IfOk result (λ region. (refusal policy.old (asked edit.now) ≡ None)
+        × (policy.new ≡ edited policy.old (asked edit.now))
+        × (option_map (λ n. n.0) region ≡ number_given policy.old (asked edit.now))) }
+    ensures room { OnOk result ((vec_len accepted.new < vec_capacity accepted.new)
+        × (vec_len accepted.old < most_edits)) }
+    ensures refused { IfErr result
+        (IsRefused policy.old (vec_len accepted.old) (asked edit.now)) }
+    ensures list { accepted.new.items ≡ accepted.old.items }
+    ensures spare { IsSpare J.first (map asked accepted.old.items) spare.new }
+    ensures err { OnErr result (policy.new ≡ policy.old) }
+{
+    if let Some(error) = hindrance(policy, accepted.len() as u64, edit) {
+        return Err(error);
     }
-    if let Some(refusal) = policy.refusal(&edit) {
-        return Err(DeskError::Refused(refusal));
-    }
-    if accepted.reserve(1).is_err() {
-        return Err(DeskError::NoMemory);
-    }
-    let Ok(copy) = edit.try_clone(alloc) else {
+    let Ok(region) = make::<J>(alloc, policy, spare, accepted, edit) else {
         return Err(DeskError::NoMemory);
     };
-    if take_turns::<J>(alloc, policy, spare, accepted).is_err() {
-        return Err(DeskError::NoMemory);
+    Ok(region)
+}
+
+// What stands against an edit, when so many were accepted before it.
+fn hindrance(policy: &Policy, count: u64, edit: &Edit) -> Option<DeskError>
+    ensures { MatchOption result
+        ((count < most_edits) × (refusal policy.now (asked edit.now) ≡ None))
+        (IsRefused policy.now count (asked edit.now)) }
+{
+    if MAX_EDITS <= count {
+        return Some(DeskError::HistoryFull);
     }
-    match policy.change(alloc, edit) {
-        Ok(region) => Ok(Ready { edit: copy, region }),
-        Err(_) => Err(DeskError::NoMemory),
+    if let Some(refusal) = policy.refusal(edit) {
+        return Some(DeskError::Refused(refusal));
     }
+    None
+}
+
+// Makes room in the list for an edit that nothing stands against, and applies a copy of it to the
+// policy.
+fn make<J: Naming>(
+    alloc: Global,
+    policy: &mut Policy,
+    spare: &mut Option<Spare>,
+    accepted: &mut Vec<Edit>,
+    edit: &Edit,
+) -> Result<Option<RegionNo>, AllocError>
+    requires accepted { AreAccepted J.first (map asked accepted.old.items) }
+    requires policy { policy.old ≡ after J.first (map asked accepted.old.items) }
+    requires spare { IsSpare J.first (map asked accepted.old.items) spare.old }
+    requires free { refusal policy.old (asked edit.now) ≡ None }
+    ensures ok { IfOk result (λ region. (policy.new ≡ edited policy.old (asked edit.now))
+        × (option_map (λ n. n.0) region ≡ number_given policy.old (asked edit.now))) }
+    ensures room { OnOk result (vec_len accepted.new < vec_capacity accepted.new) }
+    ensures list { accepted.new.items ≡ accepted.old.items }
+    ensures spare { IsSpare J.first (map asked accepted.old.items) spare.new }
+    ensures err { OnErr result (policy.new ≡ policy.old) }
+{
+    accepted.reserve(1)?;
+    let copy = edit.try_clone(alloc)?;
+    take_turns::<J>(alloc, policy, spare, accepted)?;
+    policy.change(alloc, copy)
 }
 
 /// Puts an edit that is ready at the end of the list.

@@ -1,9 +1,8 @@
-use Rattle.std.proofs.Common.{◌≡◌, ◌+◌, true, ◌∷◌, [], drop, length, map, refl, sym, ap, subst, ◌∙◌, rules}
+use Rattle.std.proofs.Common.{◌≡◌, ℕ, ◌+◌, ◌<◌, true, List, ◌∷◌, [], drop, get_or, length, map, sym, ap, subst, ◌∙◌, add-one, drop-cons, rules}
 use Rattle.std.proofs.lemmas.Bool.{or_parts}
-use Rattle.std.proofs.lemmas.Option.{slice_get_read}
-use Rattle.vx_base.proofs.Lists.{drop_at}
+use Rattle.std.proofs.Math.ListN.{drop_of_length-le}
 use Rattle.vx_cells.specs.CellsLaws.{cell_decided}
-use Rattle.vx_cells.specs.SectorCells.{cell_at}
+use Rattle.vx_cells.specs.SectorCells.{cell_at, holds}
 use Rattle.vx_power.specs.Levels.{has}
 use Rattle.vx_power.proofs.Having.{has_joined}
 use Rattle.vx_sector.specs.Commands.{place_of}
@@ -13,6 +12,28 @@ use Rattle.vx_play.specs.Writing.{AreSpared}
 use Rattle.vx_play.proofs.Sparing.{spared_not}
 use Rattle.vx_play.proofs.writes.add_changed.Goals as goal
 use Rattle.vx_play.proofs.writes.add_changed.Goals.{then-not-is_same+in_ok-push, else-not-is_same}
+
+-- the next one is the first of those that are left
+next_left : {X : Type 0} (xs : List X) (i : ℕ) (x : X) → i < length xs → x ≡ get_or xs i x → drop i xs ≡ x ∷ drop (i + 1) xs
+next_left xs i x within is =
+    let parts : drop i xs ≡ get_or xs i x ∷ drop (i + 1) xs = rw add-one (drop-cons xs i x within) in
+    parts ∙ ap (λ y. y ∷ drop (i + 1) xs) (sym is)
+
+pub get-requires : goal.get-requires
+get-requires c =
+    let left = ap (map entry_of) (next_left c.args.entries.now c.loop-entry.entry-index c.entry-item.result c.loop-entry-test.true c.entry-item.is) in
+    ap (holds c.args.cells.now) c.place-p.ensures ∙ (subst (HoldsPlaces c.args.cells.now) left c.loop-entry.invariant.in_cells).0
+
+pub get-requires-in-loop-entry : goal.get-requires-in-loop-entry
+get-requires-in-loop-entry c =
+    let left = ap (map entry_of) (next_left c.args.entries.now c.loop-entry.entry-index c.entry-item.result c.loop-entry-test.true c.entry-item.is) in
+    ap (holds c.args.base.now) c.place-p.ensures ∙ (subst (HoldsPlaces c.args.base.now) left c.loop-entry.invariant.in_base).0
+
+pub returns : goal.returns
+returns c = λ p none.
+    let before = c.loop-entry.invariant.all p none in
+    let nothing : drop c.loop-entry.entry-index c.args.entries.now ≡ [] = drop_of_length-le c.args.entries.now c.loop-entry-test.false in
+    (before.0, before.1 (subst (λ es. AreSpared p c.args.base.now c.args.cells.now (map entry_of es)) (sym nothing) tt))
 
 pub loop-entry-preserved : goal.loop-entry-preserved
 loop-entry-preserved c =
@@ -25,7 +46,7 @@ loop-entry-preserved c =
     let q = place_of entry.cmd in
     let rest = map entry_of (drop (index + 1) entries) in
     let left : map entry_of (drop index entries) ≡ entry_of entry ∷ rest
-    = ap (map entry_of) (drop_at entries index entry (slice_get_read entries (length entries) index entry refl (search rules) c.entry-item.is)) in
+    = ap (map entry_of) (next_left entries index entry c.loop-entry-test.true c.entry-item.is) in
     record {
       in_base = (subst (HoldsPlaces base) left kept.in_base).1;
       in_cells = (subst (HoldsPlaces cells) left kept.in_cells).1;

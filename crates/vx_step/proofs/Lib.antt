@@ -19,3 +19,4 @@ pub mod Puts
 pub mod Resting
 pub mod Sharing
 pub mod Told
+pub mod Turning

@@ -1,10 +1,12 @@
 use Rattle.std.proofs.Common.{◌≡◌, ◌+◌, true, ◌++◌, rules, ap, ◌∙◌, drop}
 use Rattle.std.proofs.lemmas.List.Elements.{All-get_or}
+use Rattle.std.proofs.Math.ListN.{drop_of_length-le}
 use Rattle.std.specs.Option.{option_to_list}
 use Rattle.vx_cells.specs.Maps.{cell_on}
 use Rattle.vx_piston.specs.Moves.{is_restless}
 use Rattle.vx_step.specs.Ticks.{asked}
 use Rattle.vx_step.proofs.Asking.{asked_on}
+use Rattle.vx_step.proofs.Turning.{ended}
 use Rattle.vx_step.proofs.found.moves_among.Goals as goal
 
 -- each of these would move, so that what it asks for is what it is asked
@@ -20,3 +22,7 @@ loop-p-preserved c level all =
     ∙ asked_on m level ps i _ c.loop-p.moves.items c.asked_by.result c.loop-p-test.true
     (c.asked_by.ensures level restless)
     ∙ c.loop-p.invariant level all
+
+pub returns : goal.returns
+returns c = λ level all.
+    ended c.loop-p.moves.items _ _ (ap (asked c.args.map.now level) (drop_of_length-le c.args.restless.now c.loop-p-test.false)) (c.loop-p.invariant level all)

@@ -15,6 +15,9 @@ use vx_record::{
 use vx_region::Name;
 use vx_sector::{Cmd, Fresh, Refusal, Reply, Seat, Sector};
 
+// Where a chest is placed.
+const AT: Pos = Pos { x: 5, y: 1, z: 5 };
+
 const DONE: Result<Reply, Refusal> = Ok(Reply::Done(Rule::Default));
 
 const OUTSIDE: Result<Reply, Refusal> = Err(Refusal::OutOfWorld);
@@ -110,19 +113,13 @@ fn listed(
 
 fn called(rt: &impl Abort, lists: &mut Lists, sector: &mut Sector) -> Result<(), Fail> {
     let seat = bob()?;
-    let at = Pos::new(5, 1, 5);
-    answers(rt, lists, sector, seat, Cmd::Place(at, Part::Chest), DONE);
-    opens(rt, lists, sector, seat, at);
-    let outside = Cmd::Look(Pos::new(99, 1, 5));
-    answers(rt, lists, sector, seat, outside, OUTSIDE);
-    answers(
-        rt,
-        lists,
-        sector,
-        seat,
-        Cmd::Break(Pos::new(6, 1, 5)),
-        NOTHING,
-    );
+    let place = Cmd::Place(AT, Part::Chest);
+    answers(rt, lists, sector, &seat, place, DONE);
+    opens(rt, lists, sector, &seat);
+    let look = Cmd::Look(Pos::new(99, 1, 5));
+    answers(rt, lists, sector, &seat, look, OUTSIDE);
+    let dig = Cmd::Break(Pos::new(6, 1, 5));
+    answers(rt, lists, sector, &seat, dig, NOTHING);
     Ok(())
 }
 
@@ -131,17 +128,17 @@ fn answers(
     rt: &impl Abort,
     lists: &mut Lists,
     sector: &mut Sector,
-    seat: Seat,
+    seat: &Seat,
     cmd: Cmd,
     due: Result<Reply, Refusal>,
 ) {
     assert!(rt; lists.len() == 1);
-    same(rt, &lists.act(0, sector, seat, cmd), &due);
+    same(rt, &lists.act(0, sector, *seat, cmd), &due);
 }
 
-fn opens(rt: &impl Abort, lists: &mut Lists, sector: &mut Sector, seat: Seat, at: Pos) {
+fn opens(rt: &impl Abort, lists: &mut Lists, sector: &mut Sector, seat: &Seat) {
     assert!(rt; lists.len() == 1);
-    let opened = lists.act(0, sector, seat, Cmd::OpenChest(at));
+    let opened = lists.act(0, sector, *seat, Cmd::OpenChest(AT));
     assert!(rt; matches!(opened, Ok(Reply::Opened(Rule::Default, _))));
 }
 

@@ -3,7 +3,7 @@ use vx_geom::Pos;
 use vx_region::Name;
 
 /// What a player asked: whether one of that name may do this at the place.
-#[derive(Clone, Copy, Debug, PartialEq, Eq, Hash)]
+#[derive(Clone, Copy, PartialEq, Eq, Hash)]
 pub(crate) struct Asked {
     pub name: Name,
     pub action: Action,

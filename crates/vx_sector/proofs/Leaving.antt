@@ -79,7 +79,8 @@ abbrev IsDone : Result (Reply × Effect) Refusal → Rule → Result Effect Refu
 IsDone r rule e = MatchResult r (λ done. (done.0 ≡ Done rule) × (e ≡ Ok done.1)) (λ refusal. e ≡ Err refusal)
 
 -- done, or refused by what stands against it
-pub done_by : (r : Result (Reply × Effect) Refusal) (rule : Rule) (e : Result Effect Refusal) (o : Option Refusal) (x : Effect) → IsDone r rule e → e ≡ ok_unless o x
+pub done_by : (r : Result (Reply × Effect) Refusal) (rule : Rule) (e : Result Effect Refusal) (o : Option Refusal) (x : Effect)
+    → IsDone r rule e → e ≡ ok_unless o x
     → MatchResult r (λ done. (o ≡ None) × (done.0 ≡ Done rule)) (λ refusal. (o ≡ Some refusal) ⊎ (refusal ≡ NoMemory))
 done_by (Ok done) rule e None x is same = (refl, is.0)
 done_by (Ok done) rule e (Some refusal) x is same = absurd (cc)
@@ -87,14 +88,16 @@ done_by (Err refusal) rule e None x is same = absurd (cc)
 done_by (Err refusal) rule e (Some other) x is same = inl (cc)
 
 -- what is done is what the command does
-pub done_so : (r : Result (Reply × Effect) Refusal) (rule : Rule) (e : Result Effect Refusal) (o : Option Refusal) (x : Effect) → IsDone r rule e → e ≡ ok_unless o x
+pub done_so : (r : Result (Reply × Effect) Refusal) (rule : Rule) (e : Result Effect Refusal) (o : Option Refusal) (x : Effect)
+    → IsDone r rule e → e ≡ ok_unless o x
     → IfOk r (λ done. done.1 ≡ x)
 done_so (Ok done) rule e None x is same = cc
 done_so (Ok done) rule e (Some refusal) x is same = absurd (cc)
 done_so (Err refusal) rule e o x is same = tt
 
 -- another cell fits at each position
-pub done_anywhere : (r : Result (Reply × Effect) Refusal) (rule : Rule) (e : Result Effect Refusal) (o : Option Refusal) (cell : Cell) (c : SectorCells) (p : Pos)
+pub done_anywhere : (r : Result (Reply × Effect) Refusal) (rule : Rule) (e : Result Effect Refusal) (o : Option Refusal) (cell : Cell)
+    (c : SectorCells) (p : Pos)
     → IsDone r rule e → e ≡ ok_unless o (NewCell cell) → IfOk r (λ done. Fits c p done.1)
 done_anywhere (Ok done) rule e None cell c p is same = let new : done.1 ≡ NewCell cell = cc in subst (λ effect. Fits c p effect) (sym new) tt
 done_anywhere (Ok done) rule e (Some refusal) cell c p is same = absurd (cc)

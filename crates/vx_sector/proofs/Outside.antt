@@ -1,5 +1,5 @@
 -- Which commands are out of the world.
-use Rattle.std.proofs.Common.{◌≡◌, ◌≢◌, ◌<◌, ◌⊎◌, ◌↔◌, Bool, true, false, not, if◌then◌else◌, Result, Err, refl, subst, ◌∙◌, inl, inr}
+use Rattle.std.proofs.Common.{◌≡◌, ◌≢◌, ◌<◌, ◌⊎◌, ◌↔◌, Bool, true, false, not, if◌then◌else◌, Result, Err, refl, ap, sym, subst, ◌∙◌, inl, inr}
 use Rattle.std.proofs.lemmas.Bool.{cases_Bool, leb-false}
 use Rattle.vx_cells.specs.SectorCells.{SectorCells, holds}
 use Rattle.vx_region.specs.Regions.{Regions}
@@ -71,6 +71,10 @@ after_answer s seat cmd answer acts =
 pub untraced : (s : SectorData) (seat : SeatData) (cmd : Cmd) (refusal : Refusal) → leaves_trace refusal ≡ false → s ≡ sector_after s seat cmd (Err refusal)
 unfolding sector_after
 untraced s seat cmd refusal no_trace = rw no_trace refl
+
+-- as does one for want of memory
+pub lost : (s : SectorData) (seat : SeatData) (cmd : Cmd) (answer : Result Reply Refusal) → answer ≡ Err NoMemory → s ≡ sector_after s seat cmd answer
+lost s seat cmd answer same = untraced s seat cmd NoMemory refl ∙ sym (ap (sector_after s seat cmd) same)
 
 -- at a position of the sector, where there is room, this is answered by the rules, or for want of memory
 module _ (s : SectorData) (seat : SeatData) (cmd : Cmd) (answer : Result Reply Refusal) (held : holds s.cells (place_of cmd) ≡ true) (free : is_full s ≡ false)

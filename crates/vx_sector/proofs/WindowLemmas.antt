@@ -41,18 +41,34 @@ sector_recorded s entry sector next room = record {
   most = omega (arith, length-append s.entries (entry ∷ []));
 }
 
--- the same in the words of the code: n is s with something done at a position, and one more entry
+-- n is s, which is t, with something done at a position, and one more entry
+pub is_recorded_as : (s t n : SectorData) (entry : EntryData) (p : Pos) (effect : Effect)
+    → s ≡ t → p ≡ place_of entry.cmd → effect ≡ effect_by t.cells entry.cmd entry.answer
+    → n.base ≡ s.base → n.version ≡ s.version → n.closed ≡ s.closed → n.cells ≡ applied s.cells p effect → n.entries ≡ s.entries ++ entry ∷ []
+    → n ≡ recorded s entry
+is_recorded_as s t n entry p effect same there does base version closed cells entries =
+    let does_here : effect ≡ effect_by s.cells entry.cmd entry.answer = subst (λ (r : SectorData). effect ≡ effect_by r.cells entry.cmd entry.answer)
+    (sym same) does in
+    let cells_here : n.cells ≡ cells_by s.cells entry.cmd entry.answer = rw (← does_here, ← there) cells in
+    λ i. record { base = base i; cells = cells_here i; version = version i; entries = entries i; closed = closed i }
+
+-- and so it is a sector
+pub is_sector_too : (s t n : SectorData) (entry : EntryData) → s ≡ t → IsSector s → IsNext t.version.policy t.cells entry
+    → count_of t < most_entries → n ≡ recorded s entry
+    → IsSector n
+is_sector_too s t n entry same sector next room whole =
+    let next_here : IsNext s.version.policy s.cells entry = subst (λ (r : SectorData). IsNext r.version.policy r.cells entry) (sym same) next in
+    let room_here : count_of s < most_entries = subst (λ (r : SectorData). count_of r < most_entries) (sym same) room in
+    subst IsSector (sym whole) (sector_recorded s entry sector next_here room_here)
+
+-- both at once
 pub sector_changed : (s t n : SectorData) (entry : EntryData) (p : Pos) (effect : Effect)
-    → s ≡ t → IsSector s → IsNext t.version.policy t.cells entry → count_of t < most_entries → p ≡ place_of entry.cmd → effect ≡ effect_by t.cells entry.cmd entry.answer
+    → s ≡ t → IsSector s → IsNext t.version.policy t.cells entry → count_of t < most_entries → p ≡ place_of entry.cmd
+    → effect ≡ effect_by t.cells entry.cmd entry.answer
     → n.base ≡ s.base → n.version ≡ s.version → n.closed ≡ s.closed → n.cells ≡ applied s.cells p effect → n.entries ≡ s.entries ++ entry ∷ []
     → IsSector n
 sector_changed s t n entry p effect same sector next room there does base version closed cells entries =
-    let next_here : IsNext s.version.policy s.cells entry = subst (λ (r : SectorData). IsNext r.version.policy r.cells entry) (sym same) next in
-    let room_here : count_of s < most_entries = subst (λ (r : SectorData). count_of r < most_entries) (sym same) room in
-    let does_here : effect ≡ effect_by s.cells entry.cmd entry.answer = subst (λ (r : SectorData). effect ≡ effect_by r.cells entry.cmd entry.answer) (sym same) does in
-    let cells_here : n.cells ≡ cells_by s.cells entry.cmd entry.answer = rw (← does_here, ← there) cells in
-    let whole : n ≡ recorded s entry = λ i. record { base = base i; cells = cells_here i; version = version i; entries = entries i; closed = closed i } in
-    subst IsSector (sym whole) (sector_recorded s entry sector next_here room_here)
+    is_sector_too s t n entry same sector next room (is_recorded_as s t n entry p effect same there does base version closed cells entries)
 
 -- what a command leaves is a sector
 pub command_keeps_sector : (s : SectorData) (seat : SeatData) (cmd : Cmd) → IsSector s → IsSector (sector_after s seat cmd (answer_of s seat cmd))
@@ -80,7 +96,8 @@ begun base cells version entries closed same none most = subst (λ l. IsSector (
 })
 
 -- and it is the next window of a sector that had so many entries
-pub is_renewed : (base cells : SectorCells) (version : Version) (entries : List Entry) (closed : ℕ) (old : SectorData) (fresh : FreshData) → base ≡ cells → entries ≡ []
+pub is_renewed : (base cells : SectorCells) (version : Version) (entries : List Entry) (closed : ℕ) (old : SectorData) (fresh : FreshData)
+    → base ≡ cells → entries ≡ []
     → record { cells = cells; version = version } ≡ fresh → closed ≡ count_of old → sector_data base cells version entries closed ≡ renewed old fresh
 unfolding renewed
 is_renewed base cells version entries closed old fresh same none view count = λ i. record {

@@ -28,7 +28,8 @@ pub ended : {X : Type 0} (done left all : List X) → left ≡ [] → done ++ le
 ended done left all nothing so_far = sym (append-nil done) ∙ ap (λ l. done ++ l) (sym nothing) ∙ so_far
 
 -- what a move with its fate puts down, before what those behind it do
-pub put_first : (w : Pos → Cell) (moves : List Moving) (fates : List (Pos × Fate)) (i : ℕ) (m : Moving) (d : Pos × Fate) → i < length moves → length fates ≡ length moves
+pub put_first : (w : Pos → Cell) (moves : List Moving) (fates : List (Pos × Fate)) (i : ℕ) (m : Moving) (d : Pos × Fate)
+    → i < length moves → length fates ≡ length moves
     → m ≡ get_or moves i m
     → put_down w (drop i moves) (drop i fates) ≡ effects_by w m (get_or fates i d).1 ++ put_down w (drop (i + 1) moves) (drop (i + 1) fates)
 put_first w moves fates i m d within each is =
@@ -44,10 +45,12 @@ passed true p rest = refl
 passed false p rest = refl
 
 -- what shows, and what shows the same, of one change before others
-pub shown_first : (w : Pos → Cell) (put : Pos × Cell) (puts : List (Pos × Cell)) → shown_changes w (put ∷ puts) ≡ shown_changes w (put ∷ []) ++ shown_changes w puts
+pub shown_first : (w : Pos → Cell) (put : Pos × Cell) (puts : List (Pos × Cell))
+    → shown_changes w (put ∷ puts) ≡ shown_changes w (put ∷ []) ++ shown_changes w puts
 shown_first w put puts = passed _ put.0 (shown_changes w puts)
 
-pub hidden_first : (w : Pos → Cell) (put : Pos × Cell) (puts : List (Pos × Cell)) → hidden_changes w (put ∷ puts) ≡ hidden_changes w (put ∷ []) ++ hidden_changes w puts
+pub hidden_first : (w : Pos → Cell) (put : Pos × Cell) (puts : List (Pos × Cell))
+    → hidden_changes w (put ∷ puts) ≡ hidden_changes w (put ∷ []) ++ hidden_changes w puts
 hidden_first w put puts = kept _ put.0 (hidden_changes w puts)
 
 -- one sector more

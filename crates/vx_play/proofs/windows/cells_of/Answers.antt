@@ -6,7 +6,8 @@ use Rattle.vx_play.specs.Plays.{cells_of}
 use Rattle.vx_play.proofs.windows.cells_of.Goals as goal
 
 -- the cells of one sector more
-one_more : {X : Type 0} (now : X → SectorCells) (xs new : List X) (x : X) (ss : List SectorData) (i : ℕ) (s : SectorData) → new ≡ xs ++ x ∷ [] → now x ≡ cells_of s
+one_more : {X : Type 0} (now : X → SectorCells) (xs new : List X) (x : X) (ss : List SectorData) (i : ℕ) (s : SectorData)
+    → new ≡ xs ++ x ∷ [] → now x ≡ cells_of s
     → i < length ss → s ≡ get_or ss i s → map now xs ≡ map cells_of (take i ss) → map now new ≡ map cells_of (take (i + 1) ss)
 one_more now xs new x ss i s pushed last within is so_far =
     ap (map now) pushed ∙ map-append now xs (x ∷ []) ∙ (λ j. so_far j ++ (last j ∷ [])) ∙ sym (map-append cells_of (take i ss) (s ∷ []))

@@ -14,5 +14,6 @@ loop-cells-preserved c =
 
 pub returns : goal.returns
 returns c =
-    let ended = YieldsList-end (YieldsList-from_vec {s = c.into_iter-cells-iterator.result} c.args.cells.items (search rules) (search rules)) c.loop-cells.yielded c.loop-cells.cells-iterator c.loop-cells.yielded_by c.next.result c.next.new.self c.in-None.is c.next.ensures.steps in
+    let ended = YieldsList-end (YieldsList-from_vec {s = c.into_iter-cells-iterator.result} c.args.cells.items (search rules) (search rules))
+    c.loop-cells.yielded c.loop-cells.cells-iterator c.loop-cells.yielded_by c.next.result c.next.new.self c.in-None.is c.next.ensures.steps in
     c.loop-cells.invariant ∙ ap (map (opened_by c.args.version.now)) (sym (map-id c.loop-cells.yielded) ∙ ended.0)

@@ -13,4 +13,5 @@ loop-i-preserved g c =
 pub returns : goal.returns
 returns g c =
     let w = g.S.Standing.stands c.args.map.now in
-    ended c.loop-i.cells.items _ _ (ap (λ moves. put_down w moves (drop c.loop-i.i c.args.fates.now)) (drop_of_length-le c.args.moves.now c.loop-i-test.false)) c.loop-i.invariant
+    ended c.loop-i.cells.items _ _ (ap (λ moves. put_down w moves (drop c.loop-i.i c.args.fates.now))
+    (drop_of_length-le c.args.moves.now c.loop-i-test.false)) c.loop-i.invariant

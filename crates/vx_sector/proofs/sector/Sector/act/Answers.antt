@@ -30,7 +30,8 @@ pub returns-clause-answer : goal.returns-clause-answer
 returns-clause-answer c = there_answered c.args.self.now (seat_of c.args.seat) c.args.cmd _ (search rules) (search rules) c.carry_out.ensures.answer
 
 pub returns-clause-memory : goal.returns-clause-memory
-returns-clause-memory c = inr (subst (λ a. is_recorded a ≡ true) (answered_by_the_rules c.args.self.now (seat_of c.args.seat) c.args.cmd (search rules) (search rules)) (answer_recorded _ _ _ _))
+returns-clause-memory c = inr (subst (λ a. is_recorded a ≡ true) (answered_by_the_rules c.args.self.now (seat_of c.args.seat) c.args.cmd (search rules)
+    (search rules)) (answer_recorded _ _ _ _))
 
 pub returns-clause-outside : goal.returns-clause-outside
 returns-clause-outside c = there_not_outside c.args.self.now (seat_of c.args.seat) c.args.cmd _ (search rules) (search rules) c.carry_out.ensures.answer

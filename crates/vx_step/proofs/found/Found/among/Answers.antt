@@ -6,7 +6,8 @@ use Rattle.vx_step.proofs.Turning.{changed_more, restless_more, all_numbers}
 use Rattle.vx_step.proofs.found.Found.among.Goals as goal
 
 pub add_places-requires-clause-there : goal.add_places-requires-clause-there
-add_places-requires-clause-there g c = subst (λ n. c.loop-number.number < n) (c.sectors-number-end.ensures ∙ ap sector_count c.bounds.ensures) c.loop-number-test.true
+add_places-requires-clause-there g c = subst (λ n. c.loop-number.number < n) (c.sectors-number-end.ensures ∙ ap sector_count c.bounds.ensures)
+    c.loop-number-test.true
 
 pub loop-number-preserved : goal.loop-number-preserved
 loop-number-preserved g c =
@@ -20,9 +21,11 @@ loop-number-preserved g c =
 pub by-requires-clause-changes : goal.by-requires-clause-changes
 by-requires-clause-changes g c =
     c.loop-number.invariant.changes
-    ∙ ap (changed_up_to c.args.map.now) (all_numbers c.loop-number.number _ _ _ c.loop-number-test.false c.loop-number.auto.number-end c.sectors-number-end.ensures c.bounds.ensures)
+    ∙ ap (changed_up_to c.args.map.now) (all_numbers c.loop-number.number _ _ _ c.loop-number-test.false c.loop-number.auto.number-end
+    c.sectors-number-end.ensures c.bounds.ensures)
 
 pub by-requires-clause-restless : goal.by-requires-clause-restless
 by-requires-clause-restless g c =
     c.loop-number.invariant.restless
-    ∙ ap (restless_up_to c.args.map.now) (all_numbers c.loop-number.number _ _ _ c.loop-number-test.false c.loop-number.auto.number-end c.sectors-number-end.ensures c.bounds.ensures)
+    ∙ ap (restless_up_to c.args.map.now) (all_numbers c.loop-number.number _ _ _ c.loop-number-test.false c.loop-number.auto.number-end
+    c.sectors-number-end.ensures c.bounds.ensures)

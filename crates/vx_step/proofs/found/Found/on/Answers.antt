@@ -6,7 +6,8 @@ use Rattle.vx_step.proofs.Turning.{changed_more, restless_more, all_numbers}
 use Rattle.vx_step.proofs.found.Found.on.Goals as goal
 
 pub add_sector-requires-clause-there : goal.add_sector-requires-clause-there
-add_sector-requires-clause-there g c = subst (λ n. c.loop-sector.sector < n) (c.sectors-sector-end.ensures ∙ ap sector_count c.bounds.ensures) c.loop-sector-test.true
+add_sector-requires-clause-there g c = subst (λ n. c.loop-sector.sector < n) (c.sectors-sector-end.ensures ∙ ap sector_count c.bounds.ensures)
+    c.loop-sector-test.true
 
 pub loop-sector-preserved : goal.loop-sector-preserved
 loop-sector-preserved g c =
@@ -20,9 +21,11 @@ loop-sector-preserved g c =
 pub by-requires-clause-changes : goal.by-requires-clause-changes
 by-requires-clause-changes g c =
     c.loop-sector.invariant.changes
-    ∙ ap (changed_up_to c.args.map.now) (all_numbers c.loop-sector.sector _ _ _ c.loop-sector-test.false c.loop-sector.auto.sector-end c.sectors-sector-end.ensures c.bounds.ensures)
+    ∙ ap (changed_up_to c.args.map.now) (all_numbers c.loop-sector.sector _ _ _ c.loop-sector-test.false c.loop-sector.auto.sector-end
+    c.sectors-sector-end.ensures c.bounds.ensures)
 
 pub by-requires-clause-restless : goal.by-requires-clause-restless
 by-requires-clause-restless g c =
     c.loop-sector.invariant.restless
-    ∙ ap (restless_up_to c.args.map.now) (all_numbers c.loop-sector.sector _ _ _ c.loop-sector-test.false c.loop-sector.auto.sector-end c.sectors-sector-end.ensures c.bounds.ensures)
+    ∙ ap (restless_up_to c.args.map.now) (all_numbers c.loop-sector.sector _ _ _ c.loop-sector-test.false c.loop-sector.auto.sector-end
+    c.sectors-sector-end.ensures c.bounds.ensures)

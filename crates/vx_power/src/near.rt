@@ -1,4 +1,4 @@
-ghost use Rattle.std.specs.Prelude.{◌≡◌, IfOk};
+ghost use Rattle.std.specs.Prelude.{◌≡◌, [], IfOk, OnOk};
 ghost use Rattle.vx_cells.specs.Maps.{cell_on};
 ghost use Rattle.vx_geom.specs.declared.pos.Pos.{Pos};
 ghost use Rattle.vx_power.specs.Levels.{has, is_in};
@@ -32,11 +32,29 @@ fn dust_near_in(
 {
     let mut spread = Spread::new(alloc);
     let mut found = Vec::new(alloc);
+    find_near(&mut spread, &mut found, alloc, map, columns, places)?;
+    Ok(found)
+}
+
+// Finds that dust by a spread that has reached nothing yet, and adds it to an empty list.
+fn find_near(
+    spread: &mut Spread,
+    found: &mut Vec<Pos>,
+    alloc: Global,
+    map: &Frozen<'_>,
+    columns: Columns,
+    places: &[Pos],
+) -> Result<(), AllocError>
+    requires unspread { spread.old ≡ record { table = []; reached = [] } }
+    requires empty { found.old.items ≡ [] }
+    ensures { OnOk result ((p : Pos) → has found.new.items p
+        ≡ is_near_in (cell_on map.now) (is_in columns) (has places.now) p) }
+{
     spread.reach_dust(map, &columns, places)?;
-    spread.add_reached(&mut found)?;
+    spread.add_reached(found)?;
     for links in 0..MOST_LINKS {
         spread.go_on(alloc, map, &columns, MOST_LINKS - links)?;
-        spread.add_reached(&mut found)?;
+        spread.add_reached(found)?;
     }
-    Ok(found)
+    Ok(())
 }

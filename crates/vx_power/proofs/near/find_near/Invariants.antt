@@ -5,7 +5,7 @@ use Rattle.vx_power.specs.Levels.{has, is_in}
 use Rattle.vx_power.specs.Nearness.{touched_in}
 use Rattle.vx_power.specs.Spreading.{links_in, IsSpread}
 use Rattle.vx_power.specs.Walks.{within}
-use Rattle.vx_power.proofs.near.dust_near_in.Given as goal
+use Rattle.vx_power.proofs.near.find_near.Given as goal
 
 -- so many links are gone, and all that they lead to is found
 abbrev pub invariant-loop-links : goal.invariant-loop-links

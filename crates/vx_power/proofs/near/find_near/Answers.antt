@@ -8,7 +8,7 @@ use Rattle.vx_power.specs.Walks.{within}
 use Rattle.vx_power.proofs.Finding.{found_more, none_touched}
 use Rattle.vx_power.proofs.Having.{has_filter}
 use Rattle.vx_power.proofs.Rounds.{begun, round_done, gained_inside}
-use Rattle.vx_power.proofs.near.dust_near_in.Goals as goal
+use Rattle.vx_power.proofs.near.find_near.Goals as goal
 
 pub loop-links-init : goal.loop-links-init
 loop-links-init c =
@@ -21,12 +21,12 @@ loop-links-init c =
     let spread = begun inside touched (links_in w inside) c.reach_dust.new.self dust
     (λ p there. has_filter (λ p. is_dust (w p)) places p
     ∙ sym (ap (λ b. b && (is_dust (w p) && has places p)) there))
-    (subst (λ s. Reaches inside 15 s c.reach_dust.new.self dust) c.new-spread.ensures c.in_ok-reach_dust.ensures) in
+    (subst (λ s. Reaches inside 15 s c.reach_dust.new.self dust) c.requires.unspread c.in_ok-reach_dust.ensures) in
     record {
       spread = spread;
       found = found_more w inside touched (none_touched w inside (has places)) 0 c.reach_dust.new.self
-          c.new-found.result.items c.add_reached.new.found.items spread
-          (λ p. ap (λ ps. has ps p) c.new-found.ensures.items) c.in_ok-add_reached.ensures;
+          c.args.found.now.items c.add_reached.new.found.items spread
+          (λ p. ap (λ ps. has ps p) c.requires.empty) c.in_ok-add_reached.ensures;
     }
 
 pub loop-links-preserved : goal.loop-links-preserved

@@ -5,7 +5,7 @@ use vx_region::Name;
 use vx_sector::Cmd;
 
 /// What a line of a script says. docs/FORMATS.md has the table of the lines.
-#[derive(Debug, Drop)]
+#[derive(Drop)]
 pub enum Line {
     /// A blank line or a comment.
     Skipped,

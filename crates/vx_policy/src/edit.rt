@@ -68,8 +68,8 @@ impl Edit {
         }
     }
 
-    // The id that it names.
-    fn target(&self) -> &str
+    /// The id that it names.
+    pub(crate) fn target(&self) -> &str
         ensures { result.now ≡ target (asked self.now) }
     {
         match self {

@@ -23,17 +23,18 @@ impl Policy {
         ensures { result ≡ refusal self.now (asked edit.now) }
     {
         let regions = self.regions();
+        let id = edit.target();
         match edit {
-            Edit::Define(id, shape) => of_definition(regions, id, shape),
-            Edit::Reshape(id, shape) => of_reshape(regions, id, shape),
-            Edit::Remove(id) => of_removal(regions, id),
-            Edit::Priority(id, priority) => of_priority(regions, id, *priority),
-            Edit::Parent(id, None) => of_orphaning(regions, id),
-            Edit::Parent(id, Some(parent)) => of_parent(regions, id, parent),
-            Edit::SetFlag(id, flag, setting) => of_flag(regions, id, *flag, *setting),
-            Edit::ClearFlag(id, flag) => of_clearing(regions, id, *flag),
-            Edit::Owner(id, listing, name) => of_name(regions, Role::Owner, id, *listing, name),
-            Edit::Member(id, listing, name) => of_name(regions, Role::Member, id, *listing, name),
+            Edit::Define(_, shape) => of_definition(regions, id, shape),
+            Edit::Reshape(_, shape) => of_reshape(regions, id, shape),
+            Edit::Remove(_) => of_removal(regions, id),
+            Edit::Priority(_, priority) => of_priority(regions, id, *priority),
+            Edit::Parent(_, None) => of_orphaning(regions, id),
+            Edit::Parent(_, Some(parent)) => of_parent(regions, id, parent),
+            Edit::SetFlag(_, flag, setting) => of_flag(regions, id, *flag, *setting),
+            Edit::ClearFlag(_, flag) => of_clearing(regions, id, *flag),
+            Edit::Owner(_, listing, name) => of_name(regions, Role::Owner, id, *listing, name),
+            Edit::Member(_, listing, name) => of_name(regions, Role::Member, id, *listing, name),
         }
     }
 }

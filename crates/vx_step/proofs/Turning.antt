@@ -1,6 +1,9 @@
 -- Turns of loops that take a list from its front, and of those over the numbers of sectors.
-use Rattle.std.proofs.Common.{◌≡◌, ℕ, ◌+◌, ◌<◌, ◌≤◌, Bool, true, false, if◌then◌else◌, List, [], ◌∷◌, ◌++◌, length, drop, get_or, refl, sym, ap, ◌∙◌, append_assoc, add-one, drop-cons, arith}
-use Rattle.std.proofs.lemmas.List.{append-nil}
+use Rattle.std.proofs.Common.{◌≡◌, ℕ, ◌+◌, ◌<◌, ◌≤◌, Bool, true, false, if◌then◌else◌, List, [], ◌∷◌, ◌++◌, length, map, take, drop, get_or, refl, sym, ap, ◌∙◌, append_assoc, add-one, drop-cons, arith}
+use Rattle.std.specs.List.{flat_map}
+use Rattle.std.proofs.lemmas.List.{append-nil, map-append, take_more}
+use Rattle.std.proofs.lemmas.List.Concat.{flat_map-cons}
+use Rattle.std.proofs.lemmas.Grind.{flat_map-append}
 use Rattle.vx_geom.specs.declared.pos.Pos.{Pos}
 use Rattle.vx_geom.specs.Sizes.{Sizes, sector_count}
 use Rattle.vx_block.specs.declared.cell.Cell.{Cell}
@@ -64,3 +67,21 @@ restless_more m n = rw add-one refl
 pub all_numbers : (n last : ℕ) (bounds sizes : Sizes) → last ≤ n → n ≤ last → last ≡ sector_count bounds → bounds ≡ sizes → n ≡ sector_count sizes
 all_numbers n last bounds sizes past within count same =
     let is : n ≡ last = omega (arith, past, within) in is ∙ count ∙ ap sector_count same
+
+-- one more of a list is told in the same way
+pub mapped_more : {X Y : Type 0} (f : X → Y) (xs : List X) (i : ℕ) (x : X) (done new : List Y) (y : Y)
+    → new ≡ done ++ y ∷ [] → y ≡ f x → i < length xs → x ≡ get_or xs i x → done ≡ map f (take i xs) → new ≡ map f (take (i + 1) xs)
+mapped_more f xs i x done new y added told within is so_far =
+    let taken = take_more xs i x within ∙ ap (λ last. take i xs ++ (last ∷ [])) (sym is) in
+    added ∙ (λ j. so_far j ++ (told j ∷ [])) ∙ sym (map-append f (take i xs) (x ∷ [])) ∙ ap (map f) (sym taken)
+
+-- and of a list that is handed over
+pub mapped_on : {X Y : Type 0} (f : X → Y) (xs : List X) (x : X) (done new : List Y) → new ≡ done ++ f x ∷ [] → done ≡ map f xs → new ≡ map f (xs ++ (x ∷ []))
+mapped_on f xs x done new added so_far = added ∙ (λ j. so_far j ++ (f x ∷ [])) ∙ sym (map-append f xs (x ∷ []))
+
+-- and what one more brings
+pub brought_on : {X Y : Type 0} (f : X → List Y) (xs : List X) (x : X) (done new : List Y) → new ≡ done ++ f x → done ≡ flat_map f xs → new
+    ≡ flat_map f (xs ++ (x ∷ []))
+brought_on f xs x done new added so_far =
+    let one : flat_map f (x ∷ []) ≡ f x = flat_map-cons f x [] ∙ append-nil (f x) in
+    added ∙ (λ j. so_far j ++ f x) ∙ sym (flat_map-append f xs (x ∷ []) ∙ ap (λ l. flat_map f xs ++ l) one)

@@ -1,0 +1,26 @@
+use Rattle.std.proofs.Common.{map, sym, ap, ◌∙◌, rules}
+use Rattle.std.specs.List.{flat_map}
+use Rattle.std.proofs.lemmas.Iterator.Consumers.{YieldsList-end}
+use Rattle.std.proofs.lemmas.Iterator.Adapters.{YieldsList-from_vec}
+use Rattle.std.proofs.lemmas.List.{map-id}
+use Rattle.vx_step.specs.declared.found.Found.{Found}
+use Rattle.vx_step.proofs.Turning.{mapped_on, brought_on}
+use Rattle.vx_step.proofs.parts.parted.Goals as goal
+
+pub loop-piece-preserved : goal.loop-piece-preserved
+loop-piece-preserved c = record {
+  changes = mapped_on (λ (piece : Found). piece.changes) c.loop-piece.yielded c.in-Some.piece _ _ c.in_ok-push.ensures.items c.loop-piece.invariant.changes;
+  moves = brought_on (λ (piece : Found). piece.moves.items) c.loop-piece.yielded c.in-Some.piece _ _ c.in_ok-append.ensures.items c.loop-piece.invariant.moves;
+}
+
+pub returns-clause-changes : goal.returns-clause-changes
+returns-clause-changes c =
+    let ended = YieldsList-end (YieldsList-from_vec {s = c.into_iter-piece-iterator.result} c.args.found.items (search rules) (search rules))
+    c.loop-piece.yielded c.loop-piece.piece-iterator c.loop-piece.yielded_by c.next.result c.next.new.self c.in-None.is c.next.ensures.steps in
+    c.loop-piece.invariant.changes ∙ ap (map (λ (piece : Found). piece.changes)) (sym (map-id c.loop-piece.yielded) ∙ ended.0)
+
+pub returns-clause-moves : goal.returns-clause-moves
+returns-clause-moves c =
+    let ended = YieldsList-end (YieldsList-from_vec {s = c.into_iter-piece-iterator.result} c.args.found.items (search rules) (search rules))
+    c.loop-piece.yielded c.loop-piece.piece-iterator c.loop-piece.yielded_by c.next.result c.next.new.self c.in-None.is c.next.ensures.steps in
+    c.loop-piece.invariant.moves ∙ ap (flat_map (λ (piece : Found). piece.moves.items)) (sym (map-id c.loop-piece.yielded) ∙ ended.0)

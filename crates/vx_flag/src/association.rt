@@ -1,5 +1,5 @@
 /// What a subject is to a region (docs/RULES.md).
-#[derive(Clone, Copy, Debug, PartialEq, Eq, Hash)]
+#[derive(Clone, Copy, Debug, PartialEq, Eq)]
 pub enum Association {
     Owner,
     Member,

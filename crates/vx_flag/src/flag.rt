@@ -4,7 +4,7 @@ ghost use Rattle.vx_flag.specs.Flag.{flag_text, flags, flag_index, flag_of};
 use std::fmt;
 
 /// What a region can allow or deny. How a flag decides on an action is in docs/RULES.md.
-#[derive(Clone, Copy, Debug, PartialEq, Eq, Hash)]
+#[derive(Clone, Copy, Debug, PartialEq, Eq)]
 pub enum Flag {
     /// Decides on each action whose own flag is not set.
     Build,

@@ -5,7 +5,7 @@ use crate::association::Association;
 use std::fmt;
 
 /// For whom a region sets a flag.
-#[derive(Clone, Copy, Debug, PartialEq, Eq, Hash)]
+#[derive(Clone, Copy, Debug, PartialEq, Eq)]
 pub enum Group {
     All,
     Members,

@@ -4,7 +4,7 @@ ghost use Rattle.vx_flag.specs.State.{state_text, state_of, strictest};
 use std::fmt;
 
 /// What a region sets a flag to.
-#[derive(Clone, Copy, Debug, PartialEq, Eq, Hash)]
+#[derive(Clone, Copy, Debug, PartialEq, Eq)]
 pub enum State {
     Allow,
     Deny,

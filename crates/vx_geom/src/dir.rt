@@ -3,7 +3,7 @@ ghost use Rattle.vx_geom.specs.Dirs.{opposite, same_dir};
 
 /// One of the six directions. East is towards greater x, up towards greater y, south towards
 /// greater z.
-#[derive(Clone, Copy, Debug, PartialEq, Eq, Hash)]
+#[derive(Clone, Copy, Debug, PartialEq, Eq)]
 pub enum Dir {
     East,
     West,

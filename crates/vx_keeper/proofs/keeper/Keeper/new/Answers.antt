@@ -3,6 +3,7 @@ use Rattle.std.specs.List.{All}
 use Rattle.vx_sector.specs.SectorData.{SectorData}
 use Rattle.vx_play.specs.Plays.{first_version, opened_with}
 use Rattle.vx_keeper.specs.Marks.{WorldData, IsPartOf}
+use Rattle.vx_keeper.proofs.Beginning.{opened_keeps}
 use Rattle.vx_keeper.proofs.Parts.{parts_opened}
 use Rattle.vx_keeper.proofs.keeper.Keeper.new.Goals as goal
 
@@ -15,3 +16,9 @@ returns-clause-parts g c =
     subst (λ w. All (IsPartOf w) c.in_ok-sectors.sectors.items) (sym known)
     (subst (λ (ss : List SectorData). All (IsPartOf world) ss) (sym opened)
     (parts_opened o.terrain o.policy c.soundness.ensures.map.each))
+
+pub opened-keeper-requires : goal.opened-keeper-requires
+opened-keeper-requires g c =
+    opened_keeps g.A.Naming.first g.A.Places.all c.args.opening c.in_ok-archive.archive c.in_ok-known.known c.in_ok-known.waking
+    c.soundness.ensures.map c.in_ok-known.ensures.rests c.requires.first c.requires.all
+    c.in_ok-archive.ensures.chronicle c.in_ok-archive.ensures.counts c.in_ok-known.ensures.known

@@ -8,6 +8,7 @@ use Rattle.vx_cells.specs.Wholes.{IsMap, with_cells_on}
 use Rattle.vx_sector.specs.SectorData.{SectorData}
 use Rattle.vx_sector.specs.Windows.{count_of, most_entries}
 use Rattle.vx_step.proofs.Puts.{puts_whole}
+use Rattle.vx_play.specs.Nexts.{AreNextOf}
 use Rattle.vx_play.specs.Plays.{cells_of, entries_in, entries_of, all_renewed}
 use Rattle.vx_core.specs.Chronicles.{TickData, ChronicleData}
 use Rattle.vx_core.specs.Records.{tick_in}
@@ -202,3 +203,20 @@ returns-clause-parts g c =
     (sym (sectors_are g c))
     (parts_renewed (map_next c.args.self.now c.args.sectors.now) c.args.ready.version c.args.sectors.now
     (next_whole g c).each many c.are_sectors.ensures))
+
+pub returns-clause-chronicle : goal.returns-clause-chronicle
+returns-clause-chronicle g c = chronicle_is g c
+
+pub returns-clause-world : goal.returns-clause-world
+returns-clause-world g c = world_is g c
+
+pub returns-clause-fates : goal.returns-clause-fates
+returns-clause-fates g c = c.requires.ready.told ∙ c.requires.ready.worked.told
+
+pub go_on-was-requires-clause-suits : goal.go_on-was-requires-clause-suits
+go_on-was-requires-clause-suits g c = c.requires.ready.bases
+
+pub renew_sectors-windows-requires-clause-nexts : goal.renew_sectors-windows-requires-clause-nexts
+renew_sectors-windows-requires-clause-nexts g c =
+    subst (λ v. AreNextOf v c.args.sectors.now c.args.ready.nexts.items)
+    (sym (c.version.ensures ∙ c.go_on-was.ensures.version)) c.requires.ready.nexts

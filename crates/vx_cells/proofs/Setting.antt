@@ -1,5 +1,5 @@
--- A cell put down on a map keeps each sector in its place.
-use Rattle.std.proofs.Common.{◌≡◌, ℕ, Bool, true, false, List, set, slice_get, Option, Some, None, if◌then◌else◌, refl, sym, ap, ◌∙◌, subst}
+-- Cells put down on a map keep each sector in its place.
+use Rattle.std.proofs.Common.{◌≡◌, ℕ, Bool, true, false, List, [], ◌∷◌, set, slice_get, slice_set, Option, Some, None, unwrap_or, if◌then◌else◌, refl, sym, ap, ◌∙◌, subst}
 use Rattle.std.specs.Option.{option_and_then}
 use Rattle.std.proofs.lemmas.List.{length-set}
 use Rattle.vx_block.specs.declared.cell.Cell.{Cell}
@@ -7,7 +7,7 @@ use Rattle.vx_geom.specs.declared.pos.Pos.{Pos}
 use Rattle.vx_geom.specs.Sizes.{Sizes, AreSizes, sector_count, sector_of}
 use Rattle.vx_cells.specs.Maps.{MapData, AreSectors}
 use Rattle.vx_cells.specs.SectorCells.{SectorCells, holds, with_block, with_cell}
-use Rattle.vx_cells.specs.Wholes.{bare, set_in, with_cell_on, IsMap}
+use Rattle.vx_cells.specs.Wholes.{bare, set_in, with_cell_on, with_cells_on, IsMap}
 use Rattle.vx_cells.proofs.Placed.{placed_again, airs_count, airs_placed}
 
 -- another sector in the place of one, with the same number
@@ -53,3 +53,44 @@ cell_is_set m p cell k c d found there held made =
     ∙ ap (set_in m p cell k) there
     ∙ ap (λ b. if b then Some (record m { sectors = set m.sectors k (with_cell c p cell) }) else None) held
     ∙ ap (λ d. Some (record m { sectors = set m.sectors k d })) (sym made)
+
+-- so the sectors stay in their places, and the world as large, where a cell is put down if it lies
+-- inside
+one_whole : (m : MapData) (q : Pos) (cell : Cell) → IsMap m
+    → IsMap (unwrap_or (with_cell_on m q cell) m) × ((unwrap_or (with_cell_on m q cell) m).sizes ≡ m.sizes)
+unfolding with_cell_on
+one_whole m q cell whole = by (with_cell_on m q cell) refl
+  where
+    in_sector : (k : ℕ) (c : Option SectorCells) (next : MapData) → set_in m q cell k c ≡ Some next
+        → next.sizes ≡ m.sizes
+    in_sector k None next made = cc
+    in_sector k (Some c) next made = held (holds c q) made
+      where
+        held : (b : Bool)
+            → (if b then Some (record m { sectors = slice_set m.sectors k (with_cell c q cell) }) else None)
+            ≡ Some next → next.sizes ≡ m.sizes
+        held true made =
+            let same : record m { sectors = slice_set m.sectors k (with_cell c q cell) } ≡ next = cc in
+            ap (λ n. n.sizes) (sym same)
+        held false made = cc
+
+    of_number : (k : Option ℕ) (next : MapData)
+        → option_and_then (λ k. set_in m q cell k (slice_get m.sectors k)) k ≡ Some next
+        → next.sizes ≡ m.sizes
+    of_number None next made = cc
+    of_number (Some k) next made = in_sector k (slice_get m.sectors k) next made
+
+    by : (o : Option MapData) → with_cell_on m q cell ≡ o
+        → IsMap (unwrap_or o m) × ((unwrap_or o m).sizes ≡ m.sizes)
+    by None made = (whole, refl)
+    by (Some next) made =
+        (cell_keeps_map m next q cell whole made, of_number (sector_of m.sizes q) next made)
+
+-- and where several are
+pub puts_whole : (m : MapData) (puts : List (Pos × Cell)) → IsMap m
+    → IsMap (with_cells_on m puts) × ((with_cells_on m puts).sizes ≡ m.sizes)
+puts_whole m [] whole = (whole, refl)
+puts_whole m (put ∷ puts) whole =
+    let one = one_whole m put.0 put.1 whole in
+    let rest = puts_whole (unwrap_or (with_cell_on m put.0 put.1) m) puts one.0 in
+    (rest.0, rest.1 ∙ one.1)

@@ -15,11 +15,10 @@ use Rattle.vx_cells.specs.SectorCells.{SectorCells, holds, with_block, with_cell
 use Rattle.vx_cells.specs.Wholes.{IsMap, set_in, with_cell_on, with_cells_on}
 use Rattle.vx_cells.proofs.MapLemmas.{is_held}
 use Rattle.vx_cells.proofs.Placed.{found_within}
-use Rattle.vx_cells.proofs.Setting.{again, cell_is_set}
+use Rattle.vx_cells.proofs.Setting.{again, cell_is_set, puts_whole}
 use Rattle.vx_policy.specs.declared.version.Version.{Version}
 use Rattle.vx_sector.specs.SectorData.{SectorData, NextData}
 use Rattle.vx_sector.specs.Windows.{IsNextOf, gone_on, put_in, renewed}
-use Rattle.vx_step.proofs.Puts.{puts_whole}
 use Rattle.vx_play.specs.Nexts.{AreNextOf, gone_on_each, put_at, put_by, put_in_at, put_all}
 use Rattle.vx_play.specs.Plays.{cells_of, entries_of, renewed_over, all_renewed}
 use Rattle.vx_play.proofs.Renewals.{all_bring}

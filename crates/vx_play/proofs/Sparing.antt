@@ -17,7 +17,7 @@ use Rattle.vx_cells.proofs.Copying.{held_too}
 use Rattle.vx_cells.proofs.MapLemmas.{placed_at}
 use Rattle.vx_cells.proofs.Placed.{holds_found}
 use Rattle.vx_policy.specs.declared.version.Version.{Version}
-use Rattle.vx_step.proofs.Puts.{puts_whole}
+use Rattle.vx_cells.proofs.Setting.{puts_whole}
 use Rattle.vx_power.specs.Levels.{has, same_place}
 use Rattle.vx_power.proofs.Having.{own_place}
 use Rattle.vx_sector.specs.Commands.{place_of}

@@ -13,12 +13,11 @@ use Rattle.vx_cells.specs.SectorCells.{SectorCells, holds, with_block, with_cell
 use Rattle.vx_cells.specs.Wholes.{with_cell_on, with_cells_on, IsMap}
 use Rattle.vx_cells.proofs.MapLemmas.{placed_at}
 use Rattle.vx_cells.proofs.Placed.{found_within, holds_found}
-use Rattle.vx_cells.proofs.Setting.{cell_is_set}
+use Rattle.vx_cells.proofs.Setting.{cell_is_set, puts_whole}
 use Rattle.vx_power.specs.Laws.{dust_level}
 use Rattle.vx_part.specs.Changes.{change_at, before, changes}
 use Rattle.vx_step.specs.Pieces.{AreEach, AreFromTo, changed_in, with_own}
 use Rattle.vx_step.specs.Ticks.{changed_up_to, advanced}
-use Rattle.vx_step.proofs.Puts.{puts_whole}
 
 -- cells one after another
 pub cells_joined : (m : MapData) (xs ys : List (Pos × Cell))

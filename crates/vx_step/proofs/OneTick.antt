@@ -21,7 +21,7 @@ use Rattle.vx_step.specs.Fates.{IsFate, AreFates, fate_by, fate_of, fates_of}
 use Rattle.vx_step.specs.Laws.{TickIsStepped, SteppedIsTick, StepsKeepMaps}
 use Rattle.vx_step.specs.Ticks.{asked_before, asked, asked_up_to, AreMoves, changed_up_to, advanced, put_down, moves_of, fates_on, stepped}
 use Rattle.vx_step.proofs.InOrder.{ordered_same, in_order, ordered_sorted, ordered_permutes}
-use Rattle.vx_step.proofs.Puts.{puts_whole}
+use Rattle.vx_cells.proofs.Setting.{puts_whole}
 
 module _ (m : MapData) where
   abbrev asks : Pos → Option Moving

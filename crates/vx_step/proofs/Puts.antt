@@ -1,16 +1,14 @@
 -- What stands at a position once cells were put down one after another.
-use Rattle.std.proofs.Common.{◌≡◌, ◌≢◌, ◌⊎◌, ℕ, Bool, true, false, if◌then◌else◌, inl, inr, List, [], ◌∷◌, slice_get, slice_set, Option, Some, None, is_some, unwrap_or, refl, sym, ap, ◌∙◌}
-use Rattle.std.specs.Option.{option_and_then}
+use Rattle.std.proofs.Common.{◌≡◌, ◌≢◌, ◌⊎◌, Bool, true, false, inl, inr, List, [], ◌∷◌, Option, Some, None, is_some, unwrap_or, refl, sym, ap, ◌∙◌}
 use Rattle.std.proofs.lemmas.Bool.{false≢true, true≢false}
 use Rattle.vx_geom.specs.declared.pos.Pos.{Pos}
-use Rattle.vx_geom.specs.Sizes.{is_inside, sector_of}
+use Rattle.vx_geom.specs.Sizes.{is_inside}
 use Rattle.vx_block.specs.declared.cell.Cell.{Cell}
 use Rattle.vx_cells.specs.MapLaws.{block_on, IsFilled}
 use Rattle.vx_cells.specs.Maps.{MapData}
-use Rattle.vx_cells.specs.SectorCells.{SectorCells, holds, placed, with_cell}
-use Rattle.vx_cells.specs.Wholes.{set_in, with_cell_on, with_cells_on, IsMap}
+use Rattle.vx_cells.specs.SectorCells.{placed}
+use Rattle.vx_cells.specs.Wholes.{with_cell_on, with_cells_on}
 use Rattle.vx_cells.proofs.Putting.{put_inside, put_stays_filled, put_cell_is_read, others_stay}
-use Rattle.vx_cells.proofs.Setting.{cell_keeps_map}
 use Rattle.vx_power.specs.Levels.{same_place}
 use Rattle.vx_power.specs.Walks.{IsAmong}
 use Rattle.vx_power.proofs.Having.{place_is, place_of}
@@ -60,45 +58,6 @@ module _ (m : MapData) (q : Pos) (cell : Cell) (filled : IsFilled m) where
         by : (o : Option MapData) → with_cell_on m q cell ≡ o → block_on (unwrap_or o m) p ≡ placed cell
         by None made = stands
         by (Some next) made = ap (block_on next) same ∙ put_cell_is_read m next q cell filled made
-
--- each sector stays in its place
-one_whole : (m : MapData) (q : Pos) (cell : Cell) → IsMap m
-    → IsMap (with_one m q cell) × ((with_one m q cell).sizes ≡ m.sizes)
-unfolding with_cell_on
-one_whole m q cell whole = by (with_cell_on m q cell) refl
-  where
-    in_sector : (k : ℕ) (c : Option SectorCells) (next : MapData) → set_in m q cell k c ≡ Some next
-        → next.sizes ≡ m.sizes
-    in_sector k None next made = cc
-    in_sector k (Some c) next made = held (holds c q) made
-      where
-        held : (b : Bool)
-            → (if b then Some (record m { sectors = slice_set m.sectors k (with_cell c q cell) }) else None)
-            ≡ Some next → next.sizes ≡ m.sizes
-        held true made =
-            let same : record m { sectors = slice_set m.sectors k (with_cell c q cell) } ≡ next = cc in
-            ap (λ n. n.sizes) (sym same)
-        held false made = cc
-
-    of_number : (k : Option ℕ) (next : MapData)
-        → option_and_then (λ k. set_in m q cell k (slice_get m.sectors k)) k ≡ Some next
-        → next.sizes ≡ m.sizes
-    of_number None next made = cc
-    of_number (Some k) next made = in_sector k (slice_get m.sectors k) next made
-
-    by : (o : Option MapData) → with_cell_on m q cell ≡ o
-        → IsMap (unwrap_or o m) × ((unwrap_or o m).sizes ≡ m.sizes)
-    by None made = (whole, refl)
-    by (Some next) made =
-        (cell_keeps_map m next q cell whole made, of_number (sector_of m.sizes q) next made)
-
-pub puts_whole : (m : MapData) (puts : List (Pos × Cell)) → IsMap m
-    → IsMap (with_cells_on m puts) × ((with_cells_on m puts).sizes ≡ m.sizes)
-puts_whole m [] whole = (whole, refl)
-puts_whole m (put ∷ puts) whole =
-    let one = one_whole m put.0 put.1 whole in
-    let rest = puts_whole (with_one m put.0 put.1) puts one.0 in
-    (rest.0, rest.1 ∙ one.1)
 
 -- the world stays as large, with something at each place
 pub puts_filled : (m : MapData) (puts : List (Pos × Cell)) → IsFilled m

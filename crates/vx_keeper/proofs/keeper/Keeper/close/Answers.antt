@@ -7,7 +7,7 @@ use Rattle.vx_cells.specs.Maps.{AreSectors, MapData}
 use Rattle.vx_cells.specs.Wholes.{IsMap, with_cells_on}
 use Rattle.vx_sector.specs.SectorData.{SectorData}
 use Rattle.vx_sector.specs.Windows.{count_of, most_entries}
-use Rattle.vx_step.proofs.Puts.{puts_whole}
+use Rattle.vx_cells.proofs.Setting.{puts_whole}
 use Rattle.vx_play.specs.Nexts.{AreNextOf}
 use Rattle.vx_play.specs.Plays.{cells_of, entries_in, entries_of, all_renewed}
 use Rattle.vx_core.specs.Chronicles.{TickData, ChronicleData}

@@ -17,7 +17,7 @@ cp "$root/bench/$name.rt.in" "$bench/src/main.rt"
 for module in $(sed -n 's/^mod \(.*\);$/\1/p' "$bench/src/main.rt"); do
   cp "$root/bench/$module.rt.in" "$bench/src/$module.rt"
 done
-echo "bench_$name: $(sed -n 's/^vx_play: //p' "$root/crates.txt") vx_play anyhow" >>"$work/crates.txt"
+echo "bench_$name: $(sed -n 's/^vx_play: //p' "$root/crates.txt") vx_play vx_step anyhow" >>"$work/crates.txt"
 cd "$bench"
 rt run </dev/null >"$work/first" 2>"$work/log" || { cat "$work/log" >&2; exit 1; }
 "./out/bench_$name" | column -t

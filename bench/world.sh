@@ -10,7 +10,7 @@ bench=$work/crates/bench_world
 mkdir -p "$bench/src" "$bench/proofs/spend"
 cp "$root/bench/world.rt.in" "$bench/src/main.rt"
 cp "$root/bench/world.picks.in" "$bench/proofs/spend/Invariants.antt"
-echo "bench_world: $(sed -n 's/^vx_world: //p' "$root/crates.txt") vx_world anyhow" >>"$work/crates.txt"
+echo "bench_world: $(sed -n 's/^vx_world: //p' "$root/crates.txt") vx_world vx_play anyhow" >>"$work/crates.txt"
 cd "$bench"
 rt run </dev/null >"$work/first" 2>"$work/log" || { cat "$work/log" >&2; exit 1; }
 "./out/bench_world"

@@ -25,9 +25,9 @@ use Rattle.vx_sector.specs.declared.reply.Reply.TheVariants.{Done}
 use Rattle.vx_sector.proofs.ActingLemmas.{answer_recorded, one_place_changes}
 use Rattle.vx_sector.proofs.Keeping.{sectors_stay_whole}
 use Rattle.vx_sector.proofs.Outside.{answered_by_the_rules}
-use Rattle.vx_step.proofs.Puts.{cases_place}
-use Rattle.vx_play.specs.Plays.{opened_with}
-use Rattle.vx_core.specs.Chronicles.{IsSeatOf, AreSeated}
+use Rattle.vx_tick.proofs.Puts.{cases_place}
+use Rattle.vx_windows.specs.Sectors.{opened_with}
+use Rattle.vx_record.specs.Chronicles.{IsSeatOf, AreSeated}
 
 -- a reply that tells what is done: the policy permits it, by that rule
 pub record IsDone (policy : Regions) (seat : SeatData) (cmd : Cmd) (answer : Result Reply Refusal) : Type 0 where

@@ -12,8 +12,8 @@ use Rattle.vx_region.specs.Regions.{Regions}
 use Rattle.vx_power.specs.Walks.{IsAmong}
 use Rattle.vx_sector.specs.SectorData.{EntryData}
 use Rattle.vx_sector.specs.Windows.{IsWindow, cells_after}
-use Rattle.vx_core.specs.Chronicles.{TickData, AreSeated, all_after, map_acted, AreWindows}
-use Rattle.vx_play.proofs.Playing.{of_found}
+use Rattle.vx_record.specs.Chronicles.{TickData, AreSeated, all_after, map_acted, AreWindows}
+use Rattle.vx_windows.proofs.Sparing.{of_found}
 use Rattle.vx_core.proofs.Commanded.{IsByEntry, window_keeps, window_leaves}
 
 module _ (names : List (List ℕ)) (policy : Regions) where

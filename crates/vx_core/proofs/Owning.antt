@@ -16,13 +16,13 @@ use Rattle.vx_sector.specs.Acting.{judged, rules_answer, cells_by}
 use Rattle.vx_sector.specs.SectorData.{EntryData}
 use Rattle.vx_sector.specs.Windows.{IsWindow}
 use Rattle.vx_sector.proofs.ActingLemmas.{denied_by_the_policy}
-use Rattle.vx_step.specs.declared.fate.Fate.{Fate}
-use Rattle.vx_step.specs.declared.fate.Fate.TheVariants.{Moved, Denied, Beaten}
-use Rattle.vx_step.specs.Fates.{IsFate, AreFates}
-use Rattle.vx_step.specs.Ticks.{fates_on, stepped, IsTick}
-use Rattle.vx_step.proofs.Making.{moves_are_asked, asked_are_moves, stays_filled}
-use Rattle.vx_step.proofs.OneTick.{stepped_is_tick}
-use Rattle.vx_core.specs.Chronicles.{TickData, ChronicleData, AreWindows, map_acted, map_ticked, map_after, IsTickOn, AreTicks}
+use Rattle.vx_tick.specs.declared.fate.Fate.{Fate}
+use Rattle.vx_tick.specs.declared.fate.Fate.TheVariants.{Moved, Denied, Beaten}
+use Rattle.vx_tick.specs.Fates.{IsFate, AreFates}
+use Rattle.vx_tick.specs.Ticks.{fates_on, stepped, IsTick}
+use Rattle.vx_tick.proofs.Making.{moves_are_asked, asked_are_moves, stays_filled}
+use Rattle.vx_tick.proofs.OneTick.{stepped_is_tick}
+use Rattle.vx_record.specs.Chronicles.{TickData, ChronicleData, AreWindows, map_acted, map_ticked, map_after, IsTickOn, AreTicks}
 use Rattle.vx_core.specs.Owners.{built, standing, IsTickOf, map_before, IsRecorded, IsAskedOn, IsByCommand, IsByMove, ChangesHaveLeave, CommandsDeniedByThePolicy, MovesDeniedByThePolicy}
 use Rattle.vx_core.proofs.Mapped.{acted_filled, acted_leaves}
 use Rattle.vx_core.proofs.Stepped.{stepped_stands}

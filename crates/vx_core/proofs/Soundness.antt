@@ -19,20 +19,22 @@ use Rattle.vx_sector.specs.SectorData.{SectorData, SeatData, EntryData}
 use Rattle.vx_sector.specs.Windows.{IsSector, answer_of, is_recorded, sector_after, renewed}
 use Rattle.vx_sector.specs.declared.cmd.Cmd.{Cmd}
 use Rattle.vx_sector.proofs.WindowLemmas.{command_keeps_sector}
-use Rattle.vx_step.specs.Ticks.{fates_on, stepped}
-use Rattle.vx_step.proofs.OneTick.{steps_keep_maps}
-use Rattle.vx_play.specs.Games.{Command, Accepted, after_step, base_of}
-use Rattle.vx_play.specs.Plays.{PlayData, IsWorld, map_of, next_map, next_version, ticked, opened_with, renewed_over, policy_of, seat_at, entries_of}
-use Rattle.vx_play.proofs.Playing.{command_keeps_all, command_leaves, judged_as_before, renewed_version, renewed_is_sector, first_is_sector, bases_opened}
-use Rattle.vx_play.proofs.Renewals.{all_bring, bases_renewed}
+use Rattle.vx_tick.specs.Ticks.{fates_on, stepped}
+use Rattle.vx_tick.proofs.OneTick.{steps_keep_maps}
+use Rattle.vx_play.specs.Games.{Command, Accepted, after_step}
+use Rattle.vx_windows.specs.Sectors.{base_of, first_version, opened_with, renewed_over, entries_of}
+use Rattle.vx_play.specs.Plays.{PlayData, IsWorld, map_of, next_map, next_version, ticked, policy_of, seat_at}
+use Rattle.vx_play.proofs.Playing.{command_keeps_all, command_leaves, judged_as_before, renewed_is_sector, first_is_sector}
+use Rattle.vx_windows.proofs.Sparing.{bases_begun}
+use Rattle.vx_windows.proofs.Renewals.{renewed_version, all_bring, bases_renewed}
 use Rattle.vx_play.proofs.Whole.{as_many_cells, worlds_begin_whole, commands_keep_worlds, ticks_keep_worlds}
-use Rattle.vx_core.specs.Chronicles.{TickData, IsSeatOf, AreSeated, map_acted, map_after, all_after, IsTickOn, AreWindows, AreTicks, AreGrown, version_by}
+use Rattle.vx_record.specs.Chronicles.{TickData, IsSeatOf, AreSeated, map_acted, map_after, all_after, IsTickOn, AreWindows, AreTicks, AreGrown, version_by}
 use Rattle.vx_core.specs.Events.{Happening, Acts, Edits, Takes, Works, Fixes, Puts}
 use Rattle.vx_core.specs.Laws.{ChangesNothing, IsAlwaysARun, VersionsGrow, WindowsAreOpen}
 use Rattle.vx_core.specs.Machines.{MachineData, is_accepted, is_enabled, acted, next_tick, done, after_event, after_events, begun, run}
-use Rattle.vx_core.specs.Openings.{OpeningData}
-use Rattle.vx_core.proofs.Growing.{map_after_one_more, ticks_one_more, edits_one_more, same_version, grown_one_more}
-use Rattle.vx_core.proofs.Recording.{cells_by_entries, windows_on_record}
+use Rattle.vx_record.specs.Openings.{OpeningData}
+use Rattle.vx_record.proofs.Growing.{map_after_one_more, ticks_one_more, edits_one_more, same_version, grown_one_more}
+use Rattle.vx_record.proofs.Recording.{cells_by_entries, windows_on_record}
 
 -- the map with which the windows of a world at play began
 abbrev base_map : PlayData → MapData
@@ -61,7 +63,7 @@ module _ (o : OpeningData) (whole : IsMap o.terrain) where
     world = worlds_begin_whole o.policy o.terrain o.names whole;
     first = refl;
     names = refl;
-    base = ap (λ cs. record { sizes = o.terrain.sizes; sectors = cs }) (bases_opened o.policy o.terrain.sectors);
+    base = ap (λ cs. record { sizes = o.terrain.sizes; sectors = cs }) (bases_begun (first_version o.policy) o.terrain.sectors);
     sectors = All-map IsSector (opened_with o.policy) o.terrain.sectors (λ k d within. first_is_sector o.policy _);
     seated =
         All-map (λ (s : SectorData). AreSeated o.names s.entries) (opened_with o.policy) o.terrain.sectors

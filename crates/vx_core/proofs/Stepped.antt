@@ -22,15 +22,15 @@ use Rattle.vx_cause.specs.Judging.{denial, pushing_verdict}
 use Rattle.vx_cause.specs.Laws.{permitted, IsPermit}
 use Rattle.vx_cause.proofs.Plots.{cell_by_cell}
 use Rattle.vx_cells.proofs.Copying.{is_block_at}
-use Rattle.vx_step.specs.declared.fate.Fate.{Fate}
-use Rattle.vx_step.specs.declared.fate.Fate.TheVariants.{Moved, Denied, Beaten}
-use Rattle.vx_step.specs.Fates.{IsFate, AreFates}
-use Rattle.vx_step.specs.Ticks.{advanced, changed_up_to, fates_on, stepped, IsTick}
-use Rattle.vx_step.proofs.Advancing.{parts_become_next, unchanged_stay}
-use Rattle.vx_step.proofs.Making.{moves_are_asked, others_stay}
-use Rattle.vx_step.proofs.OneTick.{stepped_is_tick}
-use Rattle.vx_step.proofs.Puts.{puts_filled}
-use Rattle.vx_play.proofs.Playing.{of_found}
+use Rattle.vx_tick.specs.declared.fate.Fate.{Fate}
+use Rattle.vx_tick.specs.declared.fate.Fate.TheVariants.{Moved, Denied, Beaten}
+use Rattle.vx_tick.specs.Fates.{IsFate, AreFates}
+use Rattle.vx_tick.specs.Ticks.{advanced, changed_up_to, fates_on, stepped, IsTick}
+use Rattle.vx_tick.proofs.Advancing.{parts_become_next, unchanged_stay}
+use Rattle.vx_tick.proofs.Making.{moves_are_asked, others_stay}
+use Rattle.vx_tick.proofs.OneTick.{stepped_is_tick}
+use Rattle.vx_tick.proofs.Puts.{puts_filled}
+use Rattle.vx_windows.proofs.Sparing.{of_found}
 use Rattle.vx_core.specs.Owners.{built, standing, IsAskedOn}
 
 -- a repeater keeps its facing and its delay

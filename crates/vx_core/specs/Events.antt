@@ -2,7 +2,7 @@
 use Rattle.std.specs.Prelude.{ℕ}
 use Rattle.vx_policy.specs.Asked.{Asked, asked}
 use Rattle.vx_sector.specs.declared.cmd.Cmd.{Cmd}
-use Rattle.vx_step.specs.declared.phase.Phase.{Phase}
+use Rattle.vx_tick.specs.declared.phase.Phase.{Phase}
 use Rattle.vx_core.specs.declared.event.Event.{Event}
 use Rattle.vx_core.specs.declared.event.Event.TheVariants as event
 

@@ -4,11 +4,11 @@ use Rattle.std.specs.List.{All}
 use Rattle.vx_cells.specs.Wholes.{IsMap}
 use Rattle.vx_policy.specs.Edits.{AreAccepted}
 use Rattle.vx_sector.specs.SectorData.{SectorData}
-use Rattle.vx_play.specs.Plays.{entries_of, cells_of}
-use Rattle.vx_core.specs.Chronicles.{AreWindows, AreGrown, IsRun, map_after, all_after, version_by}
+use Rattle.vx_windows.specs.Sectors.{entries_of, cells_of}
+use Rattle.vx_record.specs.Chronicles.{AreWindows, AreGrown, IsRun, map_after, all_after, version_by}
 use Rattle.vx_core.specs.Events.{Happening}
 use Rattle.vx_core.specs.Machines.{MachineData, is_enabled, after_event, chronicle_of, run}
-use Rattle.vx_core.specs.Openings.{OpeningData}
+use Rattle.vx_record.specs.Openings.{OpeningData}
 
 -- an event that may not happen changes nothing
 abbrev pub ChangesNothing : Type 0

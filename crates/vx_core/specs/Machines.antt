@@ -7,13 +7,15 @@ use Rattle.vx_policy.specs.Refusals.{refusal}
 use Rattle.vx_policy.specs.Asked.{Asked}
 use Rattle.vx_sector.specs.SectorData.{SeatData}
 use Rattle.vx_sector.specs.declared.cmd.Cmd.{Cmd}
-use Rattle.vx_step.specs.declared.phase.Phase.{Phase}
-use Rattle.vx_step.specs.declared.phase.Phase.TheVariants.{Parts, Fates, Cells}
+use Rattle.vx_tick.specs.declared.phase.Phase.{Phase}
+use Rattle.vx_tick.specs.declared.phase.Phase.TheVariants.{Parts, Fates, Cells}
 use Rattle.vx_play.specs.Games.{Step, Command, Accepted, Tick, after_step}
-use Rattle.vx_play.specs.Plays.{PlayData, opened, sector_asked, policy_of, next_fates, seat_at, entries_of, most_ticks}
-use Rattle.vx_core.specs.Chronicles.{TickData, ChronicleData}
+use Rattle.vx_play.specs.Plays.{PlayData, opened, sector_asked, policy_of, next_fates, seat_at}
+use Rattle.vx_windows.specs.Sectors.{entries_of}
+use Rattle.vx_windows.specs.Limits.{most_ticks}
+use Rattle.vx_record.specs.Chronicles.{TickData, ChronicleData}
 use Rattle.vx_core.specs.Events.{Happening, Acts, Edits, Takes, Works, Fixes, Puts}
-use Rattle.vx_core.specs.Openings.{OpeningData}
+use Rattle.vx_record.specs.Openings.{OpeningData}
 use Rattle.vx_core.specs.declared.stage.Stage.{Stage}
 use Rattle.vx_core.specs.declared.stage.Stage.TheVariants.{Home, Taken, Worked}
 

@@ -20,8 +20,8 @@ use Rattle.vx_sector.specs.Commands.{place_of, action_of}
 use Rattle.vx_sector.specs.SectorData.{EntryData}
 use Rattle.vx_sector.specs.declared.refusal.Refusal.TheVariants as refusal
 use Rattle.vx_sector.specs.declared.reply.Reply.TheVariants.{Done}
-use Rattle.vx_step.specs.declared.fate.Fate.TheVariants.{Moved, Denied}
-use Rattle.vx_core.specs.Chronicles.{TickData, ChronicleData, IsSeatOf, IsRun, map_acted, map_ticked, map_after}
+use Rattle.vx_tick.specs.declared.fate.Fate.TheVariants.{Moved, Denied}
+use Rattle.vx_record.specs.Chronicles.{TickData, ChronicleData, IsSeatOf, IsRun, map_acted, map_ticked, map_after}
 
 -- a cell as it was built, whatever signals it gets
 abbrev pub built : Cell → Cell

@@ -1,6 +1,6 @@
-use crate::chronicle::Chronicle;
 use crate::stage::Stage;
 use vx_policy::Edit;
+use vx_record::Chronicle;
 use vx_sector::Sector;
 
 /// What stands after events: the record, the edits that were accepted, and the sectors, in order of

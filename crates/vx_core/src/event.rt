@@ -1,6 +1,6 @@
 use vx_policy::Edit;
 use vx_sector::Cmd;
-use vx_step::Phase;
+use vx_tick::Phase;
 
 /// What happens in the core. Each is one atomic step of some thread; one that may not happen yet
 /// changes nothing.

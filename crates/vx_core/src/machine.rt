@@ -3,19 +3,18 @@ ghost use Rattle.vx_policy.specs.Asked.{asked};
 ghost use Rattle.vx_play.specs.Plays.{opened};
 ghost use Rattle.vx_core.specs.declared.stage.Stage.TheVariants.{Home};
 
-use crate::chronicle::Chronicle;
 use crate::core_state::Core;
 use crate::event::Event;
-use crate::opening::Opening;
 use crate::stage::Stage;
-use crate::tick::Tick;
 use std::alloc::{AllocError, Global};
 use std::marker::Model;
 use vx_board::{DeskError, Naming};
-use vx_play::{MAX_TICKS, Play, Ticked};
+use vx_play::{Play, Ticked};
 use vx_policy::Edit;
+use vx_record::{Chronicle, Opening, Tick};
 use vx_sector::{Cmd, Refusal};
-use vx_step::Phase;
+use vx_tick::Phase;
+use vx_windows::MAX_TICKS;
 
 /// The core machine: the world at play, the stage of each of its sectors, whether the tick that
 /// they are away for is fixed, and the ticks so far.
@@ -30,7 +29,7 @@ pub struct Machine<J: Naming> {
 impl<J: Naming> Model for Machine<J> {
     ghost use Rattle.std.specs.Prelude.{map};
     ghost use Rattle.vx_core.specs.Machines.{MachineData};
-    ghost use Rattle.vx_core.specs.Records.{tick_in};
+    ghost use Rattle.vx_record.specs.Records.{tick_in};
 
     ghost Value = { MachineData };
 
@@ -46,8 +45,8 @@ impl<J: Naming> Machine<J> {
     ghost use Rattle.std.specs.Prelude.{◌<◌, true, length};
     ghost use Rattle.vx_core.specs.Events.{Acts, Edits, Takes, Works, Fixes, Puts, happening};
     ghost use Rattle.vx_core.specs.Machines.{begun, after_event, after_events, fixed, is_at, is_home, is_unworked, have_reached, is_any_away};
-    ghost use Rattle.vx_core.specs.Records.{chronicle_in};
-    ghost use Rattle.vx_play.specs.Plays.{most_ticks};
+    ghost use Rattle.vx_record.specs.Records.{chronicle_in};
+    ghost use Rattle.vx_windows.specs.Limits.{most_ticks};
 
     /// The machine as a world opens, with all sectors at home.
     pub fn open(alloc: Global, opening: &Opening) -> Result<Machine<J>, AllocError>

@@ -1,17 +1,17 @@
 ghost use Rattle.std.specs.Prelude.{◌≡◌, map, IfOk};
 ghost use Rattle.vx_policy.specs.Asked.{asked};
-ghost use Rattle.vx_core.specs.Chronicles.{IsRun};
+ghost use Rattle.vx_record.specs.Chronicles.{IsRun};
 ghost use Rattle.vx_core.specs.Events.{happening};
 ghost use Rattle.vx_core.specs.Machines.{run, chronicle_of};
-ghost use Rattle.vx_core.specs.Records.{chronicle_in};
+ghost use Rattle.vx_record.specs.Records.{chronicle_in};
 
 use crate::core_state::Core;
 use crate::event::Event;
 use crate::machine::Machine;
-use crate::opening::Opening;
 use std::alloc::{AllocError, Global};
 use std::marker::Brand;
 use vx_board::Naming;
+use vx_record::Opening;
 
 /// What stands after these events, one after another, in the world of this opening. An event that
 /// may not happen as things are then changes nothing. The chronicle is a run: each of its ticks is

@@ -1,7 +1,7 @@
 ghost use Rattle.std.specs.Prelude.{◌≡◌};
 ghost use Rattle.vx_core.specs.Machines.{rank, is_stage, has_reached, due};
 
-use vx_step::Phase;
+use vx_tick::Phase;
 
 /// Where a sector of the core is.
 #[derive(Clone, Copy, Debug, PartialEq, Eq)]

@@ -5,12 +5,12 @@ use std::process::Abort;
 use std::test::Fail;
 use vx_block::Part;
 use vx_cells::Cells;
-use vx_core::Opening;
 use vx_decide::Rule;
 use vx_geom::{Bounds, Pos};
 use vx_policy::{Policy, Version};
 use vx_record::{
-    Archive, Call, Caller, Fault, Lists, Place, are_seated, began_with, disagreement, follows, says,
+    Archive, Call, Caller, Fault, Lists, Opening, Place, are_seated, began_with, disagreement,
+    follows, says,
 };
 use vx_region::Name;
 use vx_sector::{Cmd, Fresh, Refusal, Reply, Seat, Sector};

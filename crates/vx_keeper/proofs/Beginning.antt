@@ -4,8 +4,8 @@ use Rattle.std.proofs.lemmas.List.{length-replicate, get_or-replicate}
 use Rattle.vx_cells.specs.Wholes.{IsMap}
 use Rattle.vx_region.specs.Regions.{Regions}
 use Rattle.vx_wake.specs.Waking.{WakingData, RestsBut}
-use Rattle.vx_play.specs.Plays.{first_version}
-use Rattle.vx_core.specs.Openings.{OpeningData}
+use Rattle.vx_windows.specs.Sectors.{first_version}
+use Rattle.vx_record.specs.Openings.{OpeningData}
 use Rattle.vx_record.specs.Archives.{ArchiveData, IsArchive}
 use Rattle.vx_keeper.specs.Marks.{WorldData}
 use Rattle.vx_keeper.specs.Keepers.{keeper_data, IsKeeper}

@@ -4,8 +4,7 @@ use Rattle.std.specs.Prelude.{Option}
 use Rattle.vx_cells.specs.SectorCells.{SectorCells}
 use Rattle.vx_sector.specs.SectorData.{SectorData}
 use Rattle.vx_sector.specs.Windows.{IsNextBase}
-use Rattle.vx_play.specs.Games.{base_of}
-use Rattle.vx_play.specs.Plays.{cells_of}
+use Rattle.vx_windows.specs.Sectors.{base_of, cells_of}
 use Rattle.vx_keeper.specs.Bases.{AreNextBases}
 
 -- the cells of the first n sectors, and the bases of the others

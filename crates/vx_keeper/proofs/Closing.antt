@@ -9,12 +9,13 @@ use Rattle.vx_policy.specs.declared.version.Version.{Version}
 use Rattle.vx_region.specs.Regions.{Regions}
 use Rattle.vx_sector.specs.SectorData.{SectorData}
 use Rattle.vx_sector.specs.Windows.{IsSector}
-use Rattle.vx_step.specs.Ticks.{fates_on, stepped}
+use Rattle.vx_tick.specs.Ticks.{fates_on, stepped}
 use Rattle.vx_wake.specs.Waking.{WakingData, RestsBut}
-use Rattle.vx_play.specs.Plays.{entries_of, most_ticks}
-use Rattle.vx_core.specs.Chronicles.{TickData, AreSeated, AreWindows, all_after, map_acted, map_after}
-use Rattle.vx_core.proofs.Growing.{map_after_one_more}
-use Rattle.vx_core.proofs.Recording.{cells_by_entries, windows_on_record}
+use Rattle.vx_windows.specs.Sectors.{entries_of}
+use Rattle.vx_windows.specs.Limits.{most_ticks}
+use Rattle.vx_record.specs.Chronicles.{TickData, AreSeated, AreWindows, all_after, map_acted, map_after}
+use Rattle.vx_record.proofs.Growing.{map_after_one_more}
+use Rattle.vx_record.proofs.Recording.{cells_by_entries, windows_on_record}
 use Rattle.vx_record.specs.Archives.{ArchiveData, IsArchive, IsNextTick}
 use Rattle.vx_keeper.specs.Marks.{WorldData}
 use Rattle.vx_keeper.specs.Keepers.{KeeperData, keeper_data, IsKeeper, IsByEdits, map_now, map_next, fates_next, chronicle_next}

@@ -13,9 +13,8 @@ use Rattle.vx_region.specs.Regions.{Regions}
 use Rattle.vx_sector.specs.SectorData.{SectorData}
 use Rattle.vx_sector.specs.Windows.{IsSector}
 use Rattle.vx_sector.proofs.Catching.{after_bounds, after_sector}
-use Rattle.vx_play.specs.Games.{base_of}
-use Rattle.vx_play.specs.Plays.{cells_of}
-use Rattle.vx_core.specs.Chronicles.{AreSeated}
+use Rattle.vx_windows.specs.Sectors.{base_of, cells_of}
+use Rattle.vx_record.specs.Chronicles.{AreSeated}
 use Rattle.vx_record.specs.Archives.{closed_of}
 use Rattle.vx_record.specs.Settling.{KnownData, AreKnown, AreKnownTo, IsKnown}
 use Rattle.vx_keeper.specs.Keepers.{KeeperData, IsKeeper, known}

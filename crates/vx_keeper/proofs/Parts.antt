@@ -10,11 +10,9 @@ use Rattle.vx_policy.specs.declared.version.Version.{Version}
 use Rattle.vx_region.specs.Regions.{Regions}
 use Rattle.vx_sector.specs.SectorData.{SectorData}
 use Rattle.vx_sector.specs.Windows.{IsSector}
-use Rattle.vx_play.specs.Games.{base_of}
-use Rattle.vx_play.specs.Plays.{all_renewed, first_version, opened_with}
-use Rattle.vx_play.proofs.Playing.{renewed_version}
-use Rattle.vx_play.proofs.Renewals.{all_bring, bases_renewed}
-use Rattle.vx_play.proofs.Sparing.{bases_begun}
+use Rattle.vx_windows.specs.Sectors.{base_of, all_renewed, first_version, opened_with}
+use Rattle.vx_windows.proofs.Renewals.{renewed_version, all_bring, bases_renewed}
+use Rattle.vx_windows.proofs.Sparing.{bases_begun}
 use Rattle.vx_keeper.specs.Marks.{WorldData, IsPartOf, AreParts}
 
 -- each sector with a base of the world, and its version, began with its part of it

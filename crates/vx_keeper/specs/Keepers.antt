@@ -11,11 +11,12 @@ use Rattle.vx_policy.specs.Edits.{after, AreAccepted}
 use Rattle.vx_policy.specs.declared.version.Version.{Version}
 use Rattle.vx_region.specs.Regions.{Regions}
 use Rattle.vx_sector.specs.SectorData.{SectorData}
-use Rattle.vx_step.specs.Ticks.{fates_on, stepped}
-use Rattle.vx_step.specs.declared.fate.Fate.{Fate}
+use Rattle.vx_tick.specs.Ticks.{fates_on, stepped}
+use Rattle.vx_tick.specs.declared.fate.Fate.{Fate}
 use Rattle.vx_wake.specs.Waking.{WakingData, RestsBut}
-use Rattle.vx_play.specs.Plays.{cells_of, entries_of, most_ticks}
-use Rattle.vx_core.specs.Chronicles.{ChronicleData, map_after}
+use Rattle.vx_windows.specs.Sectors.{cells_of, entries_of}
+use Rattle.vx_windows.specs.Limits.{most_ticks}
+use Rattle.vx_record.specs.Chronicles.{ChronicleData, map_after}
 use Rattle.vx_record.specs.Archives.{ArchiveData, IsArchive}
 use Rattle.vx_record.specs.Settling.{KnownData}
 use Rattle.vx_keeper.specs.Marks.{WorldData}

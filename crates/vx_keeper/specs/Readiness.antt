@@ -2,7 +2,7 @@
 use Rattle.std.specs.Prelude.{◌≡◌, ◌≤◌, ◌+◌, List, [], length, map, option_map, vec_capacity}
 use Rattle.vx_policy.specs.declared.version.Version.{Version}
 use Rattle.vx_sector.specs.SectorData.{SectorData}
-use Rattle.vx_play.specs.Nexts.{AreNextOf}
+use Rattle.vx_windows.specs.Nexts.{AreNextOf}
 use Rattle.vx_keeper.specs.Bases.{AreNextBases}
 use Rattle.vx_keeper.specs.Keepers.{KeeperData, IsWorked, map_now}
 use Rattle.vx_keeper.specs.declared.ready.Ready.{Ready}

@@ -1,10 +1,11 @@
 ghost use Rattle.std.specs.Bool.{Decides};
 ghost use Rattle.std.specs.List.{All};
 ghost use Rattle.std.specs.Prelude.{◌≡◌, ◌<◌, ◌≤◌, ◌+◌, ◌↔◌, true, [], length, map, replicate, Some, Err, IfOk, IfErr, IfSome, MatchOption, OnOk};
-ghost use Rattle.vx_play.specs.Plays.{cells_of, most_ticks, all_renewed, opened_by, opened_with, first_version};
+ghost use Rattle.vx_windows.specs.Sectors.{cells_of, all_renewed, opened_by, opened_with, first_version};
+ghost use Rattle.vx_windows.specs.Limits.{most_ticks};
 ghost use Rattle.vx_wake.specs.Waking.{RestsBut};
 ghost use Rattle.vx_sector.specs.Windows.{count_of};
-ghost use Rattle.vx_core.specs.Records.{chronicle_in};
+ghost use Rattle.vx_record.specs.Records.{chronicle_in};
 ghost use Rattle.vx_record.specs.Settling.{AreKnown, BeganWith, IsKnown, IsTorn};
 ghost use Rattle.vx_keeper.specs.Keepers.{IsKeeper, IsByEdits, IsWorked, keeper_data, known, map_now, map_next, fates_next, chronicle_next};
 ghost use Rattle.vx_keeper.specs.Marks.{IsPartOf, AreParts};
@@ -23,15 +24,15 @@ use std::alloc::{AllocError, Global};
 use std::marker::Model;
 use std::thread::Threads;
 use vx_cells::Frozen;
-use vx_core::{Chronicle, Opening, Tick};
 use vx_geom::Pos;
-use vx_play::{MAX_TICKS, cells_of, open_sectors, renew_sectors, written};
 use vx_policy::Version;
-use vx_record::{Archive, follows};
+use vx_record::{Archive, Chronicle, Opening, Tick, follows};
 use vx_sector::Sector;
 use vx_stamp::{Mark, Stamper};
-use vx_step::{Fate, Gate, plan_parts};
+use vx_step::{Gate, plan_parts};
+use vx_tick::Fate;
 use vx_wake::Waking;
+use vx_windows::{MAX_TICKS, cells_of, open_sectors, renew_sectors, written};
 
 /// The keeper of a world: its chronicle, and what it knows of the world between two ticks. One who
 /// holds it makes the ticks, of sectors that were taken out of their locks.

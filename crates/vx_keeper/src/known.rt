@@ -4,8 +4,7 @@ ghost use Rattle.std.specs.Prelude.{◌≡◌, ◌<◌, ◌≤◌, false, length
 ghost use Rattle.vx_cells.specs.Maps.{AreSectors};
 ghost use Rattle.vx_cells.specs.SectorCells.{only_air, is_chest};
 ghost use Rattle.vx_cells.specs.Wholes.{with_cells_on};
-ghost use Rattle.vx_play.specs.Games.{base_of};
-ghost use Rattle.vx_play.specs.Plays.{cells_of};
+ghost use Rattle.vx_windows.specs.Sectors.{base_of, cells_of};
 ghost use Rattle.vx_record.specs.Settling.{BeganWith};
 ghost use Rattle.vx_keeper.specs.Bases.{AreNextBases};
 

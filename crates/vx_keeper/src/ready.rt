@@ -1,6 +1,6 @@
 ghost use Rattle.std.specs.List.{All};
 ghost use Rattle.std.specs.Prelude.{◌≡◌, ◌≤◌, [], length, map, option_map, vec_capacity, IfOk};
-ghost use Rattle.vx_play.specs.Nexts.{AreNextOf};
+ghost use Rattle.vx_windows.specs.Nexts.{AreNextOf};
 ghost use Rattle.vx_keeper.specs.Bases.{AreNextBases};
 ghost use Rattle.vx_keeper.specs.Readiness.{IsReady};
 
@@ -9,11 +9,11 @@ use std::alloc::{AllocError, Global};
 use vx_block::Cell;
 use vx_cells::Cells;
 use vx_geom::Pos;
-use vx_play::all_next;
 use vx_policy::Version;
 use vx_sector::{Entry, Next, Sector};
-use vx_step::Fate;
+use vx_tick::Fate;
 use vx_wake::Waking;
+use vx_windows::all_next;
 
 /// All that it takes to close the windows of sectors and to begin their next ones. It is made
 /// before, since making it takes memory and closing does not.

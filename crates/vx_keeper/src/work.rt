@@ -1,4 +1,4 @@
-use vx_step::Plan;
+use vx_tick::Plan;
 use vx_wake::Waking;
 
 /// What a tick does to the map, as it was worked, and where the next tick has to look.

@@ -22,13 +22,14 @@ use Rattle.vx_sector.specs.SectorData.{SectorData, SeatData}
 use Rattle.vx_sector.specs.Windows.{answer_of, sector_after}
 use Rattle.vx_sector.specs.declared.cmd.Cmd.{Cmd}
 use Rattle.vx_sector.proofs.Keeping.{sectors_stay_whole, extended_pistons_stay}
-use Rattle.vx_step.specs.Pairing.{IsPairedAt, IsPaired}
-use Rattle.vx_step.proofs.Making.{stays_filled}
-use Rattle.vx_step.proofs.Pairs.{stays_paired}
-use Rattle.vx_play.specs.Plays.{PlayData, cells_of, first_version, opened, sector_asked, answered, answered_at, left_in, map_of, next_fates, ticked}
+use Rattle.vx_tick.specs.Pairing.{IsPairedAt, IsPaired}
+use Rattle.vx_tick.proofs.Making.{stays_filled}
+use Rattle.vx_tick.proofs.Pairs.{stays_paired}
+use Rattle.vx_play.specs.Plays.{PlayData, opened, sector_asked, answered, answered_at, left_in, map_of, next_fates, ticked}
+use Rattle.vx_windows.specs.Sectors.{cells_of, first_version}
 use Rattle.vx_play.specs.Games.{Step, Command, Accepted, Tick, after_step, played}
 use Rattle.vx_play.specs.Laws.{GamesStayFilled, GamesStayPaired}
-use Rattle.vx_play.proofs.Playing.{of_found}
+use Rattle.vx_windows.proofs.Sparing.{of_found}
 use Rattle.vx_play.proofs.Whole.{cells_opened, commands_keep_worlds, ticks_are_steps}
 
 -- what is found in a list after another element was put into it

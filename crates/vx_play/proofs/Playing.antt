@@ -3,7 +3,7 @@ use Rattle.std.proofs.Common.{◌≡◌, ◌≢◌, ◌↔◌, Err, ℕ, ◌+◌
 use Rattle.std.specs.List.{All}
 use Rattle.std.proofs.lemmas.Bool.{cases_Bool}
 use Rattle.std.proofs.lemmas.List.Elements.{All-map, All-set}
-use Rattle.std.proofs.lemmas.Option.{slice_get_within, get_or_from_slice_get}
+use Rattle.std.proofs.lemmas.Option.{get_or_from_slice_get}
 use Rattle.std.proofs.Math.Seq.{map-set_same}
 use Rattle.vx_cells.specs.SectorCells.{SectorCells, holds}
 use Rattle.vx_flag.specs.declared.action.Action.{Action}
@@ -24,10 +24,12 @@ use Rattle.vx_sector.proofs.ActingLemmas.{denied_by_the_policy}
 use Rattle.vx_sector.proofs.Outside.{elsewhere_is_refused, full_is_refused, answered_by_the_rules}
 use Rattle.vx_sector.proofs.WindowLemmas.{command_keeps_sector}
 use Rattle.vx_cells.specs.Maps.{MapData}
-use Rattle.vx_play.specs.Plays.{PlayData, IsWorld, ticked, opened, opened_with, sector_asked, answered, answered_at, answer_in, left_in, renewed_over, next_version, next_map}
-use Rattle.vx_play.specs.Games.{Step, Command, Accepted, Tick, after_step, played, game, edits_of, ticks_of, version_after, AreJudgedBy, base_of}
+use Rattle.vx_play.specs.Plays.{PlayData, IsWorld, ticked, opened, sector_asked, answered, answered_at, answer_in, left_in, next_version, next_map}
+use Rattle.vx_windows.specs.Sectors.{first_version, opened_with, renewed_over, base_of}
+use Rattle.vx_play.specs.Games.{Step, Command, Accepted, Tick, after_step, played, game, edits_of, ticks_of, version_after, AreJudgedBy}
 use Rattle.vx_play.specs.Laws.{GamesStayWhole, NoEditCountsBeforeATick, EditsCountFromTheNextTick, IsJudged, IsDeniedBy, DeniedByTheOpening, DeniedByTheLastTick, StepsAreCounted, RecordsAreWindows, FirstWindowsBeginWithTheTerrain, WindowsBeginWithTheTick}
-use Rattle.vx_play.proofs.Renewals.{all_bring, bases_renewed}
+use Rattle.vx_windows.proofs.Renewals.{all_bring, bases_renewed, renewed_version}
+use Rattle.vx_windows.proofs.Sparing.{of_found, bases_begun}
 use Rattle.vx_play.proofs.Whole.{as_many_cells, worlds_begin_whole, commands_keep_worlds, ticks_keep_worlds}
 
 -- a part of a sector that no entry changes is as it was after a command
@@ -35,10 +37,6 @@ part_stays : {X : Type 0} (f : SectorData → X) → ((s : SectorData) (entry : 
     → (s : SectorData) (seat : SeatData) (cmd : Cmd) (answer : Result Reply Refusal) → f (sector_after s seat cmd answer) ≡ f s
 unfolding sector_after
 part_stays f kept s seat cmd answer = elim (cases_Bool (is_recorded answer)) [ inl traced ↦ rw traced (kept s _) | inr none ↦ rw none refl ]
-
--- what holds of each holds of one that is found
-pub of_found : {X : Type 0} (P : X → Type 0) (xs : List X) (k : ℕ) (x : X) → All P xs → slice_get xs k ≡ Some x → P x
-of_found P xs k x all found = subst P (get_or_from_slice_get xs k x x found) (all k x (slice_get_within xs k x found))
 
 -- what a command of a seat keeps in its sector, it keeps in all
 module _ (P : SectorData → Type 0) (seat : SeatData) (cmd : Cmd) (kept : (s : SectorData) → P s → P (sector_after s seat cmd (answer_of s seat cmd))) where
@@ -141,10 +139,6 @@ fixed_by_the_tick rs terrain names before =
 pub judged_as_before : (version : Version) (s : SectorData) (seat : SeatData) (cmd : Cmd) → s.version ≡ version → (sector_after s seat cmd (answer_of s seat cmd)).version ≡ version
 judged_as_before version s seat cmd is = part_stays (λ (r : SectorData). r.version) (λ s entry. refl) s seat cmd _ ∙ is
 
-pub renewed_version : (version : Version) (s : SectorData) (cells : SectorCells) → (renewed_over version s cells).version ≡ version
-unfolding renewed
-renewed_version version s cells = refl
-
 -- until the next tick the machines are judged by one version
 machines_kept : (play : PlayData) (steps : List Step) → ticks_of steps ≡ 0 → (played play steps).version ≡ play.version
 machines_kept play [] none = refl
@@ -197,13 +191,9 @@ records_are_windows rs terrain names steps =
     for_ever IsSector command_keeps_sector renewed_is_sector (opened rs terrain names) steps
     (All-map IsSector (opened_with rs) terrain.sectors (λ k d within. first_is_sector rs _))
 
-pub bases_opened : (rs : Regions) (cs : List SectorCells) → map base_of (map (opened_with rs) cs) ≡ cs
-bases_opened rs [] = refl
-bases_opened rs (c ∷ cs) = ap (λ ds. c ∷ ds) (bases_opened rs cs)
-
 pub first_windows_begin_with_the_terrain : FirstWindowsBeginWithTheTerrain
 first_windows_begin_with_the_terrain rs terrain names steps none =
-    same_until_the_next_tick base_of (λ s entry. refl) (opened rs terrain names) steps none ∙ bases_opened rs terrain.sectors
+    same_until_the_next_tick base_of (λ s entry. refl) (opened rs terrain names) steps none ∙ bases_begun (first_version rs) terrain.sectors
 
 pub windows_begin_with_the_tick : WindowsBeginWithTheTick
 windows_begin_with_the_tick rs terrain names before since whole none =

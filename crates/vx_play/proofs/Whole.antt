@@ -21,14 +21,15 @@ use Rattle.vx_sector.specs.declared.refusal.Refusal.TheVariants.{OutOfWorld}
 use Rattle.vx_sector.proofs.Outside.{inside_is_not_refused}
 use Rattle.vx_cells.specs.Maps.{AreSectors}
 use Rattle.vx_cells.specs.Wholes.{IsMap}
-use Rattle.vx_play.specs.Plays.{PlayData, cells_of, IsWorld, opened_by, sector_asked, answered, answered_at, answer_in, left_in, map_of, next_version, next_map, next_fates, ticked}
+use Rattle.vx_play.specs.Plays.{PlayData, IsWorld, sector_asked, answered, answered_at, answer_in, left_in, map_of, next_version, next_map, next_fates, ticked}
+use Rattle.vx_windows.specs.Sectors.{cells_of, opened_by}
 use Rattle.vx_play.specs.Laws.{WorldsBeginWhole, CommandsKeepWorlds, TicksKeepWorlds, TicksAreSteps, OutOfWorldIsOutside}
 use Rattle.vx_cells.proofs.MapLemmas.{placed_at}
 use Rattle.vx_cells.proofs.Placed.{holds_found, found_within}
 use Rattle.vx_cells.proofs.Setting.{again}
-use Rattle.vx_step.specs.Ticks.{IsTick}
-use Rattle.vx_step.proofs.OneTick.{stepped_is_tick, steps_keep_maps}
-use Rattle.vx_play.proofs.Renewals.{cells_renewed}
+use Rattle.vx_tick.specs.Ticks.{IsTick}
+use Rattle.vx_tick.proofs.OneTick.{stepped_is_tick, steps_keep_maps}
+use Rattle.vx_windows.proofs.Renewals.{cells_renewed}
 
 -- the world that is made has the sectors of the terrain
 pub cells_opened : (v : Version) (cs : List SectorCells) → map cells_of (map (opened_by v) cs) ≡ cs

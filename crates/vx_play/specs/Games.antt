@@ -1,7 +1,6 @@
 -- Games: what is done in a world at play, one step after another.
 use Rattle.std.specs.Prelude.{◌≡◌, ℕ, zero, suc, ◌+◌, List, [], ◌∷◌, ◌++◌, length}
 use Rattle.std.specs.List.{All}
-use Rattle.vx_cells.specs.SectorCells.{SectorCells}
 use Rattle.vx_region.specs.Regions.{Regions}
 use Rattle.vx_policy.specs.Asked.{Asked}
 use Rattle.vx_policy.specs.Edits.{after}
@@ -53,7 +52,3 @@ version_after rs edits ticks =
 pub record AreJudgedBy (version : Version) (play : PlayData) : Type 0 where
   pub commands : All (λ (s : SectorData). s.version ≡ version) play.sectors
   pub machines : play.version ≡ version
-
--- the cells of a sector as its window began
-abbrev pub base_of : SectorData → SectorCells
-base_of s = s.base

@@ -15,10 +15,11 @@ use Rattle.vx_sector.specs.declared.refusal.Refusal.TheVariants.{OutOfWorld, His
 use Rattle.vx_cells.specs.Maps.{MapData}
 use Rattle.vx_cells.specs.MapLaws.{IsFilled}
 use Rattle.vx_cells.specs.Wholes.{IsMap}
-use Rattle.vx_step.specs.Pairing.{IsPaired}
-use Rattle.vx_step.specs.Ticks.{IsTick}
+use Rattle.vx_tick.specs.Pairing.{IsPaired}
+use Rattle.vx_tick.specs.Ticks.{IsTick}
 use Rattle.vx_play.specs.Plays.{PlayData, IsWorld, opened, answered, map_of, next_map, next_fates, ticked}
-use Rattle.vx_play.specs.Games.{Step, Tick, game, edits_of, ticks_of, version_after, AreJudgedBy, base_of}
+use Rattle.vx_play.specs.Games.{Step, Tick, game, edits_of, ticks_of, version_after, AreJudgedBy}
+use Rattle.vx_windows.specs.Sectors.{base_of}
 
 -- the world that is made of a terrain has each sector in its place
 abbrev pub WorldsBeginWhole : Type 0

@@ -1,24 +1,22 @@
-use Rattle.std.specs.Prelude.{ℕ, ◌+◌, ◌^◌, Bool, Vec, bytes_eq, if◌then◌else◌, List, [], ◌∷◌, length, map, slice_get, slice_set, Option, Some, None, option_map, is_some, Result, Err}
-use Rattle.std.specs.declared.alloc.Global.{Global}
+use Rattle.std.specs.Prelude.{ℕ, ◌+◌, Bool, bytes_eq, if◌then◌else◌, List, [], ◌∷◌, length, map, slice_get, slice_set, Option, Some, None, option_map, is_some, Result, Err}
 use Rattle.std.specs.List.{sum_by}
 use Rattle.vx_geom.specs.declared.pos.Pos.{Pos}
 use Rattle.vx_geom.specs.Sizes.{Sizes, sector_of}
-use Rattle.vx_cells.specs.SectorCells.{SectorCells}
 use Rattle.vx_region.specs.Regions.{Regions}
 use Rattle.vx_policy.specs.Asked.{Asked}
 use Rattle.vx_policy.specs.Edits.{after}
 use Rattle.vx_policy.specs.declared.version.Version.{Version}
-use Rattle.vx_sector.specs.SectorData.{SectorData, SeatData, EntryData, FreshData, entry_of}
+use Rattle.vx_sector.specs.SectorData.{SectorData, SeatData}
 use Rattle.vx_sector.specs.Commands.{place_of}
-use Rattle.vx_sector.specs.Windows.{answer_of, sector_after, count_of, first_window, renewed}
+use Rattle.vx_sector.specs.Windows.{answer_of, sector_after, count_of}
 use Rattle.vx_sector.specs.declared.cmd.Cmd.{Cmd}
-use Rattle.vx_sector.specs.declared.entry.Entry.{Entry}
 use Rattle.vx_sector.specs.declared.reply.Reply.{Reply}
 use Rattle.vx_sector.specs.declared.refusal.Refusal.{Refusal}
 use Rattle.vx_sector.specs.declared.refusal.Refusal.TheVariants.{OutOfWorld}
 use Rattle.vx_cells.specs.Maps.{MapData, AreSectors}
-use Rattle.vx_step.specs.Ticks.{fates_on, stepped}
-use Rattle.vx_step.specs.declared.fate.Fate.{Fate}
+use Rattle.vx_tick.specs.Ticks.{fates_on, stepped}
+use Rattle.vx_tick.specs.declared.fate.Fate.{Fate}
+use Rattle.vx_windows.specs.Sectors.{cells_of, first_version, opened_with, all_renewed}
 
 -- a world at play: its size and its sectors, the version that judges the commands of their windows
 -- and the machines of the next tick, its players' names in order of their seats, the policy that it
@@ -31,18 +29,6 @@ pub record PlayData : Type 0 where
   pub first : Regions
   pub accepted : List Asked
   pub ticks : ℕ
-
--- how many players a world may have
-abbrev pub most_players : ℕ
-most_players = 16
-
--- how many ticks a world may have
-abbrev pub most_ticks : ℕ
-most_ticks = 2 ^ 40
-
--- the cells of a sector at play
-abbrev pub cells_of : SectorData → SectorCells
-cells_of s = s.cells
 
 -- a world at play has each sector of its size in its place
 abbrev pub IsWorld : PlayData → Type 0
@@ -66,22 +52,6 @@ seat_named play name =
 unfoldable pub seat_at : PlayData → ℕ → Option SeatData
 seat_at play number =
     option_map (λ name. record { number = number; name = name }) (slice_get play.names number)
-
--- what a window over these cells begins with, judged by this version
-abbrev pub window_over : Version → SectorCells → FreshData
-window_over version cells = record { cells = cells; version = version }
-
--- a sector with these cells in its first window, judged by this version
-abbrev pub opened_by : Version → SectorCells → SectorData
-opened_by version cells = first_window (window_over version cells)
-
--- the policy of the opening as a version
-abbrev pub first_version : Regions → Version
-first_version rs = record { tick = 1; edits = 0; policy = rs }
-
--- the same, judged by the policy of the opening
-abbrev pub opened_with : Regions → SectorCells → SectorData
-opened_with rs = opened_by (first_version rs)
 
 -- the world of this terrain and these players under this policy, with nothing done yet
 abbrev pub opened : Regions → MapData → List (List ℕ) → PlayData
@@ -138,26 +108,6 @@ next_version play =
 -- the map of a world at play
 abbrev pub map_of : PlayData → MapData
 map_of play = record { sizes = play.sizes; sectors = map cells_of play.sectors }
-
--- a sector as it begins its next window over these cells, judged by this version
-abbrev pub renewed_over : Version → SectorData → SectorCells → SectorData
-renewed_over version s cells = renewed s (window_over version cells)
-
--- the sectors as each begins its next window, over its own cells where there are no others
-abbrev pub all_renewed : Version → List SectorData → List SectorCells → List SectorData
-all_renewed version [] cells = []
-all_renewed version (s ∷ sectors) [] =
-    renewed_over version s s.cells ∷ all_renewed version sectors []
-all_renewed version (s ∷ sectors) (c ∷ cells) =
-    renewed_over version s c ∷ all_renewed version sectors cells
-
--- the record of a sector's window
-abbrev pub entries_of : SectorData → List EntryData
-entries_of s = s.entries
-
--- what the entries of such a record say, as it is handed out
-abbrev pub entries_in : Vec Entry Global → List EntryData
-entries_in window = map entry_of window.items
 
 -- the map after the next tick, which the version judges that judged the window before
 abbrev pub next_map : PlayData → MapData

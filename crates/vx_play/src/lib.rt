@@ -7,12 +7,8 @@ mod names;
 mod play;
 mod tick_error;
 mod ticked;
-mod windows;
-mod writes;
 
 pub use names::number_of;
-pub use play::{MAX_PLAYERS, MAX_TICKS, Play};
+pub use play::Play;
 pub use tick_error::TickError;
 pub use ticked::Ticked;
-pub use windows::{all_awake, all_next, cells_of, open_sectors, renew_sectors};
-pub use writes::written;

@@ -2,14 +2,12 @@ ghost use Rattle.std.specs.List.{All};
 ghost use Rattle.std.specs.Prelude.{◌≡◌, false, [], map, vec_len, IfOk, OnOk, OnErr};
 ghost use Rattle.vx_cells.specs.SectorCells.{is_chest};
 ghost use Rattle.vx_cells.specs.Wholes.{with_cells_on};
-ghost use Rattle.vx_play.specs.Plays.{entries_in, entries_of};
+ghost use Rattle.vx_windows.specs.Sectors.{entries_in, entries_of};
 ghost use Rattle.vx_wake.specs.Waking.{RestsBut};
 
 use crate::names::number_of;
 use crate::tick_error::TickError;
 use crate::ticked::Ticked;
-use crate::windows::{all_awake, all_next, cells_of, open_sectors, renew_sectors};
-use crate::writes::written;
 use std::alloc::{AllocError, Global};
 use std::marker::Model;
 use vx_block::Cell;
@@ -19,14 +17,11 @@ use vx_geom::{Bounds, Pos};
 use vx_policy::{Edit, Policy, Version};
 use vx_region::Name;
 use vx_sector::{Cmd, Entry, Refusal, Reply, Seat, Sector};
-use vx_step::{Plan, plan_woken};
+use vx_tick::{Plan, plan_woken};
 use vx_wake::Waking;
-
-/// How many players a world may have.
-pub const MAX_PLAYERS: usize = 16;
-
-/// How many ticks a world may have.
-pub const MAX_TICKS: u64 = 1_099_511_627_776;
+use vx_windows::{
+    MAX_PLAYERS, MAX_TICKS, all_awake, all_next, cells_of, open_sectors, renew_sectors, written,
+};
 
 /// A world at play: its sectors in their places, its players in order of their seats, and the desk
 /// where its policy is edited.
@@ -45,9 +40,11 @@ impl<J: Naming> Model for Play<J> {
     ghost use Rattle.std.specs.Prelude.{◌≤◌, vec_len, map};
     ghost use Rattle.vx_region.specs.Texts.{texts};
     ghost use Rattle.vx_cells.specs.Maps.{AreSectors};
-    ghost use Rattle.vx_play.specs.Plays.{PlayData, cells_of, most_ticks};
-    ghost use Rattle.vx_play.specs.Writing.{map_before};
-    ghost use Rattle.vx_play.specs.declared.play.TheConstants.{MAX_PLAYERS};
+    ghost use Rattle.vx_play.specs.Plays.{PlayData};
+    ghost use Rattle.vx_windows.specs.Sectors.{cells_of};
+    ghost use Rattle.vx_windows.specs.Limits.{most_ticks};
+    ghost use Rattle.vx_windows.specs.Writing.{map_before};
+    ghost use Rattle.vx_windows.specs.declared.limits.TheConstants.{MAX_PLAYERS};
     ghost use Rattle.vx_wake.specs.Waking.{RestsBut};
 
     ghost Value = { PlayData };
@@ -90,7 +87,9 @@ impl<J: Naming> Play<J> {
     ghost use Rattle.vx_region.specs.Texts.{texts};
     ghost use Rattle.vx_sector.specs.SectorData.{seat_of};
     ghost use Rattle.vx_play.specs.declared.tick_error.TickError.TheVariants.{HistoryFull};
-    ghost use Rattle.vx_play.specs.Plays.{IsWorld, answered, calls, opened, policy_of, seat_named, seat_at, next_version, map_of, all_renewed, ticked, next_map, next_fates, most_ticks};
+    ghost use Rattle.vx_play.specs.Plays.{IsWorld, answered, calls, opened, policy_of, seat_named, seat_at, next_version, map_of, ticked, next_map, next_fates};
+    ghost use Rattle.vx_windows.specs.Sectors.{all_renewed};
+    ghost use Rattle.vx_windows.specs.Limits.{most_ticks};
 
     /// The world of this terrain under this policy, with nothing done yet.
     pub fn open(

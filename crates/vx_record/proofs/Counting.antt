@@ -6,9 +6,9 @@ use Rattle.std.proofs.lemmas.Option.{unwrap_or-slice_get}
 use Rattle.std.proofs.lemmas.List.Elements.{All-same, All-map}
 use Rattle.vx_sector.specs.SectorData.{SectorData, EntryData}
 use Rattle.vx_sector.specs.Windows.{count_of, most_entries, renewed}
-use Rattle.vx_play.specs.Plays.{entries_of}
-use Rattle.vx_core.specs.Chronicles.{TickData, ChronicleData, IsTickOn, map_after}
-use Rattle.vx_core.proofs.Growing.{ticks_one_more}
+use Rattle.vx_windows.specs.Sectors.{entries_of}
+use Rattle.vx_record.specs.Chronicles.{TickData, ChronicleData, IsTickOn, map_after}
+use Rattle.vx_record.proofs.Growing.{ticks_one_more}
 use Rattle.vx_record.specs.Said.{window_at, closed_at}
 use Rattle.vx_record.specs.Archives.{closed_of, IsCounted, IsArchive, IsNextTick, next_counts, CountsGoOn, CountsAgreeAgain}
 use Rattle.vx_record.proofs.Fronts.{closed_more}

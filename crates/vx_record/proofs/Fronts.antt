@@ -6,7 +6,7 @@ use Rattle.std.proofs.lemmas.List.Elements.{filter-append}
 use Rattle.std.proofs.lemmas.Option.{slice_get_read}
 use Rattle.vx_base.proofs.Lists.{drop_at}
 use Rattle.vx_sector.specs.SectorData.{EntryData}
-use Rattle.vx_core.specs.Chronicles.{TickData}
+use Rattle.vx_record.specs.Chronicles.{TickData}
 use Rattle.vx_record.specs.Calls.{call_in}
 use Rattle.vx_record.specs.Said.{is_by, calls_of, window_at, closed_at, said_of}
 use Rattle.vx_record.specs.declared.call.Call.{Call}

@@ -4,8 +4,8 @@ use Rattle.vx_cells.specs.SectorCells.{SectorCells}
 use Rattle.vx_policy.specs.declared.version.Version.{Version}
 use Rattle.vx_sector.specs.SectorData.{SectorData, EntryData}
 use Rattle.vx_sector.specs.Windows.{count_of}
-use Rattle.vx_play.specs.Plays.{entries_of, all_renewed}
-use Rattle.vx_core.specs.Chronicles.{TickData, ChronicleData, IsRun, IsTickOn, map_after}
+use Rattle.vx_windows.specs.Sectors.{entries_of, all_renewed}
+use Rattle.vx_record.specs.Chronicles.{TickData, ChronicleData, IsRun, IsTickOn, map_after}
 use Rattle.vx_record.specs.Said.{closed_at}
 
 -- the chronicle, how many entries of each sector are in its windows, and whether it has room for a

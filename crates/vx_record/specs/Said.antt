@@ -1,7 +1,7 @@
 -- What the record of a world says of a player.
 use Rattle.std.specs.Prelude.{ℕ, Bool, nat_eq, unwrap_or, List, [], ◌∷◌, ◌++◌, map, filter, slice_get}
 use Rattle.vx_sector.specs.SectorData.{EntryData}
-use Rattle.vx_core.specs.Chronicles.{TickData}
+use Rattle.vx_record.specs.Chronicles.{TickData}
 use Rattle.vx_record.specs.Calls.{call_in}
 use Rattle.vx_record.specs.declared.call.Call.{Call}
 

@@ -4,7 +4,7 @@ use Rattle.std.specs.List.{All, Contains}
 use Rattle.vx_cells.specs.SectorCells.{SectorCells}
 use Rattle.vx_policy.specs.declared.version.Version.{Version}
 use Rattle.vx_sector.specs.SectorData.{SectorData, EntryData}
-use Rattle.vx_core.specs.Chronicles.{TickData, AreSeated}
+use Rattle.vx_record.specs.Chronicles.{TickData, AreSeated}
 use Rattle.vx_record.specs.Said.{said_of}
 use Rattle.vx_record.specs.declared.call.Call.{Call}
 use Rattle.vx_record.specs.declared.fault.Fault.{Fault}

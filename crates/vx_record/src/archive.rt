@@ -3,14 +3,16 @@ ghost use Rattle.std.specs.List.{All};
 ghost use Rattle.std.specs.Prelude.{◌≡◌, ◌≤◌, ◌<◌, ◌++◌, ◌∷◌, [], true, length, map, replicate, slice_index, vec_len, IfOk, OnOk};
 ghost use Rattle.vx_sector.specs.SectorData.{entry_of};
 ghost use Rattle.vx_sector.specs.Windows.{most_entries};
-ghost use Rattle.vx_play.specs.Plays.{entries_in};
+ghost use Rattle.vx_windows.specs.Sectors.{entries_in};
 ghost use Rattle.vx_record.specs.Archives.{next_counts};
 
 use crate::call::Call;
+use crate::chronicle::Chronicle;
+use crate::opening::Opening;
 use crate::saying::says;
+use crate::tick::Tick;
 use std::alloc::{AllocError, Global};
 use std::marker::Model;
-use vx_core::{Chronicle, Opening, Tick};
 use vx_sector::{Entry, Sector};
 
 /// The chronicle of a world, and how many entries of each sector are closed in it.
@@ -22,7 +24,7 @@ pub struct Archive {
 
 impl Model for Archive {
     ghost use Rattle.std.specs.Prelude.{nat_lt, vec_len, vec_capacity};
-    ghost use Rattle.vx_core.specs.Records.{chronicle_in};
+    ghost use Rattle.vx_record.specs.Records.{chronicle_in};
     ghost use Rattle.vx_record.specs.Archives.{ArchiveData, IsArchive};
 
     ghost Value = { ArchiveData };
@@ -38,7 +40,7 @@ impl Model for Archive {
 
 impl Archive {
     ghost use Rattle.vx_sector.specs.Windows.{count_of};
-    ghost use Rattle.vx_core.specs.Records.{tick_in, chronicle_in};
+    ghost use Rattle.vx_record.specs.Records.{tick_in, chronicle_in};
     ghost use Rattle.vx_record.specs.Archives.{IsArchive, IsNextTick};
     ghost use Rattle.vx_record.specs.Said.{closed_at, said_of};
 

@@ -2,9 +2,9 @@
 ghost use Rattle.std.specs.Bool.{Decides};
 ghost use Rattle.vx_record.specs.Settling.{BeganWith, Follows};
 
+use crate::opening::Opening;
 use crate::seated::are_seated;
 use vx_cells::Cells;
-use vx_core::Opening;
 use vx_policy::Version;
 use vx_sector::Sector;
 

@@ -1,28 +1,36 @@
-//! The record of calls: what each player's own lists say, what the world's record says of a player,
-//! and how many entries of each sector are closed.
+//! What goes on record: how a world opened and its ticks since, what each player's own lists say,
+//! what the world's record says of a player, and how many entries of each sector are closed.
 #![tactic(auto)]
 
 mod archive;
 mod call;
 mod caller;
+mod chronicle;
 mod fault;
 mod knowing;
 mod laws;
 mod lists;
+mod opening;
+mod opening_error;
 mod place;
 mod saying;
 mod seated;
 mod settling;
 mod spare;
+mod tick;
 
 pub use archive::Archive;
 pub use call::Call;
 pub use caller::Caller;
+pub use chronicle::Chronicle;
 pub use fault::Fault;
 pub use knowing::{began_with, follows};
 pub use laws::counts_go_on;
 pub use lists::{Lists, is_recorded};
+pub use opening::Opening;
+pub use opening_error::OpeningError;
 pub use place::Place;
 pub use saying::says;
 pub use seated::are_seated;
 pub use settling::disagreement;
+pub use tick::Tick;

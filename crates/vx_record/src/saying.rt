@@ -2,13 +2,13 @@
 ghost use Rattle.std.specs.Bool.{Decides};
 ghost use Rattle.std.specs.Prelude.{◌≡◌, ◌≢◌, [], ◌∷◌, ◌++◌, List, map, MatchOption};
 ghost use Rattle.vx_sector.specs.SectorData.{entry_of};
-ghost use Rattle.vx_core.specs.Records.{tick_in};
-ghost use Rattle.vx_play.specs.Plays.{entries_in};
+ghost use Rattle.vx_record.specs.Records.{tick_in};
+ghost use Rattle.vx_windows.specs.Sectors.{entries_in};
 ghost use Rattle.vx_record.specs.Said.{calls_of, window_at, said_of};
 ghost use Rattle.vx_record.specs.declared.call.Call.{Call};
 
 use crate::call::Call;
-use vx_core::Tick;
+use crate::tick::Tick;
 use vx_sector::Entry;
 
 /// Whether these are the calls that the record says of the seat in a sector: those in its windows

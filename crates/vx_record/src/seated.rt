@@ -1,9 +1,9 @@
 ghost use Rattle.std.specs.Bool.{Decides};
 ghost use Rattle.std.specs.Prelude.{map};
 ghost use Rattle.vx_sector.specs.SectorData.{seat_of, entry_of};
-ghost use Rattle.vx_core.specs.Chronicles.{IsSeatOf, AreSeated};
+ghost use Rattle.vx_record.specs.Chronicles.{IsSeatOf, AreSeated};
 
-use vx_core::Opening;
+use crate::opening::Opening;
 use vx_sector::{Entry, Seat};
 
 /// Whether each of the entries was made from a seat of the world that opened so.

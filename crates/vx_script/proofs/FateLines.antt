@@ -2,7 +2,7 @@
 use Rattle.std.proofs.Common.{◌≡◌, ℕ, ◌+◌, ◌<◌, List, [], ◌∷◌, ◌++◌, length, take, get_or, append_assoc, append-nil, sym, ap, ◌∙◌}
 use Rattle.std.proofs.lemmas.List.{take_more}
 use Rattle.vx_geom.specs.declared.pos.Pos.{Pos}
-use Rattle.vx_step.specs.declared.fate.Fate.{Fate}
+use Rattle.vx_tick.specs.declared.fate.Fate.{Fate}
 use Rattle.vx_script.specs.Transcript.{fate_text, fates_text, line_text}
 
 abbrev line_of : Pos × Fate → List ℕ

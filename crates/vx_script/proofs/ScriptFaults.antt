@@ -4,7 +4,8 @@ use Rattle.vx_board.specs.Accepted.{most_edits}
 use Rattle.vx_grammar.specs.ScriptLines.{Said, Nothing, World, Player, Set, Act, Region, Tick}
 use Rattle.vx_lines.specs.Lines.{lines_of}
 use Rattle.vx_cells.specs.Maps.{MapData}
-use Rattle.vx_play.specs.Plays.{PlayData, most_players, most_ticks, is_named, seat_named, answered, policy_of, ticked}
+use Rattle.vx_play.specs.Plays.{PlayData, is_named, seat_named, answered, policy_of, ticked}
+use Rattle.vx_windows.specs.Limits.{most_players, most_ticks}
 use Rattle.vx_policy.specs.Asked.{Asked}
 use Rattle.vx_policy.specs.Refusals.{refusal}
 use Rattle.vx_policy.specs.declared.edit_refusal.EditRefusal.{EditRefusal}

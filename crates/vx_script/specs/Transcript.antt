@@ -8,8 +8,8 @@ use Rattle.vx_geom.specs.declared.pos.Pos.{Pos}
 use Rattle.vx_geom.specs.Sizes.{Sizes}
 use Rattle.vx_region.specs.Regions.{Regions}
 use Rattle.vx_decide.specs.Texts.{rule_text}
-use Rattle.vx_step.specs.declared.fate.Fate.{Fate}
-use Rattle.vx_step.specs.declared.fate.Fate.TheVariants.{Moved, Denied, Beaten}
+use Rattle.vx_tick.specs.declared.fate.Fate.{Fate}
+use Rattle.vx_tick.specs.declared.fate.Fate.TheVariants.{Moved, Denied, Beaten}
 use Rattle.vx_policy.specs.Asked.{Asked}
 use Rattle.vx_policy.specs.Edits.{number_given}
 use Rattle.vx_policy.specs.Refusals.{refusal}
@@ -27,7 +27,8 @@ use Rattle.vx_lines.specs.Lines.{lines_of}
 use Rattle.vx_grammar.specs.ScriptLines.{Said, Nothing, World, Player, Set, Act, Region, Tick, line_of}
 use Rattle.vx_cells.specs.Maps.{MapData}
 use Rattle.vx_cells.specs.Wholes.{bare, with_cell_on}
-use Rattle.vx_play.specs.Plays.{PlayData, most_players, most_ticks, is_named, opened, seat_named, answered, calls, policy_of, next_fates, ticked}
+use Rattle.vx_play.specs.Plays.{PlayData, is_named, opened, seat_named, answered, calls, policy_of, next_fates, ticked}
+use Rattle.vx_windows.specs.Limits.{most_players, most_ticks}
 use Rattle.vx_script.specs.Told.{Told, only, faulted, prepend}
 use Rattle.vx_script.specs.declared.fault.Fault.TheVariants.{HistoryFull, Syntax, TooManyPlayers}
 

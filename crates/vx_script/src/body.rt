@@ -19,7 +19,7 @@ use vx_play::{Play, TickError};
 use vx_policy::Edit;
 use vx_region::Name;
 use vx_sector::{Cmd, Refusal};
-use vx_step::Fate;
+use vx_tick::Fate;
 
 /// Takes a line of the body and writes the reply to it.
 #[tactic(auto, unfolding(crate::specs::Transcript::body_told))]

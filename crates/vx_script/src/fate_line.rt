@@ -2,7 +2,7 @@ ghost use Rattle.std.specs.Prelude.{Some};
 
 use crate::place::Place;
 use std::fmt;
-use vx_step::Fate;
+use vx_tick::Fate;
 
 /// What became of the move of a piston, as replies show it.
 #[derive(Clone, Copy, Debug)]

@@ -8,9 +8,10 @@ use vx_board::Naming;
 use vx_cells::Whole;
 use vx_geom::{Bounds, Pos};
 use vx_grammar::Line;
-use vx_play::{MAX_PLAYERS, Play, number_of};
+use vx_play::{Play, number_of};
 use vx_policy::Policy;
 use vx_region::Name;
+use vx_windows::MAX_PLAYERS;
 
 /// The header of a script: the world as it opens, as far as it was read.
 #[derive(Drop)]

@@ -2,9 +2,10 @@
 use Rattle.std.proofs.Common.{◌≡◌, ℕ, List, ◌++◌, refl, sym, ap}
 use Rattle.std.specs.List.{flat_map}
 use Rattle.vx_cells.specs.Maps.{MapData}
-use Rattle.vx_step.specs.declared.found.Found.{Found}
-use Rattle.vx_step.specs.Pieces.{restless_up_to, AreFromTo, IsFoundIn}
-use Rattle.vx_step.specs.Ticks.{asked_up_to, changed_up_to}
+use Rattle.vx_tick.specs.declared.found.Found.{Found}
+use Rattle.vx_tick.specs.Pieces.{restless_up_to}
+use Rattle.vx_step.specs.Shares.{AreFromTo, IsFoundIn}
+use Rattle.vx_tick.specs.Ticks.{asked_up_to, changed_up_to}
 use Rattle.vx_step.proofs.Joining.{all_bring}
 
 module _ (m : MapData) (n : ℕ) (pieces : List Found)

@@ -2,7 +2,7 @@
 use Rattle.std.proofs.Common.{◌≡◌, ℕ, ◌+◌, ◌*◌, ◌/◌, ◌<◌, ◌≤◌, arith, ap, ◌∙◌}
 use Rattle.std.proofs.lemmas.Nat.{le-div}
 use Rattle.std.proofs.Math.Nat.{mul-div_cancel_left, div-mul-le_self, div-le_of_le-mul, mul-le-mul_right, zero-mul, zero-div}
-use Rattle.vx_step.specs.Pieces.{first_of}
+use Rattle.vx_step.specs.Shares.{first_of}
 
 pub first_is_none : (n k : ℕ) → 0 < k → first_of n k 0 ≡ 0
 first_is_none n k some = ap (λ x. x / k) (zero-mul n) ∙ zero-div k

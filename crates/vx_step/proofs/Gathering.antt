@@ -16,14 +16,10 @@ use Rattle.vx_cells.proofs.Placed.{found_within, holds_found}
 use Rattle.vx_cells.proofs.Setting.{cell_is_set, puts_whole}
 use Rattle.vx_power.specs.Laws.{dust_level}
 use Rattle.vx_part.specs.Changes.{change_at, before, changes}
-use Rattle.vx_step.specs.Pieces.{AreEach, AreFromTo, changed_in, with_own}
-use Rattle.vx_step.specs.Ticks.{changed_up_to, advanced}
-
--- cells one after another
-pub cells_joined : (m : MapData) (xs ys : List (Pos × Cell))
-    → with_cells_on m (xs ++ ys) ≡ with_cells_on (with_cells_on m xs) ys
-cells_joined m [] ys = refl
-cells_joined m (x ∷ xs) ys = cells_joined (unwrap_or (with_cell_on m x.0 x.1) m) xs ys
+use Rattle.vx_step.specs.Shares.{AreEach, AreFromTo, with_own}
+use Rattle.vx_tick.specs.Pieces.{changed_in}
+use Rattle.vx_tick.proofs.Puts.{cells_joined}
+use Rattle.vx_tick.specs.Ticks.{changed_up_to, advanced}
 
 -- all these lie in the sector of number k
 abbrev AreOf : Sizes → ℕ → List (Pos × Cell) → Type 0

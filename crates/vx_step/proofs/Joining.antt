@@ -3,7 +3,7 @@ use Rattle.std.proofs.Common.{◌≡◌, ℕ, suc, ◌+◌, ◌<◌, ◌≤◌, 
 use Rattle.std.specs.List.{flat_map}
 use Rattle.std.proofs.lemmas.List.{append_assoc, append-nil, length-append, length-map}
 use Rattle.std.proofs.lemmas.List.Concat.{flat_map-cons}
-use Rattle.vx_step.specs.Pieces.{AreEach, AreFromTo}
+use Rattle.vx_step.specs.Shares.{AreEach, AreFromTo}
 
 module _ {X : Type 0} (P : ℕ → X → Type 0) where
   each_joined : (k : ℕ) (xs ys : List X) → AreEach P k xs → AreEach P (k + length xs) ys

@@ -3,7 +3,7 @@ use Rattle.std.proofs.Common.{◌≡◌, ℕ, suc, ◌+◌, ◌-◌, ◌<◌, �
 use Rattle.std.specs.List.{between, flat_map}
 use Rattle.std.proofs.lemmas.List.{map-append, take_all}
 use Rattle.std.proofs.Math.Seq.{take-add}
-use Rattle.vx_step.specs.Pieces.{first_of, AreFromTo}
+use Rattle.vx_step.specs.Shares.{first_of, AreFromTo}
 use Rattle.vx_step.proofs.Dividing.{first_is_none, last_is_all, firsts_grow}
 use Rattle.vx_step.proofs.Joining.{all_bring}
 

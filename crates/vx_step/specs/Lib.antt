@@ -1,6 +1,1 @@
-pub mod Fates
-pub mod Laws
-pub mod Leaving
-pub mod Pairing
-pub mod Pieces
-pub mod Ticks
+pub mod Shares

@@ -1,13 +1,13 @@
 ghost use Rattle.std.specs.Prelude.{◌≡◌, if◌then◌else◌, length, slice_index_or, OnOk};
 ghost use Rattle.vx_cells.specs.SectorCells.{SectorCells, holds, with_cell};
-ghost use Rattle.vx_step.specs.Pieces.{with_own};
+ghost use Rattle.vx_step.specs.Shares.{with_own};
 
-use crate::phase::Phase;
 use crate::work::Work;
 use std::alloc::{AllocError, Global};
 use vx_block::Cell;
 use vx_cells::Cells;
 use vx_geom::Pos;
+use vx_tick::Phase;
 
 /// The sectors with their next parts.
 #[derive(Drop)]

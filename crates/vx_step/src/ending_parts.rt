@@ -2,10 +2,8 @@
 ghost use Rattle.std.specs.Prelude.{◌≡◌, map, IfOk};
 ghost use Rattle.std.specs.List.{flat_map};
 ghost use Rattle.vx_cause.specs.Judging.{denial};
-ghost use Rattle.vx_step.specs.Fates.{AreFates};
+ghost use Rattle.vx_tick.specs.Fates.{AreFates};
 
-use crate::ending::fates_by;
-use crate::fate::Fate;
 use crate::fates_work::FatesWork;
 use crate::gate::Gate;
 use crate::workers::Workers;
@@ -15,6 +13,7 @@ use vx_decide::{Decide, Plain, Rule};
 use vx_geom::{Bounds, Pos};
 use vx_piston::Move;
 use vx_policy::Version;
+use vx_tick::{Fate, fates_by};
 
 /// What becomes of these moves, each beside the position of its piston, in their order. What denies
 /// them is told in as many parts as a world of this size has sectors.

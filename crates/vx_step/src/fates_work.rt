@@ -1,16 +1,15 @@
 ghost use Rattle.std.specs.Prelude.{◌≡◌, ◌+◌, length, map};
 ghost use Rattle.std.specs.List.{between};
 ghost use Rattle.vx_cause.specs.Judging.{denial};
-ghost use Rattle.vx_step.specs.Pieces.{first_of};
+ghost use Rattle.vx_step.specs.Shares.{first_of};
 
-use crate::ending::denials;
-use crate::phase::Phase;
 use crate::shares::part_of;
 use crate::work::Work;
 use std::alloc::{AllocError, Global};
 use vx_decide::{Decide, Rule};
 use vx_geom::Pos;
 use vx_piston::Move;
+use vx_tick::{Phase, denials};
 
 /// What denies the moves: an even part of them for each sector, wherever their pistons stand.
 #[derive(Drop)]

@@ -3,16 +3,14 @@ ghost use Rattle.std.specs.Prelude.{◌≡◌, ◌<◌, ◌≤◌, map, IfOk};
 ghost use Rattle.std.specs.List.{flat_map};
 ghost use Rattle.vx_geom.specs.Sizes.{sector_count};
 ghost use Rattle.vx_cells.specs.Maps.{AreSectors};
-ghost use Rattle.vx_step.specs.Pieces.{AreFromTo, changed_in};
-ghost use Rattle.vx_step.specs.Ticks.{advanced, fates_on, stepped, AreMoves, IsTick};
+ghost use Rattle.vx_step.specs.Shares.{AreFromTo};
+ghost use Rattle.vx_tick.specs.Pieces.{changed_in};
+ghost use Rattle.vx_tick.specs.Ticks.{advanced, fates_on, stepped, AreMoves, IsTick};
 
 use crate::cells_work::CellsWork;
 use crate::ending_parts::fates_in_parts;
-use crate::fate::Fate;
-use crate::found::{Found, sort};
 use crate::gate::Gate;
 use crate::parts_work::PartsWork;
-use crate::stepping::moved;
 use crate::workers::Workers;
 use std::alloc::{AllocError, Global};
 use std::thread::Threads;
@@ -22,6 +20,7 @@ use vx_geom::{Bounds, Pos};
 use vx_piston::Move;
 use vx_policy::Version;
 use vx_power::all_levels;
+use vx_tick::{Fate, Found, moved, sort_moves};
 
 /// The same as `step_plain` of the map of these sectors, those of a world of this size in order of
 /// their numbers, worked by 1 to 8 threads: of n sectors worker i of k works the numbers i·n/k up
@@ -89,7 +88,7 @@ fn found<R: Threads + Sync, G: Gate + Sync>(
     let levels = all_levels(alloc, &map)?;
     let found = workers.all(alloc, &PartsWork::new(&map, &levels, None))?;
     let (changes, mut moves) = parted(alloc, found)?;
-    sort(&mut moves);
+    sort_moves(&mut moves);
     Ok((changes, moves))
 }
 

@@ -2,15 +2,15 @@ ghost use Rattle.std.specs.Prelude.{◌≡◌, IfSome};
 ghost use Rattle.std.proofs.Props.{props};
 ghost use Rattle.vx_geom.specs.Sizes.{sector_count};
 ghost use Rattle.vx_power.specs.Levels.{AreAllLevels};
-ghost use Rattle.vx_step.specs.Pieces.{IsFoundIn, RestsOutside};
+ghost use Rattle.vx_step.specs.Shares.{IsFoundIn};
+ghost use Rattle.vx_tick.specs.Pieces.{RestsOutside};
 
-use crate::found::Found;
-use crate::phase::Phase;
 use crate::work::Work;
 use std::alloc::{AllocError, Global};
 use vx_cells::Frozen;
 use vx_places::Places;
 use vx_power::Leveled;
+use vx_tick::{Found, Phase};
 
 /// What each sector becomes, and what its pistons ask for.
 #[derive(Drop)]

@@ -6,18 +6,15 @@ ghost use Rattle.vx_cells.specs.Wholes.{with_cells_on};
 ghost use Rattle.vx_geom.specs.Sizes.{sector_count};
 ghost use Rattle.vx_power.specs.Levels.{AreAllLevels};
 ghost use Rattle.vx_places.specs.Places.{is_at};
-ghost use Rattle.vx_step.specs.Leaving.{IsPlanned};
-ghost use Rattle.vx_step.specs.Pieces.{restless_up_to, RestsOutside};
-ghost use Rattle.vx_step.specs.Ticks.{changed_up_to, fates_on, stepped, AreMoves};
+ghost use Rattle.vx_tick.specs.Leaving.{IsPlanned};
+ghost use Rattle.vx_tick.specs.Pieces.{restless_up_to, RestsOutside};
+ghost use Rattle.vx_tick.specs.Ticks.{changed_up_to, fates_on, stepped, AreMoves};
 ghost use Rattle.vx_wake.specs.Laws.{with_changed};
 ghost use Rattle.vx_wake.specs.Waking.{IsSettled, RestsBut};
 
 use crate::ending_parts::fates_in_parts;
-use crate::finishing::{at_rest, finished};
-use crate::found::Found;
 use crate::gate::Gate;
 use crate::parts_work::PartsWork;
-use crate::planned::Plan;
 use crate::workers::Workers;
 use std::alloc::{AllocError, Global};
 use std::thread::Threads;
@@ -26,6 +23,7 @@ use vx_geom::Pos;
 use vx_places::Places;
 use vx_policy::Version;
 use vx_power::{Leveled, all_levels};
+use vx_tick::{Found, Plan, at_rest, finished};
 use vx_wake::{Settling, Waking, unsettled};
 
 /// The same as `plan_woken`, its sectors worked by 1 to 8 threads, as `step_parts` shares them out.

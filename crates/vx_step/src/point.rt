@@ -1,4 +1,4 @@
-use crate::phase::Phase;
+use vx_tick::Phase;
 
 /// A point of a tick at which a gate is called.
 #[derive(Clone, Copy, Debug, PartialEq, Eq)]

@@ -1,7 +1,7 @@
 //! Work shared among threads.
 ghost use Rattle.std.specs.Prelude.{◌≡◌, ◌<◌, ◌≤◌, ◌+◌, ℕ, length, slice_index_or, IfOk};
 ghost use Rattle.std.specs.List.{between};
-ghost use Rattle.vx_step.specs.Pieces.{first_of, AreFromTo, IsShare};
+ghost use Rattle.vx_step.specs.Shares.{first_of, AreFromTo, IsShare};
 
 use crate::gate::Gate;
 use crate::point::Point;

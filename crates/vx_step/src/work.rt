@@ -1,7 +1,7 @@
 ghost use Rattle.std.specs.Prelude.{◌≡◌, ◌<◌, ℕ, IfOk};
 
-use crate::phase::Phase;
 use std::alloc::{AllocError, Global};
+use vx_tick::Phase;
 
 /// The work of a phase of a tick: a piece for each sector.
 pub trait Work {

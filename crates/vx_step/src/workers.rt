@@ -1,5 +1,5 @@
 ghost use Rattle.std.specs.Prelude.{◌<◌, ◌≤◌, IfOk};
-ghost use Rattle.vx_step.specs.Pieces.{AreFromTo};
+ghost use Rattle.vx_step.specs.Shares.{AreFromTo};
 
 use crate::gate::Gate;
 use crate::shares::in_parts;

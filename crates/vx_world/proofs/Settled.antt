@@ -8,7 +8,7 @@ use Rattle.std.proofs.lemmas.List.Sums.{sum_by-cons}
 use Rattle.std.proofs.lemmas.List.Elements.{All-head, All-tail}
 use Rattle.vx_sector.specs.SectorData.{SectorData}
 use Rattle.vx_record.specs.Settling.{CallerData, KnownData, IsEachOnce, IsKnown, AreKnown, IsFound, callers_at}
-use Rattle.vx_core.specs.Chronicles.{TickData}
+use Rattle.vx_record.specs.Chronicles.{TickData}
 use Rattle.vx_record.specs.declared.fault.Fault.{Fault}
 
 -- how many callers have one of so many seats

@@ -4,7 +4,7 @@ use Rattle.vx_cells.specs.SectorCells.{SectorCells}
 use Rattle.vx_policy.specs.declared.version.Version.{Version}
 use Rattle.vx_sector.specs.SectorData.{SectorData}
 use Rattle.vx_sector.specs.Windows.{count_of, renewed}
-use Rattle.vx_play.specs.Plays.{renewed_over, all_renewed}
+use Rattle.vx_windows.specs.Sectors.{renewed_over, all_renewed}
 
 -- a sector in its next window has as many entries as before
 count_again : (version : Version) (s : SectorData) (c : SectorCells)

@@ -4,7 +4,7 @@ use Rattle.vx_geom.specs.declared.pos.Pos.{Pos}
 use Rattle.vx_region.specs.Regions.{Regions}
 use Rattle.vx_sector.specs.SectorData.{SectorData}
 use Rattle.vx_sector.specs.Windows.{count_of}
-use Rattle.vx_step.specs.declared.fate.Fate.{Fate}
+use Rattle.vx_tick.specs.declared.fate.Fate.{Fate}
 use Rattle.vx_record.specs.Settling.{AreKnown}
 use Rattle.vx_keeper.specs.Keepers.{KeeperData, IsByEdits, known, map_next, fates_next, chronicle_next}
 

@@ -1,8 +1,8 @@
 ghost use Rattle.std.specs.Prelude.{◌≡◌, ◌+◌, ◌*◌, length};
 
 use std::sync::ledger::Blank;
-use vx_core::Opening;
 use vx_keeper::Known;
+use vx_record::Opening;
 use vx_stamp::Opened;
 
 /// The books of a world before any type names them: that of its sectors, that of its passes, and

@@ -1,6 +1,6 @@
 ghost use Rattle.std.specs.Prelude.{◌≡◌, vec_len};
 
-use vx_core::Chronicle;
+use vx_record::Chronicle;
 use vx_sector::Entry;
 
 /// The record of a world that was settled: its chronicle, and the open window of each sector in

@@ -1,8 +1,8 @@
 //! The settlement of a world that has ended.
 ghost use Rattle.std.specs.List.{All, sum_by};
 ghost use Rattle.std.specs.Prelude.{◌≡◌, ◌+◌, ◌*◌, ◌≤◌, [], true, None, map, vec_len, vec_capacity, IfOk, IfErr, OnOk};
-ghost use Rattle.vx_core.specs.Records.{chronicle_in};
-ghost use Rattle.vx_play.specs.Plays.{entries_in};
+ghost use Rattle.vx_record.specs.Records.{chronicle_in};
+ghost use Rattle.vx_windows.specs.Sectors.{entries_in};
 ghost use Rattle.vx_record.specs.Calls.{calls_in};
 ghost use Rattle.vx_record.specs.Settling.{IsFound, open_entries};
 ghost use Rattle.vx_keeper.specs.Keepers.{known};

@@ -1,7 +1,7 @@
 //! A tick of a world that threads share.
 ghost use Rattle.std.specs.List.{All};
 ghost use Rattle.std.specs.Prelude.{◌≡◌, ◌<◌, ◌≤◌, [], true, length, map, vec_len, Err, IfOk, OnOk, OnErr};
-ghost use Rattle.vx_play.specs.Plays.{most_ticks};
+ghost use Rattle.vx_windows.specs.Limits.{most_ticks};
 ghost use Rattle.vx_sector.specs.Windows.{count_of};
 ghost use Rattle.vx_keeper.specs.Marks.{AreParts, IsPartOf};
 ghost use Rattle.vx_keeper.specs.declared.tick_error.TickError.TheVariants.{HistoryFull};
@@ -18,7 +18,8 @@ use vx_board::Desk;
 use vx_geom::Pos;
 use vx_keeper::{Keeper, Marked, Places, TickError};
 use vx_sector::Sector;
-use vx_step::{Fate, Gate};
+use vx_step::Gate;
+use vx_tick::Fate;
 
 impl<A: Places, B: Seats> World<A, B> {
     /// Makes a tick: takes each sector out of its lock, makes the tick of them all by the version

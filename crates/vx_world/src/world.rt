@@ -20,9 +20,9 @@ use std::alloc::{AllocError, Global};
 use std::sync::{Condvar, Mutex, Wait};
 use vx_block::Part;
 use vx_board::Desk;
-use vx_core::Opening;
 use vx_geom::{Bounds, Pos};
 use vx_keeper::{Keeper, Places};
+use vx_record::Opening;
 use vx_sector::{Cmd, Refusal, Reply};
 use vx_step::{Gate, Point};
 

@@ -1,9 +1,9 @@
 use Rattle.std.proofs.Common.{◌≡◌, map, sym, subst}
 use Rattle.std.proofs.lemmas.Result.{IfOk-weaker}
-use Rattle.vx_core.specs.Chronicles.{IsRun}
+use Rattle.vx_record.specs.Chronicles.{IsRun}
 use Rattle.vx_core.specs.Events.{happening}
 use Rattle.vx_core.specs.Machines.{chronicle_of}
-use Rattle.vx_core.specs.Records.{chronicle_in}
+use Rattle.vx_record.specs.Records.{chronicle_in}
 use Rattle.vx_core.specs.declared.core_state.Core.{Core}
 use Rattle.vx_core.proofs.Soundness.{is_always_a_run}
 use Rattle.vx_core.proofs.running.run_core.Goals as goal

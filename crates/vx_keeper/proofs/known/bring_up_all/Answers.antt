@@ -2,8 +2,7 @@ use Rattle.std.proofs.Common.{◌≡◌, suc, ◌+◌, ◌<◌, length, length-s
 use Rattle.std.proofs.lemmas.List.{length-map}
 use Rattle.vx_cells.specs.SectorCells.{SectorCells}
 use Rattle.vx_cells.specs.declared.cells.Cells.{Cells}
-use Rattle.vx_play.specs.Plays.{cells_of}
-use Rattle.vx_play.specs.Games.{base_of}
+use Rattle.vx_windows.specs.Sectors.{cells_of, base_of}
 use Rattle.vx_sector.specs.Windows.{IsNextBase}
 use Rattle.vx_keeper.proofs.Bringing.{brought_up, brought_more, brought_next, all_brought, as_many_bases, base_suits, same_next, same_later, get_mapped}
 use Rattle.vx_keeper.proofs.known.bring_up_all.Goals as goal

@@ -3,7 +3,7 @@ use Rattle.std.specs.List.{take-map}
 use Rattle.std.proofs.Math.ListN.{set}
 use Rattle.std.proofs.lemmas.List.{length-map, length-take-le, get_or-map}
 use Rattle.vx_sector.specs.SectorData.{entry_of}
-use Rattle.vx_play.specs.Plays.{entries_in}
+use Rattle.vx_windows.specs.Sectors.{entries_in}
 use Rattle.vx_record.specs.Archives.{next_counts}
 use Rattle.vx_record.proofs.Fronts.{taken_to}
 use Rattle.vx_record.proofs.Counting.{next_none, next_more_at, fits_at}

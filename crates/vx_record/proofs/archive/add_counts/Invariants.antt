@@ -1,5 +1,5 @@
 use Rattle.std.proofs.Common.{◌≡◌, map, take}
-use Rattle.vx_play.specs.Plays.{entries_in}
+use Rattle.vx_windows.specs.Sectors.{entries_in}
 use Rattle.vx_record.specs.Archives.{next_counts}
 use Rattle.vx_record.proofs.archive.add_counts.Given as goal
 

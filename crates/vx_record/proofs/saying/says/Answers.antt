@@ -2,7 +2,7 @@ use Rattle.std.proofs.Common.{◌≡◌, ◌≢◌, ◌++◌, List, map, take, d
 use Rattle.std.proofs.lemmas.Bool.{false≢true}
 use Rattle.std.proofs.lemmas.List.{take_all}
 use Rattle.vx_sector.specs.SectorData.{entry_of}
-use Rattle.vx_core.specs.Records.{tick_in}
+use Rattle.vx_record.specs.Records.{tick_in}
 use Rattle.vx_record.specs.Said.{calls_of, window_at, closed_at, said_of}
 use Rattle.vx_record.specs.declared.call.Call.{Call}
 use Rattle.vx_record.proofs.Fronts.{cut_at, taken_to, closed_more, goes_on, stops_at, stops_last}

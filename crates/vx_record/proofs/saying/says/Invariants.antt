@@ -1,5 +1,5 @@
 use Rattle.std.proofs.Common.{◌≡◌, ◌++◌, map, take}
-use Rattle.vx_core.specs.Records.{tick_in}
+use Rattle.vx_record.specs.Records.{tick_in}
 use Rattle.vx_record.specs.Said.{calls_of, closed_at}
 use Rattle.vx_record.proofs.saying.says.Given as goal
 

@@ -4,7 +4,7 @@ use Rattle.std.proofs.lemmas.List.{length-map, get_or-map, take_all}
 use Rattle.std.proofs.lemmas.List.Elements.{All-same, All-push}
 use Rattle.vx_record.proofs.Fronts.{taken_to}
 use Rattle.vx_sector.specs.SectorData.{EntryData, entry_of}
-use Rattle.vx_core.specs.Chronicles.{IsSeatOf, AreSeated}
+use Rattle.vx_record.specs.Chronicles.{IsSeatOf, AreSeated}
 use Rattle.vx_record.proofs.seated.are_seated.Goals as goal
 
 pub returns-then-not-is_seat_of : goal.returns-then-not-is_seat_of

@@ -1,6 +1,6 @@
 use Rattle.std.proofs.Common.{map, take}
 use Rattle.vx_sector.specs.SectorData.{entry_of}
-use Rattle.vx_core.specs.Chronicles.{AreSeated}
+use Rattle.vx_record.specs.Chronicles.{AreSeated}
 use Rattle.vx_record.proofs.seated.are_seated.Given as goal
 
 -- the entries so far were made from seats of the opening

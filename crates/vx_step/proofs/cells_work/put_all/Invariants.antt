@@ -1,5 +1,5 @@
 use Rattle.std.proofs.Common.{◌≡◌, drop}
-use Rattle.vx_step.specs.Pieces.{with_own}
+use Rattle.vx_step.specs.Shares.{with_own}
 use Rattle.vx_step.proofs.cells_work.put_all.Given as goal
 
 -- what was put down, and with it what is left

@@ -3,7 +3,7 @@ use Rattle.std.specs.List.{between}
 use Rattle.std.proofs.Math.Nat.{mul-pos}
 use Rattle.vx_cause.specs.Judging.{denial}
 use Rattle.vx_geom.specs.Sizes.{sector_count}
-use Rattle.vx_step.specs.Pieces.{first_of, AreFromTo}
+use Rattle.vx_step.specs.Shares.{first_of, AreFromTo}
 use Rattle.vx_step.proofs.Sharing.{even_parts}
 use Rattle.vx_step.proofs.ending_parts.denials.Goals as goal
 

@@ -2,7 +2,7 @@ use Rattle.std.proofs.Common.{◌≡◌, map, ap, ◌∙◌}
 use Rattle.std.proofs.lemmas.Result.{IfOk-weaker}
 use Rattle.vx_cause.specs.Judging.{denial}
 use Rattle.vx_region.specs.Regions.{Regions}
-use Rattle.vx_step.specs.Fates.{AreFates}
+use Rattle.vx_tick.specs.Fates.{AreFates}
 use Rattle.vx_step.proofs.ending_parts.fates_in_parts.Goals as goal
 
 pub returns : goal.returns

@@ -2,7 +2,8 @@ use Rattle.std.proofs.Common.{◌≡◌, sym, ◌∙◌, subst}
 use Rattle.vx_cells.specs.Maps.{MapData}
 use Rattle.vx_cells.specs.Wholes.{IsMap}
 use Rattle.vx_geom.specs.Sizes.{sector_count}
-use Rattle.vx_step.specs.Pieces.{AreFromTo, changed_in}
+use Rattle.vx_step.specs.Shares.{AreFromTo}
+use Rattle.vx_tick.specs.Pieces.{changed_in}
 use Rattle.vx_step.proofs.Gathering.{gathered_by, advanced_whole}
 use Rattle.vx_step.proofs.parts.advanced.Goals as goal
 

@@ -3,8 +3,8 @@ use Rattle.std.specs.List.{flat_map}
 use Rattle.std.proofs.lemmas.Iterator.Consumers.{YieldsList-end}
 use Rattle.std.proofs.lemmas.Iterator.Adapters.{YieldsList-from_vec}
 use Rattle.std.proofs.lemmas.List.{map-id}
-use Rattle.vx_step.specs.declared.found.Found.{Found}
-use Rattle.vx_step.proofs.Turning.{mapped_on, brought_on}
+use Rattle.vx_tick.specs.declared.found.Found.{Found}
+use Rattle.vx_tick.proofs.Turning.{mapped_on, brought_on}
 use Rattle.vx_step.proofs.parts.parted.Goals as goal
 
 pub loop-piece-preserved : goal.loop-piece-preserved

@@ -1,8 +1,8 @@
 use Rattle.std.proofs.Common.{◌≡◌}
 use Rattle.std.proofs.lemmas.Result.{IfOk-weaker}
 use Rattle.vx_cells.specs.Maps.{MapData}
-use Rattle.vx_step.specs.Ticks.{IsTick, stepped, fates_on}
-use Rattle.vx_step.proofs.OneTick.{tick_is_stepped}
+use Rattle.vx_tick.specs.Ticks.{IsTick, stepped, fates_on}
+use Rattle.vx_tick.proofs.OneTick.{tick_is_stepped}
 use Rattle.vx_step.proofs.parts.step_parts.Goals as goal
 
 pub returns-clause-map : goal.returns-clause-map

@@ -1,5 +1,5 @@
 use Rattle.std.proofs.Common.{length, sym, ap, ◌∙◌}
-use Rattle.vx_step.proofs.Told.{fates_length}
+use Rattle.vx_tick.proofs.Told.{fates_length}
 use Rattle.vx_step.proofs.parts.tick.Goals as goal
 
 pub moved-requires : goal.moved-requires

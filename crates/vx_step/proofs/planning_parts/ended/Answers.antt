@@ -1,9 +1,9 @@
 use Rattle.std.proofs.Common.{length, ap, ◌∙◌, subst}
 use Rattle.std.proofs.lemmas.Result.{IfOk-weaker}
 use Rattle.vx_region.specs.Regions.{Regions}
-use Rattle.vx_step.specs.Fates.{AreFates}
-use Rattle.vx_step.specs.Leaving.{IsPlanned}
-use Rattle.vx_step.proofs.Told.{fates_length}
+use Rattle.vx_tick.specs.Fates.{AreFates}
+use Rattle.vx_tick.specs.Leaving.{IsPlanned}
+use Rattle.vx_tick.proofs.Told.{fates_length}
 use Rattle.vx_step.proofs.planning_parts.ended.Goals as goal
 
 pub finished-requires-clause-each : goal.finished-requires-clause-each

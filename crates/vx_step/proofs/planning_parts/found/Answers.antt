@@ -3,9 +3,9 @@ use Rattle.std.specs.List.{flat_map}
 use Rattle.std.proofs.lemmas.Result.{IfOk-weaker}
 use Rattle.vx_cells.specs.Maps.{MapData}
 use Rattle.vx_geom.specs.Sizes.{sector_count}
-use Rattle.vx_step.specs.declared.found.Found.{Found}
-use Rattle.vx_step.specs.Pieces.{AreFromTo, IsFoundIn}
-use Rattle.vx_step.specs.Ticks.{asked_up_to, AreMoves}
+use Rattle.vx_tick.specs.declared.found.Found.{Found}
+use Rattle.vx_step.specs.Shares.{AreFromTo, IsFoundIn}
+use Rattle.vx_tick.specs.Ticks.{asked_up_to, AreMoves}
 use Rattle.vx_step.proofs.AllFound.{all_changes, all_pistons, all_moves}
 use Rattle.vx_step.proofs.planning_parts.found.Goals as goal
 

@@ -1,6 +1,6 @@
 use Rattle.std.proofs.Common.{◌≡◌, ◌<◌, ◌+◌, [], ◌∷◌, ◌++◌, IfOk, length, sym, ap, ◌∙◌, subst, arith}
 use Rattle.std.proofs.lemmas.List.{length_push}
-use Rattle.vx_step.specs.Pieces.{first_of, AreFromTo, IsShare}
+use Rattle.vx_step.specs.Shares.{first_of, AreFromTo, IsShare}
 use Rattle.vx_step.proofs.Dividing.{first_is_none, last_is_all}
 use Rattle.vx_step.proofs.Joining.{none_yet, by_index, first, others, joined}
 use Rattle.vx_step.proofs.shares.in_parts.Goals as goal

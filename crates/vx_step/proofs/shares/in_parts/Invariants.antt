@@ -1,5 +1,5 @@
 use Rattle.std.proofs.Common.{IfOk, length}
-use Rattle.vx_step.specs.Pieces.{first_of, AreFromTo, IsShare}
+use Rattle.vx_step.specs.Shares.{first_of, AreFromTo, IsShare}
 use Rattle.vx_step.proofs.shares.in_parts.Given as goal
 
 -- what the workers so far gave, and what the others did

@@ -1,5 +1,5 @@
 use Rattle.std.proofs.Common.{◌≡◌, ◌<◌, ◌≤◌, ◌+◌, ap, ◌∙◌, subst, arith}
-use Rattle.vx_step.specs.Pieces.{first_of, AreFromTo}
+use Rattle.vx_step.specs.Shares.{first_of, AreFromTo}
 use Rattle.vx_step.proofs.Dividing.{firsts_grow, firsts_most}
 use Rattle.vx_step.proofs.Joining.{one_more}
 use Rattle.vx_step.proofs.shares.share.Goals as goal

@@ -1,4 +1,4 @@
-use Rattle.vx_step.specs.Pieces.{first_of, AreFromTo}
+use Rattle.vx_step.specs.Shares.{first_of, AreFromTo}
 use Rattle.vx_step.proofs.shares.share.Given as goal
 
 -- what the sectors so far gave

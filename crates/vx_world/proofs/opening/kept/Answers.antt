@@ -6,7 +6,7 @@ use Rattle.std.proofs.lemmas.List.Elements.{All-map}
 use Rattle.vx_sector.specs.SectorData.{SectorData}
 use Rattle.vx_sector.specs.Windows.{count_of}
 use Rattle.vx_sector.specs.declared.sector.Sector.{Sector}
-use Rattle.vx_play.specs.Plays.{opened_with}
+use Rattle.vx_windows.specs.Sectors.{opened_with}
 use Rattle.vx_world.proofs.opening.kept.Goals as goal
 
 counted : (sectors : Vec Sector Global) → vec_len sectors ≡ length sectors.items

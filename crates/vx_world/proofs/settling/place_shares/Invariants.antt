@@ -1,7 +1,7 @@
 use Rattle.std.proofs.Common.{◌≡◌, ◌+◌, ◌≤◌, true, length, map}
 use Rattle.std.specs.List.{All, sum_by}
 use Rattle.std.specs.Vec.{vec_len, vec_capacity}
-use Rattle.vx_play.specs.Plays.{entries_in}
+use Rattle.vx_windows.specs.Sectors.{entries_in}
 use Rattle.vx_record.specs.Settling.{open_entries}
 use Rattle.vx_world.specs.Settlements.{count_here, is_home, sector_here}
 use Rattle.vx_world.proofs.settling.place_shares.Given as goal

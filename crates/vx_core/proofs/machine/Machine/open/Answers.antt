@@ -1,8 +1,9 @@
 use Rattle.std.proofs.Common.{false, length, map, replicate, ap, ◌∙◌}
 use Rattle.std.proofs.lemmas.List.{length-map}
-use Rattle.vx_play.specs.Plays.{PlayData, opened, opened_with}
-use Rattle.vx_core.specs.Openings.{OpeningData}
-use Rattle.vx_core.specs.Records.{tick_in}
+use Rattle.vx_play.specs.Plays.{PlayData, opened}
+use Rattle.vx_windows.specs.Sectors.{opened_with}
+use Rattle.vx_record.specs.Openings.{OpeningData}
+use Rattle.vx_record.specs.Records.{tick_in}
 use Rattle.vx_core.specs.declared.stage.Stage.TheVariants.{Home}
 use Rattle.vx_core.proofs.machine.Machine.open.Goals as goal
 

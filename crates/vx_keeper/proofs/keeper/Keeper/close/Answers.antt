@@ -8,10 +8,10 @@ use Rattle.vx_cells.specs.Wholes.{IsMap, with_cells_on}
 use Rattle.vx_sector.specs.SectorData.{SectorData}
 use Rattle.vx_sector.specs.Windows.{count_of, most_entries}
 use Rattle.vx_cells.proofs.Setting.{puts_whole}
-use Rattle.vx_play.specs.Nexts.{AreNextOf}
-use Rattle.vx_play.specs.Plays.{cells_of, entries_in, entries_of, all_renewed}
-use Rattle.vx_core.specs.Chronicles.{TickData, ChronicleData}
-use Rattle.vx_core.specs.Records.{tick_in}
+use Rattle.vx_windows.specs.Nexts.{AreNextOf}
+use Rattle.vx_windows.specs.Sectors.{cells_of, entries_in, entries_of, all_renewed}
+use Rattle.vx_record.specs.Chronicles.{TickData, ChronicleData}
+use Rattle.vx_record.specs.Records.{tick_in}
 use Rattle.vx_record.specs.Archives.{IsArchive, IsNextTick, next_counts}
 use Rattle.vx_record.proofs.Counting.{archive_grown, counts_fit, counts_go_on}
 use Rattle.vx_keeper.specs.Keepers.{KeeperData, keeper_data, IsKeeper, map_now, map_next, chronicle_next}

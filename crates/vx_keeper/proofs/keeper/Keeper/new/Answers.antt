@@ -1,7 +1,7 @@
 use Rattle.std.proofs.Common.{◌≡◌, List, map, sym, subst, rules}
 use Rattle.std.specs.List.{All}
 use Rattle.vx_sector.specs.SectorData.{SectorData}
-use Rattle.vx_play.specs.Plays.{first_version, opened_with}
+use Rattle.vx_windows.specs.Sectors.{first_version, opened_with}
 use Rattle.vx_keeper.specs.Marks.{WorldData, IsPartOf}
 use Rattle.vx_keeper.proofs.Beginning.{opened_keeps}
 use Rattle.vx_keeper.proofs.Parts.{parts_opened}

@@ -5,9 +5,9 @@ use Rattle.vx_power.specs.Levels.{has}
 use Rattle.vx_wake.specs.Laws.{with_changed}
 use Rattle.vx_wake.specs.Waking.{RestsBut}
 use Rattle.vx_wake.proofs.Carrying.{writes_wake}
-use Rattle.vx_play.specs.Plays.{cells_of}
-use Rattle.vx_play.specs.Writing.{map_before}
-use Rattle.vx_play.proofs.Sparing.{map_spared}
+use Rattle.vx_windows.specs.Sectors.{cells_of}
+use Rattle.vx_windows.specs.Writing.{map_before}
+use Rattle.vx_windows.proofs.Sparing.{map_spared}
 use Rattle.vx_keeper.specs.Keepers.{KeeperData}
 use Rattle.vx_keeper.proofs.Knowing.{held_of, whole_now}
 use Rattle.vx_keeper.proofs.keeper.Keeper.worked.Goals as goal

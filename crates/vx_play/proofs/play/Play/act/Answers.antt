@@ -8,9 +8,9 @@ use Rattle.vx_sector.specs.SectorData.{SectorData, seat_of}
 use Rattle.vx_sector.specs.Windows.{sector_after}
 use Rattle.vx_cells.specs.Maps.{AreSectors}
 use Rattle.vx_wake.specs.Waking.{RestsBut}
-use Rattle.vx_play.specs.Games.{base_of}
-use Rattle.vx_play.specs.Plays.{PlayData, cells_of}
-use Rattle.vx_play.proofs.Sparing.{base_stays, before_stays}
+use Rattle.vx_windows.specs.Sectors.{base_of, cells_of}
+use Rattle.vx_play.specs.Plays.{PlayData}
+use Rattle.vx_windows.proofs.Sparing.{base_stays, before_stays}
 use Rattle.vx_play.proofs.Whole.{answered_there, answer_keeps_world}
 use Rattle.vx_play.proofs.play.Play.act.Given.{Over}
 use Rattle.vx_play.proofs.play.Play.act.Goals as goal

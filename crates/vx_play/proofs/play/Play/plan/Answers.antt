@@ -6,9 +6,9 @@ use Rattle.vx_power.specs.Levels.{has}
 use Rattle.vx_wake.specs.Laws.{with_changed}
 use Rattle.vx_wake.specs.Waking.{RestsBut}
 use Rattle.vx_wake.proofs.Carrying.{writes_wake}
-use Rattle.vx_play.specs.Plays.{cells_of}
-use Rattle.vx_play.specs.Writing.{IsSpared, map_before}
-use Rattle.vx_play.proofs.Sparing.{map_spared}
+use Rattle.vx_windows.specs.Sectors.{cells_of}
+use Rattle.vx_windows.specs.Writing.{IsSpared, map_before}
+use Rattle.vx_windows.proofs.Sparing.{map_spared}
 use Rattle.vx_play.proofs.play.Play.plan.Goals as goal
 
 pub plan_woken-requires : goal.plan_woken-requires

@@ -6,10 +6,11 @@ use Rattle.vx_cells.specs.Wholes.{with_cells_on}
 use Rattle.vx_sector.specs.SectorData.{SectorData}
 use Rattle.vx_cells.specs.Maps.{AreSectors}
 use Rattle.vx_wake.specs.Waking.{RestsBut}
-use Rattle.vx_play.specs.Plays.{PlayData, cells_of, map_of, all_renewed}
-use Rattle.vx_play.specs.Writing.{map_before}
-use Rattle.vx_play.proofs.Sparing.{begun_over}
-use Rattle.vx_play.proofs.Going.{as_many_renewed}
+use Rattle.vx_play.specs.Plays.{PlayData, map_of}
+use Rattle.vx_windows.specs.Sectors.{cells_of, all_renewed}
+use Rattle.vx_windows.specs.Writing.{map_before}
+use Rattle.vx_windows.proofs.Sparing.{begun_over}
+use Rattle.vx_windows.proofs.Going.{as_many_renewed}
 use Rattle.vx_play.proofs.play.Play.renew.Goals as goal
 
 pub invariant_of-self : goal.invariant_of-self

@@ -1,8 +1,8 @@
 use Rattle.std.proofs.Common.{◌≡◌, ◌++◌, [], ◌∷◌, List, length, map, take, drop, sym, ap, subst, ◌∙◌, arith}
 use Rattle.std.proofs.lemmas.List.{length-map, map-append, take_at}
-use Rattle.vx_play.specs.Plays.{entries_in}
-use Rattle.vx_core.specs.Chronicles.{TickData}
-use Rattle.vx_core.specs.Records.{tick_in, chronicle_in}
+use Rattle.vx_windows.specs.Sectors.{entries_in}
+use Rattle.vx_record.specs.Chronicles.{TickData}
+use Rattle.vx_record.specs.Records.{tick_in, chronicle_in}
 use Rattle.vx_record.specs.Archives.{ArchiveData, IsArchive, IsNextTick, next_counts}
 use Rattle.vx_record.proofs.Counting.{archive_grown}
 use Rattle.vx_record.proofs.archive.Archive.add.Goals as goal

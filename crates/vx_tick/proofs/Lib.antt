@@ -1,0 +1,17 @@
+pub mod Advancing
+pub mod Asking
+pub mod InOrder
+pub mod Remaining
+pub mod Making
+pub mod Movers
+pub mod NoChests
+pub mod Nothing
+pub mod OneTick
+pub mod Pairs
+pub mod Plans
+pub mod PutDown
+pub mod Permitting
+pub mod Puts
+pub mod Resting
+pub mod Told
+pub mod Turning

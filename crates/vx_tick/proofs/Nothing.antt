@@ -1,0 +1,92 @@
+-- A tick of a map on which everything rests does nothing.
+use Rattle.std.proofs.Common.{◌≡◌, ℕ, zero, suc, false, List, [], ◌∷◌, ◌++◌, length, refl, sym, ap, ◌∙◌, subst, arith}
+use Rattle.std.specs.List.{filter}
+use Rattle.std.proofs.lemmas.List.Sorted.{IsPermutation-refl}
+use Rattle.vx_geom.specs.declared.pos.Pos.{Pos}
+use Rattle.vx_geom.specs.Places.{positions}
+use Rattle.vx_geom.specs.Sizes.{sector_count}
+use Rattle.vx_cells.specs.MapLaws.{IsFilled}
+use Rattle.vx_cells.specs.Maps.{MapData, cell_on}
+use Rattle.vx_power.specs.Laws.{dust_level}
+use Rattle.vx_part.specs.Changes.{changes}
+use Rattle.vx_part.proofs.Changing.{kept_change}
+use Rattle.vx_piston.proofs.Restless.{others_stay}
+use Rattle.vx_region.specs.Regions.{Regions}
+use Rattle.vx_tick.specs.declared.planned.Plan.{Plan}
+use Rattle.vx_tick.specs.Leaving.{IsPlanned, IsWorked}
+use Rattle.vx_tick.specs.Ticks.{asked, asked_up_to, changed_up_to, stepped, AreMoves}
+use Rattle.vx_tick.proofs.Asking.{kept_ask}
+use Rattle.vx_tick.proofs.Plans.{all_puts, is_worked, no_chests}
+use Rattle.vx_wake.specs.Laws.{with_changed}
+use Rattle.vx_wake.specs.Waking.{Rests, RestsBut, WakingData}
+use Rattle.vx_wake.proofs.Nothing.{nothing_awake}
+
+none_kept : (ps : List Pos) → filter (λ p. false) ps ≡ []
+none_kept [] = refl
+none_kept (p ∷ ps) = none_kept ps
+
+module _ (m : MapData) (rests : (p : Pos) → Rests m p) where
+  nothing_changes : (ps : List Pos) → changes (cell_on m) (dust_level (cell_on m)) ps ≡ []
+  nothing_changes ps =
+      sym (kept_change (cell_on m) (dust_level (cell_on m)) (λ p. false) (λ p _. (rests p).part) ps)
+      ∙ ap (changes (cell_on m) (dust_level (cell_on m))) (none_kept ps)
+
+  nothing_asked : (ps : List Pos) → asked m (dust_level (cell_on m)) ps ≡ []
+  nothing_asked ps =
+      sym (kept_ask m (dust_level (cell_on m)) (λ p. false)
+      (λ p _. others_stay m (dust_level (cell_on m)) p (rests p).piston) ps)
+      ∙ ap (asked m (dust_level (cell_on m))) (none_kept ps)
+
+  nothing_changed : (n : ℕ) → changed_up_to m n ≡ []
+  nothing_changed zero = refl
+  nothing_changed (suc n) = λ i. nothing_changed n i ++ nothing_changes (positions m.sizes n) i
+
+  nothing_asked_for : (n : ℕ) → asked_up_to m n ≡ []
+  nothing_asked_for zero = refl
+  nothing_asked_for (suc n) = λ i. nothing_asked_for n i ++ nothing_asked (positions m.sizes n) i
+
+  no_moves : AreMoves m []
+  no_moves = record {
+    all = rw (nothing_asked_for (sector_count m.sizes)) (IsPermutation-refl []);
+    ordered = λ k d least within. absurd (omega arith);
+  }
+
+  -- so nothing is worked
+  pub nothing_worked : (rs : Regions) → IsFilled m → IsWorked rs m [] [] []
+  nothing_worked rs filled =
+      is_worked m (dust_level (cell_on m)) rs [] [] [] [] filled (λ p. refl) no_moves tt
+      (sym (nothing_changed (sector_count m.sizes))) refl
+
+  -- and the map is the same after the tick
+  pub nothing_stepped : (rs : Regions) → IsFilled m → stepped rs m ≡ m
+  nothing_stepped rs filled = all_puts rs m [] [] [] [] (nothing_worked rs filled) refl
+
+none_listed : (ps : List Pos) → length ps ≡ 0 → ps ≡ []
+none_listed [] none = refl
+none_listed (p ∷ ps) none = absurd (omega (arith, none))
+
+-- where nothing is told and nothing was written, everything rests
+pub all_rests : (m : MapData) (waking : WakingData) (written : List Pos)
+    → waking ≡ record { changed = []; besides = [] } → length written ≡ 0
+    → RestsBut m (with_changed waking written) → (p : Pos) → Rests m p
+all_rests m waking written none empty rests =
+    nothing_awake m (subst (RestsBut m) (λ i. with_changed (none i) (none_listed written empty i)) rests)
+
+-- and still does after the tick
+rests_still : (m : MapData) (rs : Regions) (next : WakingData) → IsFilled m
+    → next ≡ record { changed = []; besides = [] } → ((p : Pos) → Rests m p) → RestsBut (stepped rs m) next
+rests_still m rs next filled none rests =
+    subst (RestsBut (stepped rs m)) (sym none)
+    (subst (λ n. RestsBut n (record { changed = []; besides = [] })) (sym (nothing_stepped m rests rs filled))
+    (λ p away. rests p))
+
+-- so a plan of nothing, after which the next tick has to look nowhere, tells the tick
+pub nothing_planned : (m : MapData) → ((p : Pos) → Rests m p) → (rs : Regions) → IsFilled m
+    → (done : Plan × WakingData) → done.0.puts.items ≡ [] → done.0.fates.items ≡ []
+    → done.1 ≡ record { changed = []; besides = [] } → IsPlanned rs m done
+nothing_planned m rests rs filled done puts fates none = record {
+  puts = all_puts rs m [] [] done.0.puts.items [] (nothing_worked m rests rs filled) puts;
+  fates = fates ∙ (nothing_worked m rests rs filled).told;
+  chests = no_chests rs m [] [] done.0.puts.items [] (nothing_worked m rests rs filled) puts;
+  waking = rests_still m rs done.1 filled none rests;
+}

@@ -1,0 +1,28 @@
+use Rattle.std.proofs.Common.{◌+◌, drop, ap, ◌∙◌}
+use Rattle.std.proofs.Math.ListN.{drop_of_length-le}
+use Rattle.vx_cells.specs.Maps.{cell_on}
+use Rattle.vx_tick.specs.Leaving.{shown_changes, hidden_changes}
+use Rattle.vx_tick.proofs.Turning.{next_left, carried, ended, shown_first, hidden_first}
+use Rattle.vx_tick.proofs.leaving.left_by_parts.Goals as goal
+
+pub loop-p-preserved : goal.loop-p-preserved
+loop-p-preserved c =
+    let w = cell_on c.args.map.now in
+    let put = c.loop-p-item.result in
+    let rest = drop (c.loop-p.p-index + 1) c.args.changes.now in
+    let left = next_left c.args.changes.now c.loop-p.p-index put c.loop-p-test.true c.loop-p-item.is in (
+      carried c.loop-p.waking.changed _ _ (shown_changes w rest) _ _ c.in_ok-look.ensures.changed (ap (shown_changes w) left ∙ shown_first w put rest)
+          c.loop-p.invariant.0,
+      carried c.loop-p.waking.besides _ _ (hidden_changes w rest) _ _ c.in_ok-look.ensures.besides (ap (hidden_changes w) left ∙ hidden_first w put rest)
+          c.loop-p.invariant.1,
+    )
+
+pub returns-clause-changed : goal.returns-clause-changed
+returns-clause-changed c =
+    ended c.loop-p.waking.changed _ _ (ap (shown_changes (cell_on c.args.map.now)) (drop_of_length-le c.args.changes.now c.loop-p-test.false))
+    c.loop-p.invariant.0
+
+pub returns-clause-besides : goal.returns-clause-besides
+returns-clause-besides c =
+    ended c.loop-p.waking.besides _ _ (ap (hidden_changes (cell_on c.args.map.now)) (drop_of_length-le c.args.changes.now c.loop-p-test.false))
+    c.loop-p.invariant.1

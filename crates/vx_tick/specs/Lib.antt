@@ -1,0 +1,6 @@
+pub mod Fates
+pub mod Laws
+pub mod Leaving
+pub mod Pairing
+pub mod Pieces
+pub mod Ticks

@@ -1,0 +1,4 @@
+pub mod Limits
+pub mod Nexts
+pub mod Sectors
+pub mod Writing

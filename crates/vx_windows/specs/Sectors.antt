@@ -1,0 +1,53 @@
+-- The sectors of a world, from one window to the next.
+use Rattle.std.specs.Prelude.{List, [], ◌∷◌, Vec, map}
+use Rattle.std.specs.declared.alloc.Global.{Global}
+use Rattle.vx_cells.specs.SectorCells.{SectorCells}
+use Rattle.vx_region.specs.Regions.{Regions}
+use Rattle.vx_policy.specs.declared.version.Version.{Version}
+use Rattle.vx_sector.specs.SectorData.{SectorData, EntryData, FreshData, entry_of}
+use Rattle.vx_sector.specs.Windows.{first_window, renewed}
+use Rattle.vx_sector.specs.declared.entry.Entry.{Entry}
+
+-- the cells of a sector at play
+abbrev pub cells_of : SectorData → SectorCells
+cells_of s = s.cells
+
+-- the cells of a sector as its window began
+abbrev pub base_of : SectorData → SectorCells
+base_of s = s.base
+
+-- what a window over these cells begins with, judged by this version
+abbrev pub window_over : Version → SectorCells → FreshData
+window_over version cells = record { cells = cells; version = version }
+
+-- a sector with these cells in its first window, judged by this version
+abbrev pub opened_by : Version → SectorCells → SectorData
+opened_by version cells = first_window (window_over version cells)
+
+-- the policy of the opening as a version
+abbrev pub first_version : Regions → Version
+first_version rs = record { tick = 1; edits = 0; policy = rs }
+
+-- a sector with these cells in its first window, judged by the policy of the opening
+abbrev pub opened_with : Regions → SectorCells → SectorData
+opened_with rs = opened_by (first_version rs)
+
+-- a sector as it begins its next window over these cells, judged by this version
+abbrev pub renewed_over : Version → SectorData → SectorCells → SectorData
+renewed_over version s cells = renewed s (window_over version cells)
+
+-- the sectors as each begins its next window, over its own cells where there are no others
+abbrev pub all_renewed : Version → List SectorData → List SectorCells → List SectorData
+all_renewed version [] cells = []
+all_renewed version (s ∷ sectors) [] =
+    renewed_over version s s.cells ∷ all_renewed version sectors []
+all_renewed version (s ∷ sectors) (c ∷ cells) =
+    renewed_over version s c ∷ all_renewed version sectors cells
+
+-- the record of a sector's window
+abbrev pub entries_of : SectorData → List EntryData
+entries_of s = s.entries
+
+-- what the entries of such a record say, as it is handed out
+abbrev pub entries_in : Vec Entry Global → List EntryData
+entries_in window = map entry_of window.items

@@ -1,0 +1,11 @@
+//! The sectors of a world from one window to the next: as it opens, as each goes on with its next
+//! window over what a tick has left, and what was written between two ticks.
+#![tactic(auto)]
+
+mod limits;
+mod windows;
+mod writes;
+
+pub use limits::{MAX_PLAYERS, MAX_TICKS};
+pub use windows::{all_awake, all_next, cells_of, open_sectors, renew_sectors};
+pub use writes::written;

@@ -1,2 +1,3 @@
 pub mod FileApplied
 pub mod FileLists
+pub mod InTurn

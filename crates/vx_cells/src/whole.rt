@@ -37,9 +37,10 @@ impl Drop for Whole {
 }
 
 impl Whole {
-    ghost use Rattle.std.specs.Prelude.{◌≢◌};
+    ghost use Rattle.std.specs.Prelude.{◌≢◌, IsOk};
     ghost use Rattle.vx_cells.specs.MapLaws.{IsFilled};
     ghost use Rattle.vx_cells.specs.Maps.{AreSectors};
+    ghost use Rattle.vx_cells.specs.SectorCells.{is_chest};
     ghost use Rattle.vx_cells.specs.Wholes.{with_cells_on};
 
     /// A world of this size with nothing but air.
@@ -74,12 +75,13 @@ impl Whole {
         })
     }
 
-    /// Puts a cell down at a position, in place of what was there before; a chest begins empty.
-    /// `Ok(false)` outside the world.
+    /// Puts a cell down at a position, in place of what was there before; a chest begins empty, and
+    /// it alone takes memory. `Ok(false)` outside the world.
     pub fn set(&mut self, p: Pos, cell: Cell) -> Result<bool, AllocError>
         ensures set { result ≡ Ok true → with_cell_on self.old p cell ≡ Some self.new }
         ensures outside { result ≡ Ok false → with_cell_on self.old p cell ≡ None }
         ensures kept { result ≢ Ok true → self.new ≡ self.old }
+        ensures always { is_chest cell ≡ false → IsOk result }
     {
         set(self.bounds, &mut self.sectors, p, cell)
     }
@@ -106,6 +108,13 @@ impl Whole {
         for cells in &self.sectors {
             cells.soundness();
         }
+    }
+
+    /// The bounds of the world.
+    pub fn bounds(&self) -> Bounds
+        ensures { result ≡ self.now.sizes }
+    {
+        self.bounds
     }
 
     /// The sectors in order of their numbers.

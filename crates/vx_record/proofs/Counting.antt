@@ -104,10 +104,10 @@ total_more : (counts : List ℕ) (ticks : List TickData) (tick : TickData)
 total_more counts ticks tick many total =
     omega (arith, total_next counts tick.windows many, total, calls_more ticks tick [])
 
--- where no tick has a window yet, nothing is counted
+-- counts of nothing sum up to nothing
 pub zeros_total : (n : ℕ) → sum (replicate n 0) ≡ 0
 zeros_total zero = refl
-zeros_total (suc n) = sum_by-cons (λ x. x) 0 (replicate n 0) ∙ zeros_total n
+zeros_total (suc n) = omega (arith, sum_by-cons (λ x. x) 0 (replicate n 0), zeros_total n)
 
 -- the calls of open windows stand beside those of the ticks
 pub calls_apart : (ticks : List TickData) (windows : List (List EntryData))

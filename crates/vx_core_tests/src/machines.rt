@@ -161,9 +161,10 @@ fn the_lower_of_two_pistons_wins(rt: HostRuntime) -> Result<(), Fail> {
 }
 
 fn beats(rt: &impl Abort, alloc: Global, lower: Move, higher: Move) -> Result<(), AllocError> {
+    let first = lower.at;
     let moves = [lower, higher];
     let claims = claims(alloc, &moves)?;
-    same(rt, &claims.wins(&moves[0]), &None);
-    same(rt, &claims.wins(&moves[1]), &Some(moves[0].at));
+    let won = [claims.wins(&moves[0]), claims.wins(&moves[1])];
+    same(rt, &won, &[None, Some(first)]);
     Ok(())
 }

@@ -1,10 +1,11 @@
-ghost use Rattle.std.specs.Prelude.{◌≡◌, ◌++◌, ◌∷◌, [], map, length, IfOk, IfErr, Ok};
+ghost use Rattle.std.specs.Prelude.{◌≡◌, ◌++◌, ◌∷◌, ◌<◌, ◌^◌, [], None, map, length, IfOk, IfErr, Ok};
 ghost use Rattle.std.proofs.Props.{props};
 ghost use Rattle.left_right.specs.Handles.{published, pending};
 ghost use Rattle.vx_board.specs.Accepted.{IsAnswer, IsRefused};
 ghost use Rattle.vx_board.specs.Spares.{AreSpares};
 ghost use Rattle.vx_policy.specs.Asked.{asked};
 ghost use Rattle.vx_policy.specs.Edits.{after, AreAccepted};
+ghost use Rattle.vx_policy.specs.Refusals.{refusal};
 
 use crate::acceptance::settle;
 use crate::board::Board;
@@ -14,7 +15,6 @@ use crate::listed::Listed;
 use crate::posted::Posted;
 use crate::queue::{Next, make_next};
 use crate::refused::Refused;
-use crate::spare::Spare;
 use crate::spares::Spares;
 use left_right::{Absorb, WriteHandle};
 use std::alloc::{AllocError, Global};
@@ -108,31 +108,10 @@ impl<J: Board, R: Wait + Drop> Locked<J, R> {
             policy,
             shown,
         } = next;
-        // Never so, as nobody else adds to the history.
-        let Some(front) = self.front.and(&self.head, &ready.edit) else {
-            stop(rt);
-            unreachable!()
-        };
-        // The log of the writer has room for two, and no more than one is ever left in it.
-        if self
-            .writer
-            .append(Posted::new(shown, front.again()))
-            .is_err()
-        {
-            stop(rt);
-        }
-        // Only the count of a policy's owners could run out.
-        if self.writer.publish().is_err() {
-            stop(rt);
-        }
+        let front = grown(rt, &self.front, &self.head, &ready.edit);
+        show(rt, &mut self.writer, Posted::new(shown, front.again()));
         let before = mem::replace(&mut self.policy, policy);
-        self.spares.before = mem::replace(
-            &mut self.spares.last,
-            Some(Spare {
-                policy: before,
-                count: self.accepted.len(),
-            }),
-        );
+        self.spares.add(before, self.accepted.len());
         let edited = settle(&mut self.accepted, ready);
         self.front = front.again();
         Ok(Listed { edited, front })
@@ -153,6 +132,40 @@ impl<J: Board, R: Wait + Drop> Locked<J, R> {
             edits: self.front.len(),
             policy: self.policy.try_clone()?,
         })
+    }
+}
+
+// The front with an edit more, which nothing stands against. It is added to the history.
+fn grown<J: Board>(rt: &impl Wait, front: &Front<J>, head: &Head<J>, edit: &Edit) -> Front<J>
+    requires free { refusal (after J.first front.now) (asked edit.now) ≡ None }
+    requires room { length front.now < 2 ^ 63 }
+    ensures { result ≡ front.now ++ asked edit.now ∷ [] }
+{
+    // Never none, as nobody else adds to the history.
+    let Some(grown) = front.and(head, edit) else {
+        stop(rt);
+        unreachable!()
+    };
+    grown
+}
+
+// Shows readers what is posted, in the place of what was.
+fn show<J: Board, R: Wait + Drop>(
+    rt: &impl Wait,
+    writer: &mut WriteHandle<Posted<J>, Posted<J>, R>,
+    posted: Posted<J>,
+)
+    requires { pending writer.old ≡ [] }
+    ensures shown { published writer.new ≡ posted }
+    ensures none_left { pending writer.new ≡ [] }
+{
+    // The log of the writer has room for two, and no more than one is ever left in it.
+    if writer.append(posted).is_err() {
+        stop(rt);
+    }
+    // Only the count of a policy's owners could run out.
+    if writer.publish().is_err() {
+        stop(rt);
     }
 }
 

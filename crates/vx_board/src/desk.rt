@@ -30,8 +30,8 @@ where
     alloc: Global,
     factory: ReadHandleFactory<Posted<J>>,
     start: Front<J>,
-    /// The first view, until it is handed out.
-    pub first: Option<View<J>>,
+    // The first view, until it is handed out.
+    pub(crate) first: Option<View<J>>,
     locked: Mutex<Locked<J, R>>,
     ghost no_edit: { start ≡ [] },
 }

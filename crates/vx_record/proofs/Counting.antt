@@ -88,8 +88,13 @@ total_next [] [] many = refl
 total_next [] (window ∷ windows) many = absurd (omega (arith, many))
 total_next (n ∷ counts) [] many = absurd (omega (arith, many))
 total_next (n ∷ counts) (window ∷ windows) many =
-    omega (arith, sum_by-cons (λ x. x) (n + length window) (next_counts counts windows), sum_by-cons (λ x. x) n counts,
-    sum_by-cons length window windows, total_next counts windows (omega (arith, many)))
+    omega (
+      arith,
+      sum_by-cons (λ x. x) (n + length window) (next_counts counts windows),
+      sum_by-cons (λ x. x) n counts,
+      sum_by-cons length window windows,
+      total_next counts windows (omega (arith, many)),
+    )
 
 -- and so many are on record
 pub calls_more : (ticks : List TickData) (tick : TickData) (windows : List (List EntryData))
@@ -119,8 +124,13 @@ counts_apart : (sectors : List SectorData)
     → sum_by count_of sectors ≡ sum (map closed_of sectors) + sum_by length (map entries_of sectors)
 counts_apart [] = refl
 counts_apart (s ∷ sectors) =
-    omega (arith, sum_by-cons count_of s sectors, sum_by-cons (λ x. x) s.closed (map closed_of sectors),
-    sum_by-cons length s.entries (map entries_of sectors), counts_apart sectors)
+    omega (
+      arith,
+      sum_by-cons count_of s sectors,
+      sum_by-cons (λ x. x) s.closed (map closed_of sectors),
+      sum_by-cons length s.entries (map entries_of sectors),
+      counts_apart sectors,
+    )
 
 -- where the counts are those of the ticks, and the sectors' own, the sectors count all on record
 pub all_counted : (ticks : List TickData) (counts : List ℕ) (sectors : List SectorData)

@@ -56,7 +56,7 @@ module _ (c : ChronicleData) (before : List TickData) (tick : TickData) (is : Is
   at : IsFilled m × IsTickOn names m (1 + length before) tick
   at =
       reaches names c.opening.terrain 1 before tick is.later is.filled
-      (subst (AreTicks names c.opening.terrain 1) is.all is.run)
+      (subst (AreTicks names c.opening.terrain 1) is.all is.run.ticks)
 
   abbrev acted : MapData
   acted = map_acted m tick

@@ -1,6 +1,6 @@
 ghost use Rattle.std.specs.Bool.{Decides};
 ghost use Rattle.std.specs.List.{All};
-ghost use Rattle.std.specs.Prelude.{◌≡◌, ◌<◌, ◌≤◌, ◌+◌, ◌↔◌, true, [], length, map, replicate, Some, Err, IfOk, IfErr, IfSome, MatchOption, OnOk};
+ghost use Rattle.std.specs.Prelude.{◌≡◌, ℕ, ◌<◌, ◌≤◌, ◌+◌, ◌↔◌, true, [], length, map, replicate, Some, Err, IfOk, IfErr, IfSome, MatchOption, OnOk};
 ghost use Rattle.vx_windows.specs.Sectors.{cells_of, all_renewed, opened_by, opened_with, first_version};
 ghost use Rattle.vx_windows.specs.Limits.{most_ticks};
 ghost use Rattle.vx_wake.specs.Waking.{RestsBut};
@@ -11,7 +11,7 @@ ghost use Rattle.vx_keeper.specs.Keepers.{IsKeeper, IsByEdits, IsWorked, keeper_
 ghost use Rattle.vx_keeper.specs.Marks.{IsPartOf, AreParts};
 ghost use Rattle.vx_keeper.specs.Readiness.{CanClose, IsReady};
 ghost use Rattle.vx_keeper.specs.Torn.{IsNoWork};
-ghost use Rattle.vx_keeper.specs.declared.tick_error.TickError.TheVariants.{HistoryFull};
+ghost use Rattle.vx_keeper.specs.declared.tick_error.TickError.TheVariants.{HistoryFull, Torn};
 
 use crate::known::Known;
 use crate::marked::Marked;
@@ -153,6 +153,13 @@ impl<A: Places> Keeper<A> {
             && follows(sector, self.archive.count(at), self.archive.opening())
     }
 
+    /// Whether there are as many ticks as there may be.
+    pub fn is_full(&self) -> bool
+        ensures { Decides result (most_ticks ≤ length self.now.chronicle.ticks) }
+    {
+        MAX_TICKS <= self.archive.ticks().len() as u64
+    }
+
     /// What the next tick does, whose windows these sectors have, all of the world in order of their
     /// numbers. Where one is not what the keeper has of it the first of these is told; but first of
     /// all, that there is no number left. The sectors are worked by 1 to 8 threads.
@@ -171,12 +178,13 @@ impl<A: Places> Keeper<A> {
         ensures full { (result ≡ Err HistoryFull)
             ↔ (most_ticks ≤ length self.now.chronicle.ticks) }
         ensures refused { IfErr result (IsNoWork (known self.now) (map Some sectors.now)) }
+        ensures torn { (k : ℕ) → result ≡ Err (Torn k) → k < A.all }
         ensures known { OnOk result (AreKnown (known self.now) (map Some sectors.now)) }
         ensures worked { IfOk result (λ work. IsWorked self.now.world.version.policy
             (map_now self.now sectors.now) work.plan.puts.items work.plan.fates.items
             work.waking) }
     {
-        if MAX_TICKS <= self.archive.ticks().len() as u64 {
+        if self.is_full() {
             return Err(TickError::HistoryFull);
         }
         if let Some(at) = self.first_torn(sectors, are_parts) {
@@ -278,6 +286,27 @@ impl<A: Places> Keeper<A> {
         &self.archive
     }
 
+    /// The map as the open windows began. Nothing is copied.
+    pub fn base(&self) -> Frozen<'_>
+        ensures { result ≡ self.now.world.map }
+    {
+        self.known.frozen()
+    }
+
+    /// The version that judges the open windows.
+    pub fn version(&self) -> &Version
+        ensures { result.now ≡ self.now.world.version }
+    {
+        self.known.version()
+    }
+
+    /// How many entries are closed in each sector, in order of their numbers.
+    pub fn closed(&self) -> &[u64]
+        ensures { result.now ≡ self.now.counts }
+    {
+        self.archive.counts()
+    }
+
     /// The number of the version that the next tick fixes.
     pub fn next_number(&self) -> u64
         ensures { result ≡ length self.now.chronicle.ticks + 2 }
@@ -285,18 +314,19 @@ impl<A: Places> Keeper<A> {
         self.archive.ticks().len() as u64 + 2
     }
 
-    /// The chronicle. It takes no memory.
-    pub fn into_chronicle(self) -> Chronicle
-        ensures { chronicle_in result ≡ self.chronicle }
+    /// The chronicle, and the version that judges the open windows. It takes no memory.
+    pub fn into_parts(self) -> (Chronicle, Version)
+        ensures chronicle { chronicle_in result.0 ≡ self.chronicle }
+        ensures version { result.1 ≡ self.world.version }
     {
         let Keeper {
             archive,
-            known: _known,
+            known,
             waking: _waking,
             stamper: _stamper,
             mark: _mark,
         } = self;
-        archive.into_chronicle()
+        (archive.into_chronicle(), known.into_version())
     }
 
     // Whether the window of the sector began with what the keeper has of the sector of that number.

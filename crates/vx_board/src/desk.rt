@@ -1,41 +1,89 @@
-use crate::desk_error::DeskError;
-use crate::desk_state::DeskState;
-use crate::edited::Edited;
-use crate::naming::Naming;
+ghost use Rattle.std.specs.Prelude.{◌≡◌, ◌++◌, ◌∷◌, List, [], None, Some, Ok, length, is_some, IsSome, IfOk, IfErr};
+ghost use Rattle.vx_board.specs.Accepted.{IsAnswer, IsRefused};
+ghost use Rattle.vx_board.specs.declared.view_error.ViewError.TheVariants.{NoView};
+ghost use Rattle.vx_policy.specs.Asked.{Asked, asked};
+ghost use Rattle.vx_policy.specs.Edits.{after, AreAccepted};
+
+use crate::board::Board;
+use crate::front::Front;
+use crate::listed::Listed;
+use crate::locked::Locked;
+use crate::opened::Opened;
+use crate::posted::Posted;
+use crate::refused::Refused;
+use crate::view::View;
+use crate::view_error::ViewError;
+use left_right::{Absorb, ReadHandleFactory, WriteHandle};
 use std::alloc::{AllocError, Global};
 use std::sync::{Mutex, Wait};
 use vx_policy::{Edit, Policy, Version};
 
-/// A desk that threads share: its state under a lock. Each call takes the lock once.
+/// A desk has at most so many views at once.
+const MAX_VIEWS: usize = 64;
+
+/// A desk that threads share: what edits change lies under a lock, and views of it take none.
 #[derive(Drop)]
-pub struct Desk<J: Naming> {
-    state: Mutex<DeskState<J>>,
+pub struct Desk<J: Board, R: Wait + Drop>
+where
+    Posted<J>: Absorb<Posted<J>>,
+{
+    alloc: Global,
+    factory: ReadHandleFactory<Posted<J>>,
+    start: Front<J>,
+    // The first view, until it is handed out.
+    pub(crate) first: Option<View<J>>,
+    locked: Mutex<Locked<J, R>>,
+    ghost no_edit: { start ≡ [] },
 }
 
-impl<J: Naming> Desk<J> {
-    ghost use Rattle.std.specs.Prelude.{◌≡◌, List, length, IfOk};
-    ghost use Rattle.vx_board.specs.Accepted.{IsAnswer};
-    ghost use Rattle.vx_policy.specs.Asked.{Asked, asked};
-    ghost use Rattle.vx_policy.specs.Edits.{after, AreAccepted};
-
-    /// A desk on its first policy, with no edit accepted.
-    pub fn new(alloc: Global, policy: Policy) -> Desk<J>
-        requires { policy ≡ J.first }
+impl<J: Board, R: Wait + Drop> Desk<J, R> {
+    /// A desk on its first policy, with no edit accepted, and with its first view.
+    pub fn new(
+        rt: R,
+        alloc: Global,
+        policy: Policy,
+        opened: Opened,
+    ) -> Result<Desk<J, R>, AllocError>
+        requires first { policy ≡ J.first }
+        requires edits { opened ≡ J.edits }
+        ensures { IfOk result (λ desk. desk.first ≡ Some []) }
     {
-        Desk {
-            state: Mutex::new(DeskState::new(alloc, policy)),
+        let (head, start) = opened.named::<J>();
+        let one = Posted::new(policy.try_clone()?, start.again());
+        let two = Posted::new(policy.try_clone()?, start.again());
+        let again = Posted::new(policy.try_clone()?, start.again());
+        let mut writer: WriteHandle<Posted<J>, Posted<J>, R> = WriteHandle::new(
+            alloc, rt, one, two, MAX_VIEWS,
+        )?;
+        // From now on its log has room.
+        if writer.append(again).is_err() {
+            return Err(AllocError);
         }
+        writer.publish()?;
+        let factory = writer.factory()?;
+        let first = View::new(alloc, factory.handle()?, start.again());
+        let locked = Locked::new(alloc, head, start.again(), policy, writer);
+        Ok(Desk {
+            alloc,
+            factory,
+            start,
+            first: Some(first),
+            locked: Mutex::new(locked),
+        })
     }
 
-    /// Accepts an edit or refuses it, as [`DeskState::apply`] does, by what stands when the lock is
-    /// taken.
-    pub fn edit(&self, rt: &impl Wait, alloc: Global, edit: Edit) -> Result<Edited, DeskError>
-        ensures { (before : List Asked) × AreAccepted J.first before
-            × IsAnswer (after J.first before) (length before) (asked edit) result }
+    /// Accepts an edit or refuses it, as `DeskState::apply` does, by what stands when the lock is
+    /// taken. It tells the list that the edit stands last in, or on which it was refused. Views
+    /// that ask after this returns see an accepted edit.
+    pub fn edit(&self, rt: &impl Wait, alloc: Global, edit: Edit) -> Result<Listed<J>, Refused<J>>
+        ensures ok { IfOk result (λ listed. (before : List Asked) × AreAccepted J.first before
+            × (listed.front ≡ before ++ asked edit ∷ [])
+            × IsAnswer (after J.first before) (length before) (asked edit) (Ok listed.edited)) }
+        ensures refused { IfErr result (λ refused. AreAccepted J.first refused.front
+            × IsRefused (after J.first refused.front) (length refused.front) (asked edit)
+            refused.error) }
     {
-        let mut state = self.state.lock(rt);
-        state.soundness();
-        state.apply(alloc, edit)
+        self.locked.lock(rt).edit(rt, alloc, edit)
     }
 
     /// The version of that number: the policy after the edits that stand accepted when the lock is
@@ -48,8 +96,33 @@ impl<J: Naming> Desk<J> {
               policy = after J.first accepted;
             })) }
     {
-        let state = self.state.lock(rt);
-        state.soundness();
-        state.fix(tick)
+        self.locked.lock(rt).fix(tick)
+    }
+
+    /// A view of the desk, which has seen no edit yet. It takes no lock.
+    pub fn view(&self) -> Result<View<J>, ViewError>
+        ensures ok { IfOk result (λ view. view ≡ []) }
+        ensures err { IfErr result (λ error. error ≡ NoView) }
+    {
+        let Ok(reader) = self.factory.handle() else {
+            return Err(ViewError::NoView);
+        };
+        Ok(View::new(self.alloc, reader, self.start.again()))
+    }
+
+    /// Whether its first view was not handed out yet.
+    pub fn has_first(&self) -> bool
+        ensures { result ≡ is_some self.now.first }
+    {
+        self.first.is_some()
+    }
+
+    /// Hands out the first view.
+    pub fn first_view(&mut self) -> View<J>
+        requires { IsSome self.old.first }
+        ensures view { self.old.first ≡ Some result }
+        ensures taken { self.new.first ≡ None }
+    {
+        self.first.take().unwrap()
     }
 }

@@ -9,6 +9,7 @@ use Rattle.std.proofs.Math.Seq.{take-length}
 use Rattle.vx_cells.specs.Maps.{MapData}
 use Rattle.vx_cells.specs.SectorCells.{SectorCells}
 use Rattle.vx_cells.specs.Wholes.{IsMap}
+use Rattle.vx_region.specs.Regions.{Regions}
 use Rattle.vx_policy.specs.Asked.{Asked}
 use Rattle.vx_policy.specs.Edits.{after, AreAccepted}
 use Rattle.vx_policy.specs.Refusals.{refusal}
@@ -28,9 +29,9 @@ use Rattle.vx_play.proofs.Playing.{command_keeps_all, command_leaves, judged_as_
 use Rattle.vx_windows.proofs.Sparing.{bases_begun}
 use Rattle.vx_windows.proofs.Renewals.{renewed_version, all_bring, bases_renewed}
 use Rattle.vx_play.proofs.Whole.{as_many_cells, worlds_begin_whole, commands_keep_worlds, ticks_keep_worlds}
-use Rattle.vx_record.specs.Chronicles.{TickData, IsSeatOf, AreSeated, map_acted, map_after, all_after, IsTickOn, AreWindows, AreTicks, AreGrown, version_by}
+use Rattle.vx_record.specs.Chronicles.{TickData, IsSeatOf, AreSeated, map_acted, map_after, all_after, IsTickOn, AreWindows, AreTicks, BeginsBy, AreGrown, version_by}
 use Rattle.vx_core.specs.Events.{Happening, Acts, Edits, Takes, Works, Fixes, Puts}
-use Rattle.vx_core.specs.Laws.{ChangesNothing, IsAlwaysARun, VersionsGrow, WindowsAreOpen}
+use Rattle.vx_core.specs.Laws.{first_of, ChangesNothing, IsAlwaysARun, VersionsGrow, WindowsAreOpen}
 use Rattle.vx_core.specs.Machines.{MachineData, is_accepted, is_enabled, acted, next_tick, done, after_event, after_events, begun, run}
 use Rattle.vx_record.specs.Openings.{OpeningData}
 use Rattle.vx_record.proofs.Growing.{map_after_one_more, ticks_one_more, edits_one_more, same_version, grown_one_more}
@@ -44,6 +45,7 @@ base_map play = record { sizes = play.sizes; sectors = map base_of play.sectors 
 pub record Holds (o : OpeningData) (play : PlayData) (ticks : List TickData) : Type 0 where
   pub world : IsWorld play
   pub first : play.first ≡ o.policy
+  pub started : first_of ticks play.version ≡ first_version o.policy
   pub names : play.names ≡ o.names
   pub base : base_map play ≡ map_after o.terrain ticks
   pub sectors : All IsSector play.sectors
@@ -56,12 +58,24 @@ pub record Holds (o : OpeningData) (play : PlayData) (ticks : List TickData) : T
   pub grown : AreGrown o.policy play.accepted 0 ticks play.version.edits
   pub run : AreTicks o.names o.terrain 1 ticks
 
+-- a tick more is judged by the version that stood, and so the first of all stays
+as_first : (ticks : List TickData) (tick : TickData) (v : Version)
+    → first_of (ticks ++ tick ∷ []) v ≡ first_of ticks tick.version
+as_first [] tick v = refl
+as_first (t ∷ ticks) tick v = refl
+
+begins_by : (policy : Regions) (ticks : List TickData) (v : Version) → first_of ticks v ≡ first_version policy
+    → BeginsBy policy ticks
+begins_by policy [] v first = tt
+begins_by policy (t ∷ ticks) v first = first
+
 -- as a world opens
 module _ (o : OpeningData) (whole : IsMap o.terrain) where
   begins : Holds o (begun o).play []
   begins = record {
     world = worlds_begin_whole o.policy o.terrain o.names whole;
     first = refl;
+    started = refl;
     names = refl;
     base = ap (λ cs. record { sizes = o.terrain.sizes; sectors = cs }) (bases_begun (first_version o.policy) o.terrain.sectors);
     sectors = All-map IsSector (opened_with o.policy) o.terrain.sectors (λ k d within. first_is_sector o.policy _);
@@ -126,6 +140,7 @@ module _ (o : OpeningData) (play : PlayData) (ticks : List TickData) (h : Holds 
   after_command seat cmd sits = record {
     world = commands_keep_worlds play seat cmd h.world;
     first = h.first;
+    started = h.started;
     names = h.names;
     base =
         ap (λ cs. record { sizes = play.sizes; sectors = cs }) (command_leaves base_of (λ s entry. refl) play seat cmd)
@@ -147,6 +162,7 @@ module _ (o : OpeningData) (play : PlayData) (ticks : List TickData) (h : Holds 
   after_edit e free = record {
     world = h.world;
     first = h.first;
+    started = h.started;
     names = h.names;
     base = h.base;
     sectors = h.sectors;
@@ -189,6 +205,7 @@ module _ (o : OpeningData) (play : PlayData) (ticks : List TickData) (h : Holds 
       record {
         world = ticks_keep_worlds play h.world;
         first = h.first;
+        started = as_first ticks (next_tick play) v ∙ h.started;
         names = h.names;
         base =
             (λ i. record { sizes = sizes i; sectors = bases_renewed v play.sectors next (as_many_cells play h.world) i })
@@ -247,12 +264,14 @@ unfolding after_event
 changes_nothing m event none = rw none refl
 
 pub is_always_a_run : IsAlwaysARun
-is_always_a_run o events whole = (holds o events whole).run
+is_always_a_run o events whole =
+    let h = holds o events whole in
+    record { ticks = h.run; first = begins_by o.policy _ _ h.started }
 
 pub versions_grow : VersionsGrow
 versions_grow o events whole =
     let h = holds o events whole in
-    record { accepted = h.accepted; ticks = h.grown; next = h.version; within = h.within }
+    record { first = h.started; accepted = h.accepted; ticks = h.grown; next = h.version; within = h.within }
 
 pub windows_are_open : WindowsAreOpen
 windows_are_open o events whole =

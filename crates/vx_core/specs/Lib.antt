@@ -1,4 +1,3 @@
 pub mod Events
 pub mod Laws
 pub mod Machines
-pub mod Owners

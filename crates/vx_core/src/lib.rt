@@ -11,7 +11,7 @@ mod stage;
 
 pub use core_state::Core;
 pub use event::Event;
-pub use laws::{changes_have_leave, every_order_is_a_run};
+pub use laws::every_order_is_a_run;
 pub use running::run_core;
 pub use stage::Stage;
-pub use vx_record::{Chronicle, Opening, OpeningError, Tick};
+pub use vx_record::{Chronicle, Opening, OpeningError, Tick, changes_have_leave};

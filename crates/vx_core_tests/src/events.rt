@@ -14,7 +14,8 @@ use vx_step::Phase;
 
 const DENIED: Result<Reply, Refusal> = Err(Refusal::Denied(Rule::Member { at: RegionNo(1) }));
 
-// An edit counts from the next tick on, and in a sector that is away nobody acts.
+// An edit counts from the next tick on, one that is refused does not count, and in a sector that is
+// away nobody acts. A command that is refused for what stands there is on record.
 #[test]
 fn a_tick_between_two_windows_goes_on_record(rt: HostRuntime) -> Result<(), Fail> {
     let opening = opening(rt.alloc(), 1)?;
@@ -25,9 +26,12 @@ fn a_tick_between_two_windows_goes_on_record(rt: HostRuntime) -> Result<(), Fail
 
 // What is left of two windows and the tick between them, with this edit in the first.
 fn worked(alloc: Global, opening: &Opening, edit: Edit) -> Result<Core, AllocError> {
+    let gone = Edit::Remove(String::from_str(alloc, "nowhere")?);
     let events = [
         Event::Edit(edit),
+        Event::Edit(gone),
         place(5, 1),
+        Event::Act(0, break_of_air()),
         Event::Take(0),
         place(6, 1),
         Event::Take(1),
@@ -59,7 +63,7 @@ fn told(rt: &impl Abort, core: &Core) -> Result<(), Fail> {
     assert!(rt; core.chronicle.ticks.len() == 1 && core.sectors.len() == 2);
     let bob = bob()?;
     first_tick(rt, &core.chronicle.ticks[0], bob);
-    has_entry(rt, core.sectors[0].entries(), entry(bob, 2, DENIED));
+    has_entries(rt, core.sectors[0].entries(), &[entry(bob, stone(5, 2), DENIED)]);
     Ok(())
 }
 
@@ -70,14 +74,15 @@ fn first_tick(rt: &impl Abort, tick: &Tick, bob: Seat) {
         &(1, 1, 0),
     );
     assert!(rt; tick.windows.len() == 2 && tick.fates.is_empty());
-    let done = entry(bob, 1, Ok(Reply::Done(Rule::Default)));
-    has_entry(rt, tick.windows[0].as_slice(), done);
+    let done = entry(bob, stone(5, 1), Ok(Reply::Done(Rule::Default)));
+    let nothing = entry(bob, break_of_air(), Err(Refusal::Nothing));
+    has_entries(rt, tick.windows[0].as_slice(), &[done, nothing]);
     assert!(rt; tick.windows[1].is_empty());
 }
 
-// The window has this entry alone.
-fn has_entry(rt: &impl Abort, window: &[Entry], due: Entry) {
-    same(rt, &window, &[due].as_slice());
+// The window has these entries and no others.
+fn has_entries(rt: &impl Abort, window: &[Entry], due: &[Entry]) {
+    same(rt, &window, &due);
 }
 
 // Parts are set inside the world, for 16 players at most.
@@ -91,13 +96,18 @@ fn an_opening_has_its_parts_and_players(rt: HostRuntime) -> Result<(), Fail> {
 
 fn has_parts(rt: &impl Abort, opening: &mut Opening) {
     let inside = Pos::new(31, 63, 15);
-    is_told(rt, opening, inside, Ok(()));
-    is_told(rt, opening, Pos::new(32, 1, 5), Err(Refusal::OutOfWorld));
-    same(rt, &opening.terrain().frozen().cell(inside), &Cell::Stone);
+    let chest = Pos::new(5, 1, 5);
+    is_told(rt, opening, inside, Part::Stone, Ok(()));
+    is_told(rt, opening, chest, Part::Chest, Ok(()));
+    let outside = Pos::new(32, 1, 5);
+    is_told(rt, opening, outside, Part::Stone, Err(Refusal::OutOfWorld));
+    let map = opening.terrain().frozen();
+    same(rt, &map.cell(inside), &Cell::Stone);
+    same(rt, &map.cell(chest), &Cell::Chest);
 }
 
-fn is_told(rt: &impl Abort, opening: &mut Opening, p: Pos, due: Result<(), Refusal>) {
-    same(rt, &opening.set(p, Part::Stone), &due);
+fn is_told(rt: &impl Abort, opening: &mut Opening, p: Pos, part: Part, due: Result<(), Refusal>) {
+    same(rt, &opening.set(p, part), &due);
 }
 
 fn are_too_many(rt: &impl Abort, alloc: Global, players: usize) -> Result<(), Fail> {
@@ -138,6 +148,10 @@ fn stone(x: i32, y: i32) -> Cmd {
     Cmd::Place(Pos::new(x, y, 5), Part::Stone)
 }
 
+fn break_of_air() -> Cmd {
+    Cmd::Break(Pos::new(7, 1, 5))
+}
+
 fn place(x: i32, y: i32) -> Event {
     Event::Act(0, stone(x, y))
 }
@@ -149,7 +163,6 @@ fn bob() -> Result<Seat, Fail> {
     })
 }
 
-fn entry(seat: Seat, y: i32, answer: Result<Reply, Refusal>) -> Entry {
-    let cmd = stone(5, y);
+fn entry(seat: Seat, cmd: Cmd, answer: Result<Reply, Refusal>) -> Entry {
     Entry { seat, cmd, answer }
 }

@@ -8,6 +8,8 @@ mod calls;
 #[cfg(test)]
 mod events;
 #[cfg(test)]
+mod machines;
+#[cfg(test)]
 mod maps;
 #[cfg(test)]
 mod same;

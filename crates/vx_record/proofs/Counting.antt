@@ -1,16 +1,17 @@
 -- Counts of the entries of each sector, with one tick more.
-use Rattle.std.proofs.Common.{◌≡◌, ℕ, zero, suc, ◌+◌, ◌≤◌, ◌<◌, List, [], ◌∷◌, ◌++◌, length, map, get_or, refl, sym, ap, ◌∙◌, arith, length-append, add_comm, subst, take}
+use Rattle.std.proofs.Common.{◌≡◌, ℕ, zero, suc, ◌+◌, ◌≤◌, ◌<◌, List, [], ◌∷◌, ◌++◌, length, map, get_or, replicate, refl, sym, ap, ◌∙◌, arith, length-append, add_comm, subst, take}
 use Rattle.std.proofs.Math.ListN.{set}
-use Rattle.std.specs.List.{All}
+use Rattle.std.specs.List.{All, sum, sum_by}
+use Rattle.std.proofs.lemmas.List.Sums.{sum_by-cons}
 use Rattle.std.proofs.lemmas.Option.{unwrap_or-slice_get}
 use Rattle.std.proofs.lemmas.List.Elements.{All-same, All-map}
 use Rattle.vx_sector.specs.SectorData.{SectorData, EntryData}
 use Rattle.vx_sector.specs.Windows.{count_of, most_entries, renewed}
 use Rattle.vx_windows.specs.Sectors.{entries_of}
 use Rattle.vx_record.specs.Chronicles.{TickData, ChronicleData, IsTickOn, map_after}
-use Rattle.vx_record.proofs.Growing.{ticks_one_more}
+use Rattle.vx_record.proofs.Growing.{ticks_one_more, begins_one_more}
 use Rattle.vx_record.specs.Said.{window_at, closed_at}
-use Rattle.vx_record.specs.Archives.{closed_of, IsCounted, IsArchive, IsNextTick, next_counts, CountsGoOn, CountsAgreeAgain}
+use Rattle.vx_record.specs.Archives.{closed_of, IsCounted, IsArchive, IsNextTick, calls_on, next_counts, CountsGoOn, CountsAgreeAgain}
 use Rattle.vx_record.proofs.Fronts.{closed_more}
 
 pub next_none : (counts : List ℕ) → next_counts counts [] ≡ counts
@@ -80,18 +81,80 @@ counted_more counts ticks tick counted k within =
     ∙ sym (length-append (closed_at k ticks) (window_at k tick))
     ∙ ap length (sym (closed_more k ticks tick))
 
+-- as many entries more are counted as the windows have
+total_next : (counts : List ℕ) (windows : List (List EntryData)) → length windows ≡ length counts
+    → sum (next_counts counts windows) ≡ sum counts + sum_by length windows
+total_next [] [] many = refl
+total_next [] (window ∷ windows) many = absurd (omega (arith, many))
+total_next (n ∷ counts) [] many = absurd (omega (arith, many))
+total_next (n ∷ counts) (window ∷ windows) many =
+    omega (
+      arith,
+      sum_by-cons (λ x. x) (n + length window) (next_counts counts windows),
+      sum_by-cons (λ x. x) n counts,
+      sum_by-cons length window windows,
+      total_next counts windows (omega (arith, many)),
+    )
+
+-- and so many are on record
+pub calls_more : (ticks : List TickData) (tick : TickData) (windows : List (List EntryData))
+    → calls_on (ticks ++ tick ∷ []) windows
+    ≡ calls_on ticks [] + sum_by length tick.windows + sum_by length windows
+calls_more [] tick windows = omega arith
+calls_more (t ∷ ticks) tick windows = omega (arith, calls_more ticks tick windows)
+
+total_more : (counts : List ℕ) (ticks : List TickData) (tick : TickData)
+    → length tick.windows ≡ length counts → sum counts ≡ calls_on ticks []
+    → sum (next_counts counts tick.windows) ≡ calls_on (ticks ++ tick ∷ []) []
+total_more counts ticks tick many total =
+    omega (arith, total_next counts tick.windows many, total, calls_more ticks tick [])
+
+-- counts of nothing sum up to nothing
+pub zeros_total : (n : ℕ) → sum (replicate n 0) ≡ 0
+zeros_total zero = refl
+zeros_total (suc n) = omega (arith, sum_by-cons (λ x. x) 0 (replicate n 0), zeros_total n)
+
+-- the calls of open windows stand beside those of the ticks
+pub calls_apart : (ticks : List TickData) (windows : List (List EntryData))
+    → calls_on ticks windows ≡ calls_on ticks [] + sum_by length windows
+calls_apart [] windows = omega arith
+calls_apart (t ∷ ticks) windows = omega (arith, calls_apart ticks windows)
+
+counts_apart : (sectors : List SectorData)
+    → sum_by count_of sectors ≡ sum (map closed_of sectors) + sum_by length (map entries_of sectors)
+counts_apart [] = refl
+counts_apart (s ∷ sectors) =
+    omega (
+      arith,
+      sum_by-cons count_of s sectors,
+      sum_by-cons (λ x. x) s.closed (map closed_of sectors),
+      sum_by-cons length s.entries (map entries_of sectors),
+      counts_apart sectors,
+    )
+
+-- where the counts are those of the ticks, and the sectors' own, the sectors count all on record
+pub all_counted : (ticks : List TickData) (counts : List ℕ) (sectors : List SectorData)
+    → sum counts ≡ calls_on ticks [] → counts ≡ map closed_of sectors
+    → sum_by count_of sectors ≡ calls_on ticks (map entries_of sectors)
+all_counted ticks counts sectors total same =
+    omega (arith, counts_apart sectors, ap sum same, total, calls_apart ticks (map entries_of sectors))
+
 -- an archive with its next tick is one
 pub archive_grown : (c : ChronicleData) (counts : List ℕ) (tick : TickData) → IsArchive c counts
-    → IsNextTick c tick
+    → IsNextTick c tick → length tick.windows ≡ length counts
     → IsArchive (record c { ticks = c.ticks ++ tick ∷ [] }) (next_counts counts tick.windows)
-archive_grown c counts tick archive next =
+archive_grown c counts tick archive next many =
     let names = c.opening.names in
     let here : IsTickOn names (map_after c.opening.terrain c.ticks) (1 + length c.ticks) tick =
-    subst (λ n. IsTickOn names (map_after c.opening.terrain c.ticks) n tick) (add_comm (length c.ticks) 1) next in
+    subst (λ n. IsTickOn names (map_after c.opening.terrain c.ticks) n tick) (add_comm (length c.ticks) 1) next.on in
     record {
-      run = ticks_one_more names c.opening.terrain 1 c.ticks tick archive.run here;
+      run = record {
+        ticks = ticks_one_more names c.opening.terrain 1 c.ticks tick archive.run.ticks here;
+        first = begins_one_more c.opening.policy c.ticks tick archive.run.first next.first;
+      };
       each = length_next counts tick.windows ∙ archive.each;
       counted = counted_more counts c.ticks tick archive.counted;
+      total = total_more counts c.ticks tick many archive.total;
     }
 
 pub counts_go_on : CountsGoOn

@@ -5,7 +5,8 @@ use Rattle.vx_cells.specs.Maps.{MapData}
 use Rattle.vx_region.specs.Regions.{Regions}
 use Rattle.vx_policy.specs.Asked.{Asked}
 use Rattle.vx_policy.specs.Edits.{after}
-use Rattle.vx_record.specs.Chronicles.{TickData, map_ticked, map_after, IsTickOn, AreTicks, AreGrown, version_by}
+use Rattle.vx_windows.specs.Sectors.{first_version}
+use Rattle.vx_record.specs.Chronicles.{TickData, map_ticked, map_after, IsTickOn, AreTicks, BeginsBy, AreGrown, version_by}
 
 pub map_after_one_more : (m : MapData) (ticks : List TickData) (tick : TickData)
     → map_after m (ticks ++ tick ∷ []) ≡ map_ticked (map_after m ticks) tick
@@ -21,6 +22,12 @@ ticks_one_more names m n (t ∷ ticks) tick are is =
     let next : IsTickOn names (map_after (map_ticked m t) ticks) (n + 1 + length ticks) tick =
     subst (λ k. IsTickOn names (map_after (map_ticked m t) ticks) k tick) (omega arith) is in
     (are.0, ticks_one_more names (map_ticked m t) (n + 1) ticks tick are.1 next)
+
+-- a tick more does not change by which policy they begin
+pub begins_one_more : (policy : Regions) (ticks : List TickData) (tick : TickData) → BeginsBy policy ticks
+    → (ticks ≡ [] → tick.version ≡ first_version policy) → BeginsBy policy (ticks ++ tick ∷ [])
+begins_one_more policy [] tick begins first = first refl
+begins_one_more policy (t ∷ ticks) tick begins first = begins
 
 module _ (first : Regions) where
   -- no fewer edits count later

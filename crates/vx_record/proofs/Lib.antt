@@ -1,7 +1,11 @@
 pub mod Adding
+pub mod Commanded
 pub mod Counting
 pub mod Decided
 pub mod Fronts
 pub mod Growing
+pub mod Mapped
+pub mod Owning
 pub mod Recording
 pub mod Showing
+pub mod Stepped

@@ -13,6 +13,7 @@ use Rattle.vx_sector.specs.SectorData.{SeatData, EntryData}
 use Rattle.vx_sector.specs.Windows.{cells_after, IsWindow}
 use Rattle.vx_tick.specs.declared.fate.Fate.{Fate}
 use Rattle.vx_tick.specs.Ticks.{fates_on, stepped}
+use Rattle.vx_windows.specs.Sectors.{first_version}
 use Rattle.vx_record.specs.Openings.{OpeningData}
 
 -- a tick: its number, the version of the policy that judged it and the commands before it, the
@@ -89,6 +90,13 @@ AreGrown first edits low (tick ∷ ticks) high =
     × (tick.version ≡ version_by first edits tick.version.edits tick.number)
     × AreGrown first edits tick.version.edits ticks high
 
--- what the one-threaded rules give: ticks from the first on, in an unbroken row from the opening
-abbrev pub IsRun : ChronicleData → Type 0
-IsRun c = AreTicks c.opening.names c.opening.terrain 1 c.ticks
+-- the first of these ticks, where there is one, is judged by this policy, and no edit counts in it
+abbrev pub BeginsBy : Regions → List TickData → Type 0
+BeginsBy policy [] = ⊤
+BeginsBy policy (tick ∷ ticks) = tick.version ≡ first_version policy
+
+-- what the one-threaded rules give: ticks from the first on, in an unbroken row from the opening,
+-- whose policy judges the first of them
+pub record IsRun (c : ChronicleData) : Type 0 where
+  pub ticks : AreTicks c.opening.names c.opening.terrain 1 c.ticks
+  pub first : BeginsBy c.opening.policy c.ticks

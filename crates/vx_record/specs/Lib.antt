@@ -2,6 +2,7 @@ pub mod Archives
 pub mod Calls
 pub mod Chronicles
 pub mod Openings
+pub mod Owners
 pub mod Records
 pub mod Said
 pub mod Settling

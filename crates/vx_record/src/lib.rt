@@ -25,7 +25,7 @@ pub use caller::Caller;
 pub use chronicle::Chronicle;
 pub use fault::Fault;
 pub use knowing::{began_with, follows};
-pub use laws::counts_go_on;
+pub use laws::{changes_have_leave, counts_go_on};
 pub use lists::{Lists, is_recorded};
 pub use opening::Opening;
 pub use opening_error::OpeningError;

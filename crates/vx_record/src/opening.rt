@@ -22,7 +22,7 @@ pub struct Opening {
 impl Model for Opening {
     ghost use Rattle.std.specs.Prelude.{◌≤◌, vec_len};
     ghost use Rattle.vx_record.specs.Openings.{OpeningData};
-    ghost use Rattle.vx_windows.specs.declared.limits.TheConstants.{MAX_PLAYERS};
+    ghost use Rattle.vx_windows.specs.Limits.{most_players};
     ghost use Rattle.vx_region.specs.Texts.{texts};
 
     ghost Value = { OpeningData };
@@ -30,7 +30,7 @@ impl Model for Opening {
     ghost view = { λ a.
         record { terrain = a.terrain; names = texts a.names.items; policy = a.policy } };
 
-    ghost invariant = { λ a. vec_len a.names ≤ MAX_PLAYERS };
+    ghost invariant = { λ a. vec_len a.names ≤ most_players };
 }
 
 // Written out, so that what is above this crate need not prove how its parts are let go.
@@ -49,7 +49,7 @@ impl Opening {
     ghost use Rattle.vx_cells.specs.MapLaws.{IsFilled};
     ghost use Rattle.vx_record.specs.Openings.{bare_opening, with_part, IsUnset};
     ghost use Rattle.vx_record.specs.declared.opening_error.OpeningError.TheVariants.{TooManyPlayers};
-    ghost use Rattle.vx_windows.specs.declared.limits.TheConstants.{MAX_PLAYERS};
+    ghost use Rattle.vx_windows.specs.Limits.{most_players};
 
     /// A world of this size with nothing but air, for the players of these names, of which there
     /// may be 16. Two seats may have one name.
@@ -61,7 +61,7 @@ impl Opening {
     ) -> Result<Opening, OpeningError>
         ensures ok { IfOk result (λ opening.
             opening ≡ bare_opening bounds (texts names.items) policy) }
-        ensures many { (result ≡ Err TooManyPlayers) ↔ (MAX_PLAYERS < vec_len names) }
+        ensures many { (result ≡ Err TooManyPlayers) ↔ (most_players < vec_len names) }
     {
         if MAX_PLAYERS < names.len() {
             return Err(OpeningError::TooManyPlayers);
@@ -103,7 +103,7 @@ impl Opening {
         ensures terrain { result.0 ≡ self.terrain }
         ensures names { texts result.1.items ≡ self.names }
         ensures policy { result.2 ≡ self.policy }
-        ensures few { vec_len result.1 ≤ MAX_PLAYERS }
+        ensures few { vec_len result.1 ≤ most_players }
     {
         let Opening {
             terrain,

@@ -1,5 +1,8 @@
 //! The desk, alone and shared by threads.
+ghost use Rattle.std.specs.Prelude.{◌≡◌};
+
 use crate::same::same;
+use crate::{beside, views};
 use std::alloc::{AllocError, Global};
 use std::marker::Brand;
 use std::process::Abort;
@@ -7,7 +10,7 @@ use std::sync::Wait;
 use std::test::Fail;
 use std::thread;
 use std::thread::Threads;
-use vx_board::{Desk, DeskError, DeskState, Edited};
+use vx_board::{Board, Desk, DeskError, DeskState, Edited, Opened, View};
 use vx_geom::{Pos, ShapeSpec};
 use vx_policy::{Edit, EditRefusal, Policy, Version};
 use vx_region::RegionNo;
@@ -69,26 +72,106 @@ fn has_two(rt: &impl Abort, desk: &DeskState<Brand>) {
     same(rt, &(counts, desk.policy().regions().count()), &((2, 2), 2));
 }
 
+/// What is done with a desk that is shared.
+#[derive(Clone, Copy)]
+enum Day {
+    /// Edits are accepted, and versions fixed.
+    Shown,
+    /// Two threads edit.
+    ByTwo,
+    /// Views explain what they have seen.
+    Viewed,
+    /// There are as many views as may be.
+    Filled,
+    /// A view explains while an edit is under way, among many regions.
+    Beside,
+    /// What memory was refused to is called again.
+    MadeAgain,
+}
+
+// Opens a desk and spends the day at it.
+fn spend<R: Threads + Wait + Abort + Sync>(rt: &R, alloc: Global, day: Day) -> Result<(), Fail> {
+    let policy = match day {
+        Day::Beside => beside::plots(alloc)?,
+        _ => Policy::new(alloc)?,
+    };
+    spend_in::<Brand, R>(rt, alloc, policy, Opened::new(), day)
+}
+
+fn spend_in<J: Board + Send + Sync, R: Threads + Wait + Abort + Sync>(
+    rt: &R,
+    alloc: Global,
+    policy: Policy,
+    opened: Opened,
+    day: Day,
+) -> Result<(), Fail>
+    requires first { policy ≡ J.first }
+    requires edits { opened ≡ J.edits }
+{
+    let mut desk: Desk<J, &R> = Desk::new(rt, alloc, policy, opened)?;
+    assert!(rt; desk.has_first());
+    let mut view = desk.first_view();
+    assert!(rt; !desk.has_first());
+    spent(rt, alloc, &desk, &mut view, day)
+}
+
+fn spent<J: Board + Send + Sync, R: Threads + Wait + Abort + Sync>(
+    rt: &R,
+    alloc: Global,
+    desk: &Desk<J, &R>,
+    view: &mut View<J>,
+    day: Day,
+) -> Result<(), Fail> {
+    match day {
+        Day::Shown => show(rt, alloc, desk),
+        Day::ByTwo => edited_by_two(rt, alloc, desk),
+        Day::Viewed => views::viewed(rt, alloc, desk, view),
+        Day::Filled => views::filled(rt, alloc, desk),
+        Day::Beside => beside::explained_beside(rt, alloc, desk, view),
+        Day::MadeAgain => views::made_again(rt, alloc, desk, view),
+    }
+}
+
 #[test]
 fn a_shared_desk_shows_its_edits(rt: HostRuntime) -> Result<(), Fail> {
-    let desk = shared(rt.alloc())?;
-    show(&rt, rt.alloc(), &desk)
+    spend(&rt, rt.alloc(), Day::Shown)
 }
 
-fn shared(alloc: Global) -> Result<Desk<Brand>, AllocError> {
-    Ok(Desk::new(alloc, Policy::new(alloc)?))
+#[test]
+fn threads_edit_one_desk(rt: HostRuntime) -> Result<(), Fail> {
+    spend(&rt, rt.alloc(), Day::ByTwo)
 }
 
-fn show(rt: &(impl Abort + Wait), alloc: Global, desk: &Desk<Brand>) -> Result<(), Fail> {
+#[test]
+fn views_explain_what_they_have_seen(rt: HostRuntime) -> Result<(), Fail> {
+    spend(&rt, rt.alloc(), Day::Viewed)
+}
+
+#[test]
+fn a_desk_has_so_many_views(rt: HostRuntime) -> Result<(), Fail> {
+    spend(&rt, rt.alloc(), Day::Filled)
+}
+
+#[test]
+fn a_view_explains_while_an_edit_is_under_way(rt: HostRuntime) -> Result<(), Fail> {
+    spend(&rt, rt.alloc(), Day::Beside)
+}
+
+#[test]
+fn what_was_refused_is_done_again(rt: HostRuntime) -> Result<(), Fail> {
+    spend(&rt, rt.alloc(), Day::MadeAgain)
+}
+
+fn show<J: Board, R: Abort + Wait>(rt: &R, alloc: Global, desk: &Desk<J, &R>) -> Result<(), Fail> {
     fixes(rt, desk, 1, (1, 0, 0))?;
     tells(rt, alloc, desk, "plot", 1)?;
     tells(rt, alloc, desk, "farm", 2)?;
     fixes(rt, desk, 2, (2, 2, 2))
 }
 
-fn fixes(
-    rt: &(impl Abort + Wait),
-    desk: &Desk<Brand>,
+fn fixes<J: Board, R: Abort + Wait>(
+    rt: &R,
+    desk: &Desk<J, &R>,
     tick: u64,
     due: (u64, u64, u32),
 ) -> Result<(), Fail> {
@@ -97,43 +180,43 @@ fn fixes(
     Ok(())
 }
 
-fn tells(
-    rt: &(impl Abort + Wait),
+fn tells<J: Board, R: Abort + Wait>(
+    rt: &R,
     alloc: Global,
-    desk: &Desk<Brand>,
+    desk: &Desk<J, &R>,
     id: &str,
     number: u32,
 ) -> Result<(), Fail> {
     let edit = define(alloc, id)?;
-    same(rt, &desk.edit(rt, alloc, edit), &told(number));
+    let answer = match desk.edit(rt, alloc, edit) {
+        Ok(listed) => Ok(listed.edited),
+        Err(refused) => Err(refused.error),
+    };
+    same(rt, &answer, &told(number));
     Ok(())
 }
 
-#[test]
-fn threads_edit_one_desk(rt: HostRuntime) -> Result<(), Fail> {
-    let desk = shared(rt.alloc())?;
-    tells_each_once(&rt, &desk);
-    fixes(&rt, &desk, 2, (2, 8, 8))
-}
-
-fn tells_each_once<R>(rt: &R, desk: &Desk<Brand>)
-where
-    R: Abort + Threads + Wait + Sync + Alloc<A = Global>,
-{
-    let mut counts = edit_by_two(rt, desk);
+fn edited_by_two<J: Board + Send + Sync, R: Abort + Threads + Wait + Sync>(
+    rt: &R,
+    alloc: Global,
+    desk: &Desk<J, &R>,
+) -> Result<(), Fail> {
+    let mut counts = edit_by_two(rt, alloc, desk);
     counts.sort_unstable();
     same(rt, &counts, &[1, 2, 3, 4, 5, 6, 7, 8]);
+    fixes(rt, desk, 2, (2, 8, 8))
 }
 
 // The counts that two threads are told, each of four definitions.
-fn edit_by_two<R: Threads + Wait + Sync + Alloc<A = Global>>(
+fn edit_by_two<J: Board + Send + Sync, R: Threads + Wait + Sync>(
     rt: &R,
-    desk: &Desk<Brand>,
+    alloc: Global,
+    desk: &Desk<J, &R>,
 ) -> [u64; 8] {
     let (these, those) = thread::join(
         rt,
-        || define_four(rt, desk, ["a", "b", "c", "d"]),
-        || define_four(rt, desk, ["e", "f", "g", "h"]),
+        || define_four(rt, alloc, desk, ["a", "b", "c", "d"]),
+        || define_four(rt, alloc, desk, ["e", "f", "g", "h"]),
     );
     let [a, b, c, d] = these;
     let [e, f, g, h] = those;
@@ -141,21 +224,23 @@ fn edit_by_two<R: Threads + Wait + Sync + Alloc<A = Global>>(
 }
 
 // The count that each of these definitions is told, 0 where it is not accepted.
-fn define_four(
-    rt: &(impl Wait + Alloc<A = Global>),
-    desk: &Desk<Brand>,
+fn define_four<J: Board, R: Wait>(
+    rt: &R,
+    alloc: Global,
+    desk: &Desk<J, &R>,
     ids: [&'static str; 4],
 ) -> [u64; 4] {
-    ids.map(|id| match define(rt.alloc(), id) {
-        Ok(edit) => match desk.edit(rt, rt.alloc(), edit) {
-            Ok(edited) => edited.count,
+    ids.map(|id| match define(alloc, id) {
+        Ok(edit) => match desk.edit(rt, alloc, edit) {
+            Ok(listed) => listed.edited.count,
             Err(_) => 0,
         },
         Err(_) => 0,
     })
 }
 
-fn define(alloc: Global, id: &str) -> Result<Edit, AllocError> {
+/// A column as a region of that id.
+pub fn define(alloc: Global, id: &str) -> Result<Edit, AllocError> {
     let column = ShapeSpec::Cuboid(Pos::new(1, 0, 1), Pos::new(1, 63, 1));
     Ok(Edit::Define(String::from_str(alloc, id)?, column))
 }
@@ -169,8 +254,8 @@ fn told(number: u32) -> Result<Edited, DeskError> {
     })
 }
 
-// The number of a version, how many edits it has, and how many regions there are.
-fn seen(version: &Version) -> (u64, u64, u32) {
+/// The number of a version, how many edits it has, and how many regions there are.
+pub fn seen(version: &Version) -> (u64, u64, u32) {
     (
         version.tick,
         version.edits,

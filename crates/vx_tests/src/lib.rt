@@ -3,6 +3,8 @@
 #![tactic(auto)]
 
 #[cfg(test)]
+mod beside;
+#[cfg(test)]
 mod cells;
 #[cfg(test)]
 mod deciders;
@@ -18,5 +20,7 @@ mod same;
 mod sectors;
 #[cfg(test)]
 mod shapes;
+#[cfg(test)]
+mod views;
 #[cfg(test)]
 mod words;

@@ -20,6 +20,8 @@ invariant_of-self c =
     let new = c.add_counts.new.counts in
     let next : IsNextTick was tick =
     subst (λ (a : ArchiveData). IsNextTick a.chronicle tick) (sym c.self.view_is) c.requires.next in
+    let many : length tick.windows ≡ length before.items =
+    c.requires.each ∙ ap (λ (a : ArchiveData). length a.counts) (sym c.self.view_is) in
     let counts : next_counts before.items tick.windows
     ≡ take before.len (new ++ drop (length new) before.items) =
     ap (λ ns. next_counts ns tick.windows) (sym c.deref_mut.ensures.value)
@@ -31,4 +33,4 @@ invariant_of-self c =
     ∙ ap (map tick_in) (sym c.push_reserved.ensures.items) in
     subst (λ ns. IsArchive (chronicle_in record { opening = c.self.inside.chronicle.opening; ticks = c.push_reserved.new.self }) ns) counts
     (subst (λ (ts : List TickData). IsArchive (record was { ticks = ts }) (next_counts before.items tick.windows)) ticks
-    (archive_grown was before.items tick c.self.invariant next))
+    (archive_grown was before.items tick c.self.invariant next many))

@@ -1,5 +1,5 @@
-use Rattle.vx_core.proofs.Owning as owning
-use Rattle.vx_core.proofs.laws.changes_have_leave.Goals as goal
+use Rattle.vx_record.proofs.Owning as owning
+use Rattle.vx_record.proofs.laws.changes_have_leave.Goals as goal
 
 pub returns-clause-changes : goal.returns-clause-changes
 returns-clause-changes c = owning.changes_have_leave

@@ -6,21 +6,21 @@ use Rattle.vx_geom.specs.declared.pos.Pos.{Pos}
 use Rattle.vx_geom.specs.Sizes.{Sizes, AreSizes, sector_of}
 use Rattle.vx_cells.specs.MapLaws.{block_in, block_on, IsFilled}
 use Rattle.vx_cells.specs.Maps.{MapData, AreFrom, sector_at}
-use Rattle.vx_cells.specs.SectorCells.{SectorCells, IsWhole}
+use Rattle.vx_cells.specs.SectorCells.{SectorCells, Block, IsWhole}
 use Rattle.vx_cells.proofs.MapLemmas.{placed_at, is_held}
 use Rattle.vx_region.specs.Regions.{Regions}
-use Rattle.vx_power.specs.Walks.{IsAmong}
 use Rattle.vx_sector.specs.SectorData.{EntryData}
 use Rattle.vx_sector.specs.Windows.{IsWindow, cells_after}
 use Rattle.vx_record.specs.Chronicles.{TickData, AreSeated, all_after, map_acted, AreWindows}
 use Rattle.vx_windows.proofs.Sparing.{of_found}
-use Rattle.vx_core.proofs.Commanded.{IsByEntry, window_keeps, window_leaves}
+use Rattle.vx_record.specs.Owners.{as_built, standing, IsByCommand}
+use Rattle.vx_record.proofs.Commanded.{window_keeps, window_leaves}
 
 module _ (names : List (List ℕ)) (policy : Regions) where
   -- the window of the sector of a number
   pub record HasWindow (cs : List SectorCells) (windows : List (List EntryData)) (k : ℕ) (c : SectorCells) : Type 0 where
     pub window : List EntryData
-    pub among : IsAmong windows window
+    pub recorded : slice_get windows k ≡ Some window
     pub after : slice_get (all_after cs windows) k ≡ Some (cells_after c window)
     pub is : IsWindow policy c window
     pub seated : AreSeated names window
@@ -28,7 +28,7 @@ module _ (names : List (List ℕ)) (policy : Regions) where
   further : (d c : SectorCells) (cs : List SectorCells) (w : List EntryData) (windows : List (List EntryData)) (k : ℕ)
       → HasWindow cs windows k c → HasWindow (d ∷ cs) (w ∷ windows) (suc k) c
   further d c cs w windows k has =
-      record { window = has.window; among = inr has.among; after = has.after; is = has.is; seated = has.seated }
+      record { window = has.window; recorded = has.recorded; after = has.after; is = has.is; seated = has.seated }
 
   pub window_at : (cs : List SectorCells) (windows : List (List EntryData)) (k : ℕ) (c : SectorCells)
       → AreWindows names policy cs windows → slice_get cs k ≡ Some c → HasWindow cs windows k c
@@ -38,7 +38,7 @@ module _ (names : List (List ℕ)) (policy : Regions) where
       let same : d ≡ c = cc in
       record {
         window = w;
-        among = inl refl;
+        recorded = refl;
         after = ap (λ e. Some (cells_after e w)) same;
         is = subst (λ e. IsWindow policy e w) same are.0;
         seated = are.1;
@@ -79,49 +79,63 @@ module _ (names : List (List ℕ)) (policy : Regions) where
         all_placed sizes (suc k) cs windows are.2 (All-tail IsWhole c cs whole) each.2,
       )
 
-  module _ (m : MapData) (tick : TickData) (filled : IsFilled m) (are : AreWindows names policy m.sectors tick.windows) where
-    -- each sector stays in its place, with something at each place of it
-    pub acted_filled : IsFilled (map_acted m tick)
-    acted_filled = record {
-      map = record {
-        valid = filled.map.valid;
-        all = as_many m.sectors tick.windows are ∙ filled.map.all;
-        each = all_placed m.sizes 0 m.sectors tick.windows are filled.each filled.map.each;
-      };
-      each = all_whole m.sectors tick.windows are filled.each;
-    }
+  -- each sector stays in its place, with something at each place of it
+  pub acted_filled : (m : MapData) (tick : TickData) → IsFilled m → AreWindows names policy m.sectors tick.windows
+      → IsFilled (map_acted m tick)
+  acted_filled m tick filled are = record {
+    map = record {
+      valid = filled.map.valid;
+      all = as_many m.sectors tick.windows are ∙ filled.map.all;
+      each = all_placed m.sizes 0 m.sectors tick.windows are filled.each filled.map.each;
+    };
+    each = all_whole m.sectors tick.windows are filled.each;
+  }
 
-    -- what stands at a position stays, or an entry of a window changed it by leave
-    pub record IsByWindow (p : Pos) : Type 0 where
-      pub window : List EntryData
-      pub there : IsAmong tick.windows window
-      pub by : IsByEntry names policy window p
+module _ (names : List (List ℕ)) (m : MapData) (tick : TickData) (filled : IsFilled m)
+    (are : AreWindows names tick.version.policy m.sectors tick.windows) where
+  -- what stands at a position stays, or a command changed it by leave
+  pub acted_leaves : (p : Pos) → (standing (map_acted m tick) p ≡ standing m p) ⊎ IsByCommand names m tick p
+  unfolding block_on
+  acted_leaves p = by (sector_of m.sizes p) refl
+    where
+      stands_in : List SectorCells → Option ℕ → Block
+      stands_in cs k = as_built (block_in (sector_at cs k) p)
 
-    pub acted_leaves : (p : Pos) → (block_on (map_acted m tick) p ≡ block_on m p) ⊎ IsByWindow p
-    unfolding block_on
-    acted_leaves p = by (sector_of m.sizes p) refl
-      where
-        Stays : Option ℕ → Type 0
-        Stays k =
-            (block_in (sector_at (all_after m.sectors tick.windows) k) p ≡ block_in (sector_at m.sectors k) p) ⊎ IsByWindow p
+      after : List SectorCells
+      after = all_after m.sectors tick.windows
 
-        found : (k : ℕ) (c : SectorCells) → sector_of m.sizes p ≡ Some k → slice_get m.sectors k ≡ Some c → Stays (Some k)
-        found k c number there =
-            let has = window_at m.sectors tick.windows k c are there in
-            let placed = placed_at m.sizes 0 k m.sectors c filled.map.each there in
-            let whole = of_found IsWhole m.sectors k c filled.each there in
-            elim (window_leaves names policy c has.window p (subst AreSizes (sym placed.0) filled.map.valid) whole
-            (is_held m p k number c filled.map there) has.is has.seated) [
-              | inl same ↦
-                  inl (ap (λ o. block_in o p) has.after ∙ same ∙ sym (ap (λ o. block_in o p) there))
-              | inr entry ↦ inr (record { window = has.window; there = has.among; by = entry })
-            ]
+      Stays : Option ℕ → Type 0
+      Stays k = (stands_in after k ≡ stands_in m.sectors k) ⊎ IsByCommand names m tick p
 
-        there_or_not : (k : ℕ) (o : Option SectorCells) → sector_of m.sizes p ≡ Some k → slice_get m.sectors k ≡ o → Stays (Some k)
-        there_or_not k None number none =
-            inl (ap (λ o. block_in o p) (none_at m.sectors tick.windows k are none) ∙ sym (ap (λ o. block_in o p) none))
-        there_or_not k (Some c) number there = found k c number there
+      found : (k : ℕ) (c : SectorCells) → sector_of m.sizes p ≡ Some k → slice_get m.sectors k ≡ Some c → Stays (Some k)
+      found k c number there =
+          let has = window_at names tick.version.policy m.sectors tick.windows k c are there in
+          let placed = placed_at m.sizes 0 k m.sectors c filled.map.each there in
+          let whole = of_found IsWhole m.sectors k c filled.each there in
+          elim (window_leaves names tick.version.policy c has.window p (subst AreSizes (sym placed.0) filled.map.valid) whole
+          (is_held m p k number c filled.map there) has.is has.seated) [
+            | inl same ↦
+                inl (ap (λ o. as_built (block_in o p)) has.after ∙ same ∙ sym (ap (λ o. as_built (block_in o p)) there))
+            | inr by ↦ inr (record {
+              cells = c;
+              earlier = by.earlier;
+              entry = by.entry;
+              later = by.later;
+              window = record { number = k; sector = number; begun = there; recorded = has.recorded ∙ ap Some by.all };
+              seat = by.seat;
+              place = by.place;
+              leave = by.leave;
+              changed = by.changed;
+              left = ap (stands_in after) number ∙ ap (λ o. as_built (block_in o p)) has.after ∙ by.left;
+            })
+          ]
 
-        by : (k : Option ℕ) → sector_of m.sizes p ≡ k → Stays k
-        by None number = inl refl
-        by (Some k) number = there_or_not k (slice_get m.sectors k) number refl
+      there_or_not : (k : ℕ) (o : Option SectorCells) → sector_of m.sizes p ≡ Some k → slice_get m.sectors k ≡ o → Stays (Some k)
+      there_or_not k None number none =
+          inl (ap (λ o. as_built (block_in o p)) (none_at names tick.version.policy m.sectors tick.windows k are none)
+          ∙ sym (ap (λ o. as_built (block_in o p)) none))
+      there_or_not k (Some c) number there = found k c number there
+
+      by : (k : Option ℕ) → sector_of m.sizes p ≡ k → Stays k
+      by None number = inl refl
+      by (Some k) number = there_or_not k (slice_get m.sectors k) number refl

@@ -31,7 +31,7 @@ use Rattle.vx_tick.proofs.Making.{moves_are_asked, others_stay}
 use Rattle.vx_tick.proofs.OneTick.{stepped_is_tick}
 use Rattle.vx_tick.proofs.Puts.{puts_filled}
 use Rattle.vx_windows.proofs.Sparing.{of_found}
-use Rattle.vx_core.specs.Owners.{built, standing, IsAskedOn}
+use Rattle.vx_record.specs.Owners.{built, as_built, standing, IsAskedOn}
 
 -- a repeater keeps its facing and its delay
 repeater_built : (b c : Bool) (r : Repeating) (wait : ℕ) (on : Bool)
@@ -86,7 +86,7 @@ no_slots_on m p filled none =
     none_of (block_on m p).slots ((block_of_map m p filled).slots ∙ count)
 
 same_block : (a b : Block) → built a.cell ≡ built b.cell → a.slots ≡ b.slots
-    → record a { cell = built a.cell } ≡ record b { cell = built b.cell }
+    → as_built a ≡ as_built b
 same_block a b cell slots = λ i. record { cell = cell i; slots = slots i }
 
 -- before any move, what stands anywhere stays, whatever signals it gets
@@ -100,7 +100,7 @@ advanced_stands m p filled =
     let is : (block_on (advanced m) p).cell ≡ next_of w level p c =
     cell_of_block (advanced m) p ∙ parts_become_next m p filled in
     elim (stays_or_no_chest w level p c) [
-      | inl same ↦ ap (λ (b : Block). record b { cell = built b.cell }) (unchanged_stay m p filled same)
+      | inl same ↦ ap as_built (unchanged_stay m p filled same)
       | inr none ↦
           same_block (block_on (advanced m) p) (block_on m p)
           (ap built is ∙ stays_built w level p c ∙ sym (ap built was))
@@ -167,7 +167,7 @@ module _ (rs : Regions) (m : MapData) (filled : IsFilled m) (p : Pos) where
       permitted = (cell_by_cell rs made.0).0 made.3;
     })
     | inr none ↦
-        inl (ap (λ (b : Block). record b { cell = built b.cell })
+        inl (ap as_built
         (others_stay rs m (stepped rs m) (fates_on rs m) tick filled p (λ move made. none move made.0 made.1 made.2))
         ∙ advanced_stands m p filled)
   ]

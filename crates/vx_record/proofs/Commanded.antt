@@ -1,18 +1,23 @@
 -- What the commands of a window leave at a position.
-use Rattle.std.proofs.Common.{◌≡◌, ◌≢◌, ◌⊎◌, ℕ, true, false, List, [], ◌∷◌, Option, Some, None, Result, Ok, Err, refl, sym, ap, ◌∙◌, subst, inl, inr}
+use Rattle.std.proofs.Common.{◌≡◌, ◌≢◌, ◌⊎◌, ℕ, true, false, List, [], ◌∷◌, ◌++◌, Option, Some, None, Result, Ok, Err, refl, sym, ap, ◌∙◌, subst, inl, inr}
 use Rattle.std.specs.Option.{option_map_or}
 use Rattle.std.proofs.lemmas.List.Elements.{All-head, All-tail}
-use Rattle.std.specs.Prelude.{nat_eq}
+use Rattle.std.specs.Prelude.{nat_eq, ◌&&◌}
+use Rattle.std.specs.Bool.{Decides}
+use Rattle.std.proofs.lemmas.Bool.{cases_Bool}
+use Rattle.std.proofs.lemmas.Bool.Decides.{Decides-and, Decides-like, not_from_Decides}
 use Rattle.vx_geom.specs.declared.pos.Pos.{Pos}
 use Rattle.vx_geom.specs.Sizes.{AreSizes, sector_of}
-use Rattle.vx_cells.specs.SectorCells.{SectorCells, IsWhole, holds, block_at}
+use Rattle.vx_cells.specs.CellsLaws.{cell_decided}
+use Rattle.vx_cells.specs.SameCells.{same_cell}
+use Rattle.vx_cells.specs.SameSlots.{same_slots, slots_decided}
+use Rattle.vx_cells.specs.SectorCells.{SectorCells, Block, IsWhole, holds, block_at}
 use Rattle.vx_flag.specs.declared.action.Action.{Action}
 use Rattle.vx_flag.specs.declared.action.Action.TheVariants.{Placing, Breaking, Turning, Reaching}
 use Rattle.vx_region.specs.Regions.{Regions}
 use Rattle.vx_decide.specs.declared.rule.Rule.{Rule}
 use Rattle.vx_decide.specs.declared.verdict.Verdict.{Verdict}
 use Rattle.vx_decide.specs.declared.verdict.Verdict.TheVariants.{Permit, Deny}
-use Rattle.vx_power.specs.Walks.{IsAmong}
 use Rattle.vx_sector.specs.Acting.{judged, rule_of, refuse_denied, first_some, ok_unless, rules_answer, cells_by}
 use Rattle.vx_sector.specs.Commands.{place_of, action_of}
 use Rattle.vx_sector.specs.SectorData.{SectorData, SeatData, EntryData}
@@ -28,14 +33,7 @@ use Rattle.vx_sector.proofs.Outside.{answered_by_the_rules}
 use Rattle.vx_tick.proofs.Puts.{cases_place}
 use Rattle.vx_windows.specs.Sectors.{opened_with}
 use Rattle.vx_record.specs.Chronicles.{IsSeatOf, AreSeated}
-
--- a reply that tells what is done: the policy permits it, by that rule
-pub record IsDone (policy : Regions) (seat : SeatData) (cmd : Cmd) (answer : Result Reply Refusal) : Type 0 where
-  pub rule : Rule
-  pub told : answer ≡ Ok (Done rule)
-  pub action : Action
-  pub asked : action_of cmd ≡ Some action
-  pub permitted : judged policy seat action (place_of cmd) ≡ Permit rule
+use Rattle.vx_record.specs.Owners.{as_built, standing_after, HasLeave}
 
 said : {X : Type 0} (o : Option Refusal) (x y : X) → ok_unless o x ≡ Ok y → x ≡ y
 said None x y same = cc
@@ -48,17 +46,21 @@ done_then (Permit by) os reply same = (by, sym (said (first_some os) (Done by) r
 done_then (Deny by) os reply same = cc
 
 module _ (policy : Regions) (c : SectorCells) (seat : SeatData) where
+  -- the command of the seat, with this answer, was done by leave
+  abbrev IsDone : Cmd → Result Reply Refusal → Type 0
+  IsDone cmd answer = HasLeave policy (record { seat = seat; cmd = cmd; answer = answer })
+
   -- what the policy permits for an action at a position, and is done
   done_by : (cmd : Cmd) (action : Action) (os : List (Option Refusal)) (reply : Reply) → action_of cmd ≡ Some action
       → ok_unless (first_some (refuse_denied (judged policy seat action (place_of cmd)) ∷ os)) (Done (rule_of (judged policy seat action (place_of cmd)))) ≡ Ok reply
-      → IsDone policy seat cmd (Ok reply)
+      → IsDone cmd (Ok reply)
   done_by cmd action os reply asked same =
       let done = done_then (judged policy seat action (place_of cmd)) os reply same in
       record { rule = done.0; told = ap Ok done.1; action = action; asked = asked; permitted = done.2 }
 
   -- a command changes nothing, or is done
   by_reply : (cmd : Cmd) (reply : Reply) → rules_answer policy c seat cmd ≡ Ok reply
-      → (cells_by c cmd (Ok reply) ≡ c) ⊎ IsDone policy seat cmd (Ok reply)
+      → (cells_by c cmd (Ok reply) ≡ c) ⊎ IsDone cmd (Ok reply)
   unfolding rules_answer
   by_reply (Look p) reply is = inl refl
   by_reply (Place p part) reply is = inr (done_by (Place p part) Placing _ reply refl is)
@@ -69,7 +71,7 @@ module _ (policy : Regions) (c : SectorCells) (seat : SeatData) where
   by_reply (Take p slot count) reply is = inr (done_by (Take p slot count) Reaching _ reply refl is)
 
   by_answer : (cmd : Cmd) (answer : Result Reply Refusal) → rules_answer policy c seat cmd ≡ answer
-      → (cells_by c cmd answer ≡ c) ⊎ IsDone policy seat cmd answer
+      → (cells_by c cmd answer ≡ c) ⊎ IsDone cmd answer
   by_answer cmd (Err refusal) is = inl refl
   by_answer cmd (Ok reply) is = by_reply cmd reply is
 
@@ -104,25 +106,52 @@ module _ (policy : Regions) (c : SectorCells) (e : EntryData) (held : holds c (p
       (ap (λ a. (sector_after fresh e.seat e.cmd a).cells) by_rules ∙ left)
       (sectors_stay_whole fresh e.seat e.cmd whole)
 
-  here : (next ≡ c) ⊎ IsDone policy e.seat e.cmd e.answer
+  here : (next ≡ c) ⊎ HasLeave policy e
   here = by_answer policy c e.seat e.cmd e.answer (sym is)
 
 same_holds : (c d : SectorCells) (p : Pos) → d.bounds ≡ c.bounds → d.sector ≡ c.sector → holds d p ≡ holds c p
 unfolding holds
 same_holds c d p bounds sector = λ i. option_map_or (nat_eq (sector i)) (sector_of (bounds i) p) false
 
+one_or_not : (a b : Block) → (a ≡ b) ⊎ (a ≢ b)
+one_or_not a b = elim (cases_Bool (same_cell a.cell b.cell && same_slots a.slots b.slots)) [
+  | inl same ↦ inl (one.0 same)
+  | inr other ↦ inr (not_from_Decides _ one other)
+]
+  where
+    one : Decides (same_cell a.cell b.cell && same_slots a.slots b.slots) (a ≡ b)
+    one =
+        Decides-like _
+        (λ h i. record { cell = h.0 i; slots = h.1 i })
+        (λ e. (ap (λ (d : Block). d.cell) e, ap (λ (d : Block). d.slots) e))
+        (Decides-and _ _ (cell_decided a.cell b.cell) (slots_decided a.slots b.slots))
+
 module _ (names : List (List ℕ)) (policy : Regions) where
-  -- an entry of the window did something at the position, by leave
-  pub record IsByEntry (window : List EntryData) (p : Pos) : Type 0 where
+  -- an entry of the window changed what stands at the position, by leave, and those after it left it
+  pub record IsByEntry (c : SectorCells) (window : List EntryData) (p : Pos) : Type 0 where
+    pub earlier : List EntryData
     pub entry : EntryData
-    pub among : IsAmong window entry
+    pub later : List EntryData
+    pub all : window ≡ earlier ++ entry ∷ later
     pub seat : IsSeatOf names entry.seat
     pub place : place_of entry.cmd ≡ p
-    pub done : IsDone policy entry.seat entry.cmd entry.answer
+    pub leave : HasLeave policy entry
+    pub changed : standing_after c (earlier ++ entry ∷ []) p ≢ standing_after c earlier p
+    pub left : standing_after c window p ≡ standing_after c (earlier ++ entry ∷ []) p
 
-  later : (e : EntryData) (window : List EntryData) (p : Pos) → IsByEntry window p → IsByEntry (e ∷ window) p
-  later e window p by =
-      record { entry = by.entry; among = inr by.among; seat = by.seat; place = by.place; done = by.done }
+  one_more : (c : SectorCells) (e : EntryData) (window : List EntryData) (p : Pos)
+      → IsByEntry (cells_by c e.cmd e.answer) window p → IsByEntry c (e ∷ window) p
+  one_more c e window p by = record {
+    earlier = e ∷ by.earlier;
+    entry = by.entry;
+    later = by.later;
+    all = ap (λ es. e ∷ es) by.all;
+    seat = by.seat;
+    place = by.place;
+    leave = by.leave;
+    changed = by.changed;
+    left = by.left;
+  }
 
   -- the sector stays in its place, and whole
   pub window_keeps : (c : SectorCells) (window : List EntryData) → IsWhole c → IsWindow policy c window
@@ -137,7 +166,7 @@ module _ (names : List (List ℕ)) (policy : Regions) where
   -- what stands at a position stays, or an entry changed it by leave
   pub window_leaves : (c : SectorCells) (window : List EntryData) (p : Pos) → AreSizes c.bounds → IsWhole c
       → holds c p ≡ true → IsWindow policy c window → AreSeated names window
-      → (block_at (cells_after c window) p ≡ block_at c p) ⊎ IsByEntry window p
+      → (standing_after c window p ≡ standing_after c [] p) ⊎ IsByEntry c window p
   window_leaves c [] p sizes whole held is seated = inl refl
   window_leaves c (e ∷ window) p sizes whole held is seated =
       let next = cells_by c e.cmd e.answer in
@@ -148,12 +177,25 @@ module _ (names : List (List ℕ)) (policy : Regions) where
       (same_holds c next p first.1 first.2 ∙ held) is.2
       (All-tail (λ (entry : EntryData). IsSeatOf names entry.seat) e window seated) in
       elim rest [
-        | inr by ↦ inr (later e window p by)
-        | inl same ↦ elim (cases_place p (place_of e.cmd)) [
-          | inr differ ↦ inl (same ∙ elsewhere policy c e is.0 is.1 p sizes held differ)
-          | inl place ↦ elim (here policy c e is.0 is.1) [
-            | inl nothing ↦ inl (same ∙ ap (λ d. block_at d p) nothing)
-            | inr done ↦ inr (record { entry = e; among = inl refl; seat = sits; place = sym place; done = done })
+        | inr by ↦ inr (one_more c e window p by)
+        | inl same ↦ elim (one_or_not (standing_after next [] p) (standing_after c [] p)) [
+          | inl stays ↦ inl (same ∙ stays)
+          | inr changed ↦ elim (cases_place p (place_of e.cmd)) [
+            | inr differ ↦ absurd (changed (ap as_built (elsewhere policy c e is.0 is.1 p sizes held differ)))
+            | inl place ↦ elim (here policy c e is.0 is.1) [
+              | inl nothing ↦ absurd (changed (ap (λ d. standing_after d [] p) nothing))
+              | inr leave ↦ inr (record {
+                earlier = [];
+                entry = e;
+                later = window;
+                all = refl;
+                seat = sits;
+                place = sym place;
+                leave = leave;
+                changed = changed;
+                left = same;
+              })
+            ]
           ]
         ]
       ]

@@ -1,12 +1,14 @@
 -- What may change a world, in the words of those who own plots in it.
-use Rattle.std.specs.Prelude.{◌≡◌, ◌⊎◌, ◌↔◌, ℕ, true, false, List, ◌∷◌, ◌++◌, Some, Ok, Err}
+use Rattle.std.specs.Prelude.{◌≡◌, ◌≢◌, ◌⊎◌, ◌↔◌, ℕ, true, false, List, [], ◌∷◌, ◌++◌, slice_get, Some, Ok, Err}
 use Rattle.vx_geom.specs.declared.pos.Pos.{Pos}
+use Rattle.vx_geom.specs.Sizes.{sector_of}
 use Rattle.vx_block.specs.declared.cell.Cell.{Cell}
 use Rattle.vx_block.specs.declared.cell.Cell.TheVariants.{Dust, Torch, Lever, Repeater, Lamp}
 use Rattle.vx_block.specs.declared.lamp.Lamp.TheVariants as lamp
 use Rattle.vx_cells.specs.MapLaws.{block_on, IsFilled}
 use Rattle.vx_cells.specs.Maps.{MapData, cell_on}
-use Rattle.vx_cells.specs.SectorCells.{Block}
+use Rattle.vx_cells.specs.SectorCells.{SectorCells, Block, block_at}
+use Rattle.vx_region.specs.Regions.{Regions}
 use Rattle.vx_flag.specs.declared.action.Action.{Action}
 use Rattle.vx_decide.specs.declared.rule.Rule.{Rule}
 use Rattle.vx_decide.specs.declared.verdict.Verdict.TheVariants.{Permit, Deny}
@@ -18,6 +20,7 @@ use Rattle.vx_cause.specs.Laws.{IsPermit, IsFirstDenied}
 use Rattle.vx_sector.specs.Acting.{judged}
 use Rattle.vx_sector.specs.Commands.{place_of, action_of}
 use Rattle.vx_sector.specs.SectorData.{EntryData}
+use Rattle.vx_sector.specs.Windows.{cells_after}
 use Rattle.vx_sector.specs.declared.refusal.Refusal.TheVariants as refusal
 use Rattle.vx_sector.specs.declared.reply.Reply.TheVariants.{Done}
 use Rattle.vx_tick.specs.declared.fate.Fate.TheVariants.{Moved, Denied}
@@ -32,9 +35,17 @@ built (Repeater r) = Repeater (record r { on = false; wait = 0 })
 built (Lamp state) = Lamp lamp.Off
 built other = other
 
--- what stands at a position, whatever signals it gets, and the slots of a chest
+-- what stands somewhere, whatever signals it gets, and the slots of a chest
+abbrev pub as_built : Block → Block
+as_built block = record block { cell = built block.cell }
+
+-- what stands so at a position of a map
 abbrev pub standing : MapData → Pos → Block
-standing m p = record (block_on m p) { cell = built (block_on m p).cell }
+standing m p = as_built (block_on m p)
+
+-- what stands so at a position of a sector after these entries of its window
+abbrev pub standing_after : SectorCells → List EntryData → Pos → Block
+standing_after cells entries p = as_built (block_at (cells_after cells entries) p)
 
 -- a tick of a run, and those before it
 pub record IsTickOf (c : ChronicleData) (before : List TickData) (tick : TickData) : Type 0 where
@@ -53,18 +64,36 @@ pub record IsRecorded (tick : TickData) (entry : EntryData) : Type 0 where
   pub there : IsAmong tick.windows window
   pub among : IsAmong window entry
 
--- a player did something at p that is on record: the policy of the tick permits the player the
--- action at that place, by the rule that was told
-pub record IsByCommand (names : List (List ℕ)) (tick : TickData) (p : Pos) : Type 0 where
-  pub entry : EntryData
-  pub recorded : IsRecorded tick entry
-  pub seat : IsSeatOf names entry.seat
-  pub place : place_of entry.cmd ≡ p
+-- the sector of p has these cells as the tick begins, and these are the entries of its window
+pub record IsWindowAt (m : MapData) (tick : TickData) (p : Pos) (cells : SectorCells)
+    (window : List EntryData) : Type 0 where
+  pub number : ℕ
+  pub sector : sector_of m.sizes p ≡ Some number
+  pub begun : slice_get m.sectors number ≡ Some cells
+  pub recorded : slice_get tick.windows number ≡ Some window
+
+-- the command of the entry was done by leave: the policy permits its player its own action at its
+-- place, by the rule that was told
+pub record HasLeave (policy : Regions) (entry : EntryData) : Type 0 where
   pub rule : Rule
   pub told : entry.answer ≡ Ok (Done rule)
   pub action : Action
   pub asked : action_of entry.cmd ≡ Some action
-  pub permitted : judged tick.version.policy entry.seat action p ≡ Permit rule
+  pub permitted : judged policy entry.seat action (place_of entry.cmd) ≡ Permit rule
+
+-- a player's command at p, done by leave of the policy of the tick, itself changed what stands
+-- there, and what it left is what stands there after all commands of the tick
+pub record IsByCommand (names : List (List ℕ)) (m : MapData) (tick : TickData) (p : Pos) : Type 0 where
+  pub cells : SectorCells
+  pub earlier : List EntryData
+  pub entry : EntryData
+  pub later : List EntryData
+  pub window : IsWindowAt m tick p cells (earlier ++ entry ∷ later)
+  pub seat : IsSeatOf names entry.seat
+  pub place : place_of entry.cmd ≡ p
+  pub leave : HasLeave tick.version.policy entry
+  pub changed : standing_after cells (earlier ++ entry ∷ []) p ≢ standing_after cells earlier p
+  pub left : standing (map_acted m tick) p ≡ standing_after cells (earlier ++ entry ∷ []) p
 
 -- the move that a piston asks for as the machines begin
 abbrev pub IsAskedOn : MapData → Moving → Type 0
@@ -80,14 +109,14 @@ pub record IsByMove (m : MapData) (tick : TickData) (p : Pos) : Type 0 where
   pub permitted : (q : Pos) → IsAmong move.cells q
       → IsPermit (pushing_verdict tick.version.policy move.at q)
 
--- what stands at a place, and what a chest there holds, changes in a tick only by a player's
--- command that the policy of the tick permits to that player there, or by a machine's move all of
--- whose cells it permits to that machine
+-- the commands of a tick change what stands at a place, and what a chest there holds, only by a
+-- player's command that the policy of the tick permits to that player there; and its machines
+-- change it after them only by a machine's move all of whose cells it permits to that machine
 abbrev pub ChangesHaveLeave : Type 0
 ChangesHaveLeave = (c : ChronicleData) (before : List TickData) (tick : TickData) (p : Pos)
     → IsTickOf c before tick → let m = map_before c before in
-    (standing (map_ticked m tick) p ≡ standing m p)
-    ⊎ (IsByCommand c.opening.names tick p ⊎ IsByMove m tick p)
+    ((standing (map_acted m tick) p ≡ standing m p) ⊎ IsByCommand c.opening.names m tick p)
+    × ((standing (map_ticked m tick) p ≡ standing (map_acted m tick) p) ⊎ IsByMove m tick p)
 
 -- a command on record is denied by a rule exactly where the policy of the tick denies its player
 -- the action at that place, by that rule

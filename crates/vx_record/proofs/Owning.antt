@@ -3,7 +3,7 @@ use Rattle.std.proofs.Common.{◌≡◌, ◌⊎◌, ◌↔◌, ℕ, ◌+◌, Lis
 use Rattle.vx_geom.specs.declared.pos.Pos.{Pos}
 use Rattle.vx_cells.specs.MapLaws.{IsFilled}
 use Rattle.vx_cells.specs.Maps.{MapData}
-use Rattle.vx_cells.specs.SectorCells.{SectorCells, Block}
+use Rattle.vx_cells.specs.SectorCells.{SectorCells}
 use Rattle.vx_region.specs.Regions.{Regions}
 use Rattle.vx_decide.specs.declared.rule.Rule.{Rule}
 use Rattle.vx_power.specs.Walks.{IsAmong}
@@ -11,8 +11,7 @@ use Rattle.vx_piston.specs.Moves.{Moving}
 use Rattle.vx_cause.specs.Judging.{denial}
 use Rattle.vx_cause.specs.Laws.{IsFirstDenied}
 use Rattle.vx_cause.proofs.Plots.{of_first, is_denial}
-use Rattle.vx_decide.specs.declared.verdict.Verdict.TheVariants.{Permit}
-use Rattle.vx_sector.specs.Acting.{judged, rules_answer, cells_by}
+use Rattle.vx_sector.specs.Acting.{rules_answer, cells_by}
 use Rattle.vx_sector.specs.SectorData.{EntryData}
 use Rattle.vx_sector.specs.Windows.{IsWindow}
 use Rattle.vx_sector.proofs.ActingLemmas.{denied_by_the_policy}
@@ -23,9 +22,9 @@ use Rattle.vx_tick.specs.Ticks.{fates_on, stepped, IsTick}
 use Rattle.vx_tick.proofs.Making.{moves_are_asked, asked_are_moves, stays_filled}
 use Rattle.vx_tick.proofs.OneTick.{stepped_is_tick}
 use Rattle.vx_record.specs.Chronicles.{TickData, ChronicleData, AreWindows, map_acted, map_ticked, map_after, IsTickOn, AreTicks}
-use Rattle.vx_core.specs.Owners.{built, standing, IsTickOf, map_before, IsRecorded, IsAskedOn, IsByCommand, IsByMove, ChangesHaveLeave, CommandsDeniedByThePolicy, MovesDeniedByThePolicy}
-use Rattle.vx_core.proofs.Mapped.{acted_filled, acted_leaves}
-use Rattle.vx_core.proofs.Stepped.{stepped_stands}
+use Rattle.vx_record.specs.Owners.{standing, IsTickOf, map_before, IsRecorded, IsAskedOn, IsByCommand, IsByMove, ChangesHaveLeave, CommandsDeniedByThePolicy, MovesDeniedByThePolicy}
+use Rattle.vx_record.proofs.Mapped.{acted_filled, acted_leaves}
+use Rattle.vx_record.proofs.Stepped.{stepped_stands}
 
 -- the map stays filled, and the tick is one on it
 module _ (names : List (List ℕ)) where
@@ -57,7 +56,7 @@ module _ (c : ChronicleData) (before : List TickData) (tick : TickData) (is : Is
   at : IsFilled m × IsTickOn names m (1 + length before) tick
   at =
       reaches names c.opening.terrain 1 before tick is.later is.filled
-      (subst (AreTicks names c.opening.terrain 1) is.all is.run)
+      (subst (AreTicks names c.opening.terrain 1) is.all is.run.ticks)
 
   abbrev acted : MapData
   acted = map_acted m tick
@@ -68,33 +67,21 @@ module _ (c : ChronicleData) (before : List TickData) (tick : TickData) (is : Is
   step : IsTick rs acted (stepped rs acted) (fates_on rs acted)
   step = stepped_is_tick rs acted
 
-  changes : (p : Pos) → (standing (map_ticked m tick) p ≡ standing m p) ⊎ (IsByCommand names tick p ⊎ IsByMove m tick p)
-  changes p = elim (stepped_stands rs acted filled p) [
-    | inr taken ↦ inr (inr (record {
-      move = taken.move;
-      asked = taken.asked;
-      told = subst (λ fates. IsAmong fates (taken.move.at, Moved)) (sym at.1.fates) taken.told;
-      taken = taken.taken;
-      permitted = taken.permitted;
-    }))
-    | inl same ↦ elim (acted_leaves names rs m tick at.0 at.1.windows p) [
-      | inl stays ↦ inl (same ∙ ap (λ (b : Block). record b { cell = built b.cell }) stays)
-      | inr by ↦
-          let entry = by.by.entry in
-          let done = by.by.done in
-          inr (inl (record {
-            entry = entry;
-            recorded = record { window = by.window; there = by.there; among = by.by.among };
-            seat = by.by.seat;
-            place = by.by.place;
-            rule = done.rule;
-            told = done.told;
-            action = done.action;
-            asked = done.asked;
-            permitted = subst (λ q. judged rs entry.seat done.action q ≡ Permit done.rule) by.by.place done.permitted;
-          }))
-    ]
-  ]
+  changes : (p : Pos) → ((standing acted p ≡ standing m p) ⊎ IsByCommand names m tick p)
+      × ((standing (map_ticked m tick) p ≡ standing acted p) ⊎ IsByMove m tick p)
+  changes p = (
+    acted_leaves names m tick at.0 at.1.windows p,
+    elim (stepped_stands rs acted filled p) [
+      | inl same ↦ inl same
+      | inr taken ↦ inr (record {
+        move = taken.move;
+        asked = taken.asked;
+        told = subst (λ fates. IsAmong fates (taken.move.at, Moved)) (sym at.1.fates) taken.told;
+        taken = taken.taken;
+        permitted = taken.permitted;
+      })
+    ],
+  )
 
   -- an entry of a window is answered by the rules, on cells of its sector
   answered_in : (cells : SectorCells) (window : List EntryData) (e : EntryData) → IsWindow rs cells window → IsAmong window e

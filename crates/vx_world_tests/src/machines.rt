@@ -1,0 +1,243 @@
+//! Machines and a chest in a world of three sectors, played with one worker and with more.
+use crate::noting::Noting;
+use std::alloc::Global;
+use std::process::Abort;
+use std::sync::Wait;
+use std::test::Fail;
+use std::thread::Threads;
+use vx_block::{Cell, Part};
+use vx_cells::Stack;
+use vx_decide::Rule;
+use vx_geom::Pos;
+use vx_keeper::{Keeper, Places};
+use vx_record::Opening;
+use vx_region::RegionNo;
+use vx_sector::{Cmd, Refusal, Reply};
+use vx_step::NoGate;
+use vx_tick::Fate;
+use vx_world::{Pass, Seats, World};
+
+/// The regions: a column before the sticky piston, of which nobody is a member, and ann's, with a
+/// chest.
+pub const PLOTS: &str = "version = 1\n[[region]]\nid = 'nobodys'\ncuboid = [7, 0, 10, 7, 63, 10]\n[[region]]\nid = 'anns'\ncuboid = [5, 0, 14, 5, 63, 14]\nowners = ['ann']\n";
+
+// What stands at x 5 in the rows of these z: a lever before dust, a piston before twelve stones, a
+// sticky piston that can draw one, and a chest. Each piston has its lever to the south.
+const DUST: i32 = 2;
+
+const PISTON: i32 = 6;
+
+const STICKY: i32 = 10;
+
+const CHEST: i32 = 14;
+
+/// Puts down what stands in these rows.
+pub fn build(opening: &mut Opening) -> Result<(), Fail> {
+    for (x, z, text) in [
+        (5, DUST, "lever:down"),
+        (5, PISTON, "piston:east"),
+        (5, PISTON + 1, "lever:down"),
+        (5, STICKY, "sticky:east"),
+        (5, STICKY + 1, "lever:down"),
+        (7, STICKY, "stone"),
+        (5, CHEST, "chest"),
+    ] {
+        put(opening, x, z, text)?;
+    }
+    put_row(opening, 21, DUST, "dust")?;
+    put_row(opening, 17, PISTON, "stone")
+}
+
+// From x 6 on.
+fn put_row(opening: &mut Opening, last: i32, z: i32, text: &str) -> Result<(), Fail> {
+    for x in 6..last + 1 {
+        put(opening, x, z, text)?;
+    }
+    Ok(())
+}
+
+fn put(opening: &mut Opening, x: i32, z: i32, text: &str) -> Result<(), Fail> {
+    let part = Part::read(text).ok_or("no part")?;
+    match opening.set(at(x, z), part) {
+        Ok(()) => Ok(()),
+        Err(_) => Err("not set".into()),
+    }
+}
+
+fn at(x: i32, z: i32) -> Pos {
+    Pos::new(x, 1, z)
+}
+
+/// Levers are turned, and dust, a push and a draw follow in the ticks after.
+pub fn machines_step<
+    A: Places + Send + Sync,
+    B: Seats + Send + Sync,
+    R: Threads + Wait + Abort + Sync,
+>(
+    rt: &R,
+    alloc: Global,
+    world: &World<A, B>,
+    keeper: &mut Keeper<A>,
+    passes: &mut [Pass<A, B>],
+    workers: usize,
+) -> Result<(), Fail> {
+    let ann = passes.first_mut().ok_or("no pass")?;
+    push_and_reach(rt, alloc, world, keeper, ann, workers);
+    draw(rt, alloc, world, keeper, ann, workers);
+    Ok(())
+}
+
+fn push_and_reach<A: Places, B: Seats, R: Threads + Wait + Abort + Sync>(
+    rt: &R,
+    alloc: Global,
+    world: &World<A, B>,
+    keeper: &mut Keeper<A>,
+    ann: &mut Pass<A, B>,
+    workers: usize,
+) {
+    for z in [DUST, PISTON + 1, STICKY + 1] {
+        turns(rt, world, ann, at(5, z));
+    }
+    let moved = [
+        (at(5, PISTON), Fate::Moved),
+        (at(5, STICKY), Fate::Moved),
+    ];
+    ticks(rt, alloc, world, keeper, workers, &moved);
+    for (x, z, text) in [
+        (6, DUST, "dust:15"),
+        (16, DUST, "dust:5"),
+        (20, DUST, "dust:1"),
+        (21, DUST, "dust:0"),
+        (5, PISTON, "piston:east:out"),
+        (6, PISTON, "head:east:plain"),
+        (18, PISTON, "stone"),
+    ] {
+        sees(rt, world, ann, at(x, z), text);
+    }
+}
+
+// The stone that the sticky piston would draw stands in a plot of nobody, in each tick anew.
+fn draw<A: Places, B: Seats, R: Threads + Wait + Abort + Sync>(
+    rt: &R,
+    alloc: Global,
+    world: &World<A, B>,
+    keeper: &mut Keeper<A>,
+    ann: &mut Pass<A, B>,
+    workers: usize,
+) {
+    turns(rt, world, ann, at(5, STICKY + 1));
+    let denied = Fate::Denied(at(7, STICKY), Rule::Member { at: RegionNo(1) });
+    for _ in 0..2 {
+        ticks(rt, alloc, world, keeper, workers, &[(at(5, STICKY), denied)]);
+    }
+    sees(rt, world, ann, at(5, STICKY), "sticky:east:out");
+}
+
+fn turns<A: Places, B: Seats, R: Wait + Abort>(
+    rt: &R,
+    world: &World<A, B>,
+    pass: &mut Pass<A, B>,
+    p: Pos,
+) {
+    let answer = world.submit(rt, pass, Cmd::Turn(p), &NoGate);
+    assert!(rt; answer == Ok(Reply::Done(Rule::Default)));
+}
+
+// Makes a tick, whose moves have these fates; the gate is told each sector once a phase.
+fn ticks<A: Places, B: Seats, R: Threads + Wait + Abort + Sync>(
+    rt: &R,
+    alloc: Global,
+    world: &World<A, B>,
+    keeper: &mut Keeper<A>,
+    workers: usize,
+    due: &[(Pos, Fate)],
+) {
+    let gate = Noting::new();
+    assert!(rt; 0 < workers && workers <= 8);
+    let Ok(fates) = world.tick(rt, alloc, keeper, workers, &gate) else {
+        panic!(rt; "no tick");
+    };
+    assert!(rt; fates.as_slice() == due);
+    assert!(rt; gate.has_each_once());
+}
+
+fn sees<A: Places, B: Seats, R: Wait + Abort>(
+    rt: &R,
+    world: &World<A, B>,
+    pass: &mut Pass<A, B>,
+    p: Pos,
+    text: &str,
+) {
+    let cell = Cell::read(text).expect(rt, "no cell");
+    let gate = Noting::new();
+    let answer = world.submit(rt, pass, Cmd::Look(p), &gate);
+    assert!(rt; answer == Ok(Reply::Seen(cell)));
+    assert!(rt; gate.has_held(p.x / 16));
+}
+
+/// Ann fills her chest, nobody else looks into it, and it breaks once it is empty.
+pub fn a_chest_is_kept<A: Places, B: Seats, R: Wait + Abort>(
+    rt: &R,
+    world: &World<A, B>,
+    passes: &mut [Pass<A, B>],
+) -> Result<(), Fail> {
+    let (ann, others) = passes.split_first_mut().ok_or("no pass")?;
+    let bob = others.first_mut().ok_or("no pass")?;
+    for (cmd, due) in [
+        (put_in(0, 7, 64), Ok(Reply::Done(ANNS))),
+        (put_in(0, 7, 1), Err(Refusal::BadCount)),
+        (put_in(27, 7, 1), Err(Refusal::NoSlot)),
+        (put_in(0, 8, 1), Err(Refusal::OtherItem)),
+        (Cmd::Break(at(5, CHEST)), Err(Refusal::NotEmpty)),
+    ] {
+        answers(rt, world, ann, cmd, due);
+    }
+    holds_one_stack(rt, world, ann);
+    let open = Cmd::OpenChest(at(5, CHEST));
+    answers(rt, world, bob, open, Err(Refusal::Denied(ANNS)));
+    let take = Cmd::Take {
+        at: at(5, CHEST),
+        slot: 0,
+        count: 64,
+    };
+    answers(rt, world, ann, take, Ok(Reply::Done(ANNS)));
+    answers(rt, world, ann, Cmd::Break(at(5, CHEST)), Ok(Reply::Done(ANNS)));
+    Ok(())
+}
+
+const ANNS: Rule = Rule::Member { at: RegionNo(2) };
+
+fn put_in(slot: u8, item: u16, count: u8) -> Cmd {
+    Cmd::Put {
+        at: at(5, CHEST),
+        slot,
+        item,
+        count,
+    }
+}
+
+fn answers<A: Places, B: Seats, R: Wait + Abort>(
+    rt: &R,
+    world: &World<A, B>,
+    pass: &mut Pass<A, B>,
+    cmd: Cmd,
+    due: Result<Reply, Refusal>,
+) {
+    assert!(rt; world.submit(rt, pass, cmd, &NoGate) == due);
+}
+
+fn holds_one_stack<A: Places, B: Seats, R: Wait + Abort>(
+    rt: &R,
+    world: &World<A, B>,
+    pass: &mut Pass<A, B>,
+) {
+    let Ok(Reply::Opened(rule, contents)) =
+        world.submit(rt, pass, Cmd::OpenChest(at(5, CHEST)), &NoGate)
+    else {
+        panic!(rt; "not opened");
+    };
+    assert!(rt; rule == ANNS);
+    let stack = Stack { item: 7, count: 64 };
+    assert!(rt; contents.slots()[0] == Some(stack));
+    assert!(rt; contents.slots()[1..].iter().all(|slot| slot.is_none()));
+}

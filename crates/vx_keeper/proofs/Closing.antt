@@ -2,24 +2,28 @@
 use Rattle.std.proofs.Common.{◌≡◌, ℕ, ◌+◌, ◌<◌, Bool, List, [], ◌∷◌, ◌++◌, length, map, refl, sym, ap, ◌∙◌, subst, arith}
 use Rattle.std.proofs.lemmas.List.{length_push}
 use Rattle.std.specs.List.{All}
-use Rattle.std.proofs.lemmas.List.Elements.{All-from_recursion, All-append}
+use Rattle.std.proofs.lemmas.List.Elements.{All-from_recursion}
 use Rattle.vx_cells.specs.Maps.{MapData}
 use Rattle.vx_cells.specs.Wholes.{IsMap}
+use mathlib.Core.List.{IsPrefix}
+use Rattle.vx_policy.specs.Asked.{Asked}
+use Rattle.vx_policy.specs.Edits.{AreAccepted}
 use Rattle.vx_policy.specs.declared.version.Version.{Version}
 use Rattle.vx_region.specs.Regions.{Regions}
 use Rattle.vx_sector.specs.SectorData.{SectorData}
 use Rattle.vx_sector.specs.Windows.{IsSector}
 use Rattle.vx_tick.specs.Ticks.{fates_on, stepped}
 use Rattle.vx_wake.specs.Waking.{WakingData, RestsBut}
-use Rattle.vx_windows.specs.Sectors.{entries_of}
+use Rattle.vx_windows.specs.Sectors.{entries_of, first_version}
 use Rattle.vx_windows.specs.Limits.{most_ticks}
 use Rattle.vx_record.specs.Chronicles.{TickData, AreSeated, AreWindows, all_after, map_acted, map_after}
 use Rattle.vx_record.proofs.Growing.{map_after_one_more}
 use Rattle.vx_record.proofs.Recording.{cells_by_entries, windows_on_record}
 use Rattle.vx_record.specs.Archives.{ArchiveData, IsArchive, IsNextTick}
 use Rattle.vx_keeper.specs.Marks.{WorldData}
-use Rattle.vx_keeper.specs.Keepers.{KeeperData, keeper_data, IsKeeper, IsByEdits, map_now, map_next, fates_next, chronicle_next}
+use Rattle.vx_keeper.specs.Keepers.{KeeperData, keeper_data, AreByEdits, IsKeeper, version_next, map_now, map_next, fates_next, chronicle_next}
 use Rattle.vx_keeper.proofs.Knowing.{AreAsKnown}
+use Rattle.vx_keeper.proofs.Versions.{edits_more, one_tick_more}
 
 module _ (first : Regions) (all : ℕ) (k : KeeperData) (keeper : IsKeeper first all k) (ss : List SectorData)
     (sectors : All IsSector ss)
@@ -41,18 +45,21 @@ module _ (first : Regions) (all : ℕ) (k : KeeperData) (keeper : IsKeeper first
   -- it is the next tick of the chronicle
   pub is_next : IsNextTick k.chronicle tick
   is_next = record {
-    number = refl;
-    version = keeper.number;
-    windows =
-        subst (λ (m : MapData). AreWindows k.chronicle.opening.names k.world.version.policy m.sectors (map entries_of ss))
-        keeper.map
-        (subst (λ cs. AreWindows k.chronicle.opening.names k.world.version.policy cs (map entries_of ss)) (sym held.bases)
-        (windows_on_record k.chronicle.opening.names k.world.version ss sectors
-        (All-from_recursion (λ (s : SectorData). AreSeated k.chronicle.opening.names s.entries) ss held.seated)
-        (All-from_recursion (λ (s : SectorData). s.version ≡ k.world.version) ss held.judged)));
-    fates =
-        ap (fates_on k.world.version.policy)
-        (sym acted_now ∙ ap (λ (m : MapData). map_acted m tick) keeper.map);
+    on = record {
+      number = refl;
+      version = ap (λ (v : Version). v.tick) keeper.edits.last;
+      windows =
+          subst (λ (m : MapData). AreWindows k.chronicle.opening.names k.world.version.policy m.sectors (map entries_of ss))
+          keeper.map
+          (subst (λ cs. AreWindows k.chronicle.opening.names k.world.version.policy cs (map entries_of ss)) (sym held.bases)
+          (windows_on_record k.chronicle.opening.names k.world.version ss sectors
+          (All-from_recursion (λ (s : SectorData). AreSeated k.chronicle.opening.names s.entries) ss held.seated)
+          (All-from_recursion (λ (s : SectorData). s.version ≡ k.world.version) ss held.judged)));
+      fates =
+          ap (fates_on k.world.version.policy)
+          (sym acted_now ∙ ap (λ (m : MapData). map_acted m tick) keeper.map);
+    };
+    first = λ none. keeper.edits.begins none ∙ ap first_version (sym keeper.opening);
   }
 
   -- and the map after it is that of the chronicle
@@ -63,51 +70,73 @@ module _ (first : Regions) (all : ℕ) (k : KeeperData) (keeper : IsKeeper first
 
   -- so the keeper goes on
   pub keeps : (counts : List ℕ) (v : Version) (waking : WakingData) (b : Bool)
-      → IsArchive (chronicle_next k ss) counts → length counts ≡ all → v.tick ≡ length k.chronicle.ticks + 2
-      → RestsBut (map_next k ss) waking → IsByEdits first v → length k.chronicle.ticks < most_ticks
+      → IsArchive (chronicle_next k ss) counts → length counts ≡ all → v ≡ version_next first k
+      → RestsBut (map_next k ss) waking → length k.chronicle.ticks < most_ticks
       → IsMap (map_next k ss) → length (map_next k ss).sectors ≡ all
       → IsKeeper first all (record {
         chronicle = chronicle_next k ss;
         counts = counts;
         world = record { map = map_next k ss; version = v };
         waking = waking;
+        seen = k.seen;
         is_roomy = b;
       })
-  keeps counts v waking b archive many number rests edits more whole each =
+  keeps counts v waking b archive many version rests more whole each =
       let longer : length (k.chronicle.ticks ++ tick ∷ []) ≡ length k.chronicle.ticks + 1 = length_push k.chronicle.ticks tick in
       record {
         archive = archive;
+        opening = keeper.opening;
         all = many;
         each = each;
         whole = whole;
         map = map_after_it;
-        number = omega (arith, number, longer);
+        edits =
+            subst (AreByEdits first k.seen (k.chronicle.ticks ++ tick ∷ [])) (sym version)
+            (one_tick_more first k.seen k.chronicle.ticks tick keeper.edits refl);
         rests = rests;
-        edits = edits;
-        ticks =
-            All-append (λ (t : TickData). IsByEdits first t.version) k.chronicle.ticks (tick ∷ []) keeper.ticks
-            (All-from_recursion (λ (t : TickData). IsByEdits first t.version) (tick ∷ []) (keeper.edits, tt));
         most = omega (arith, longer, more);
       }
 
 -- with more or less room it is the same keeper
 pub still_keeps : (first : Regions) (all : ℕ) (a b : ArchiveData) (world : WorldData) (waking : WakingData)
-    → b.chronicle ≡ a.chronicle → b.counts ≡ a.counts
-    → IsKeeper first all (keeper_data a world waking) → IsKeeper first all (keeper_data b world waking)
-still_keeps first all a b world waking chronicle counts h =
-    let roomed : IsKeeper first all (record (keeper_data a world waking) { is_roomy = b.is_roomy }) =
+    (seen : List Asked) → b.chronicle ≡ a.chronicle → b.counts ≡ a.counts
+    → IsKeeper first all (keeper_data a world waking seen) → IsKeeper first all (keeper_data b world waking seen)
+still_keeps first all a b world waking seen chronicle counts h =
+    let roomed : IsKeeper first all (record (keeper_data a world waking seen) { is_roomy = b.is_roomy }) =
     record {
       archive = h.archive;
+      opening = h.opening;
       all = h.all;
       each = h.each;
       whole = h.whole;
       map = h.map;
-      number = h.number;
-      rests = h.rests;
       edits = h.edits;
-      ticks = h.ticks;
+      rests = h.rests;
       most = h.most;
     } in
     subst (IsKeeper first all)
-    (λ i. record { chronicle = sym chronicle i; counts = sym counts i; world = world; waking = waking; is_roomy = b.is_roomy })
+    (λ i. record {
+      chronicle = sym chronicle i;
+      counts = sym counts i;
+      world = world;
+      waking = waking;
+      seen = seen;
+      is_roomy = b.is_roomy;
+    })
     roomed
+
+-- and so it is when it has seen more edits
+pub sees_more : (first : Regions) (all : ℕ) (a : ArchiveData) (world : WorldData) (waking : WakingData)
+    (seen later : List Asked) → IsPrefix seen later → AreAccepted first later
+    → IsKeeper first all (keeper_data a world waking seen) → IsKeeper first all (keeper_data a world waking later)
+sees_more first all a world waking seen later more accepted h = record {
+  archive = h.archive;
+  opening = h.opening;
+  all = h.all;
+  each = h.each;
+  whole = h.whole;
+  map = h.map;
+  edits = edits_more first seen later a.chronicle.ticks world.version more accepted h.edits;
+  rests = h.rests;
+  most = h.most;
+}

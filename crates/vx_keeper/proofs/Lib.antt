@@ -4,3 +4,4 @@ pub mod Closing
 pub mod Knowing
 pub mod Marking
 pub mod Parts
+pub mod Versions

@@ -7,59 +7,63 @@ use Rattle.vx_cells.specs.SectorCells.{only_air, is_chest}
 use Rattle.vx_cells.specs.Wholes.{with_cells_on, IsMap}
 use Rattle.vx_geom.specs.declared.pos.Pos.{Pos}
 use Rattle.vx_policy.specs.Asked.{Asked}
-use Rattle.vx_policy.specs.Edits.{after, AreAccepted}
+use Rattle.vx_policy.specs.Edits.{AreAccepted}
 use Rattle.vx_policy.specs.declared.version.Version.{Version}
 use Rattle.vx_region.specs.Regions.{Regions}
 use Rattle.vx_sector.specs.SectorData.{SectorData}
 use Rattle.vx_tick.specs.Ticks.{fates_on, stepped}
 use Rattle.vx_tick.specs.declared.fate.Fate.{Fate}
 use Rattle.vx_wake.specs.Waking.{WakingData, RestsBut}
-use Rattle.vx_windows.specs.Sectors.{cells_of, entries_of}
+use Rattle.vx_windows.specs.Sectors.{cells_of, entries_of, first_version}
 use Rattle.vx_windows.specs.Limits.{most_ticks}
-use Rattle.vx_record.specs.Chronicles.{ChronicleData, map_after}
+use Rattle.vx_record.specs.Chronicles.{TickData, ChronicleData, AreGrown, map_after, version_by}
 use Rattle.vx_record.specs.Archives.{ArchiveData, IsArchive}
 use Rattle.vx_record.specs.Settling.{KnownData}
 use Rattle.vx_keeper.specs.Marks.{WorldData}
 
 -- a keeper: the chronicle, how many entries of each sector are closed in it, the world as its windows
--- began, where that does not rest, and whether the chronicle has room for a tick more
+-- began, where that does not rest, the edits that it has seen, and whether the chronicle has room for
+-- a tick more
 pub record KeeperData : Type 0 where
   pub chronicle : ChronicleData
   pub counts : List ℕ
   pub world : WorldData
   pub waking : WakingData
+  pub seen : List Asked
   pub is_roomy : Bool
 
-abbrev pub keeper_data : ArchiveData → WorldData → WakingData → KeeperData
-keeper_data archive world waking = record {
+abbrev pub keeper_data : ArchiveData → WorldData → WakingData → List Asked → KeeperData
+keeper_data archive world waking seen = record {
   chronicle = archive.chronicle;
   counts = archive.counts;
   world = world;
   waking = waking;
+  seen = seen;
   is_roomy = archive.is_roomy;
 }
 
--- the version is the policy after some list of edits, each accepted in its turn
-abbrev pub IsByEdits : Regions → Version → Type 0
-IsByEdits first v = (accepted : List Asked) × AreAccepted first accepted × (v ≡ record {
-  tick = v.tick;
-  edits = length accepted;
-  policy = after first accepted;
-})
+-- the versions of these ticks, and the next one after them, are by these edits, each accepted in its
+-- turn: by no fewer from one to the next, and the first of all by none
+pub record AreByEdits (first : Regions) (edits : List Asked) (ticks : List TickData) (next : Version)
+    : Type 0 where
+  pub accepted : AreAccepted first edits
+  pub begins : ticks ≡ [] → next ≡ first_version first
+  pub grown : AreGrown first edits 0 ticks next.edits
+  pub last : next ≡ version_by first edits next.edits (length ticks + 1)
+  pub within : next.edits ≤ length edits
 
 -- what holds of every keeper of a world with so many sectors, whose desk was opened with this policy:
 -- its chronicle is what the one-threaded rules give, the world is the map after its ticks, judged by
--- the version of the next, and each version is the policy after accepted edits
+-- the version of the next, and all versions are by edits that it has seen
 pub record IsKeeper (first : Regions) (sectors : ℕ) (k : KeeperData) : Type 0 where
   pub archive : IsArchive k.chronicle k.counts
+  pub opening : k.chronicle.opening.policy ≡ first
   pub all : length k.counts ≡ sectors
   pub each : length k.world.map.sectors ≡ sectors
   pub whole : IsMap k.world.map
   pub map : k.world.map ≡ map_after k.chronicle.opening.terrain k.chronicle.ticks
-  pub number : k.world.version.tick ≡ length k.chronicle.ticks + 1
+  pub edits : AreByEdits first k.seen k.chronicle.ticks k.world.version
   pub rests : RestsBut k.world.map k.waking
-  pub edits : IsByEdits first k.world.version
-  pub ticks : All (λ tick. IsByEdits first tick.version) k.chronicle.ticks
   pub most : length k.chronicle.ticks ≤ most_ticks
 
 -- what it has of the sector of number n
@@ -70,6 +74,10 @@ known k n = record {
   closed = slice_index k.counts n;
   names = k.chronicle.opening.names;
 }
+
+-- the version that the next tick fixes: the policy after all edits that the keeper has seen
+abbrev pub version_next : Regions → KeeperData → Version
+version_next first k = version_by first k.seen (length k.seen) (length k.chronicle.ticks + 2)
 
 -- the map after the windows of these sectors
 abbrev pub map_now : KeeperData → List SectorData → MapData

@@ -1,10 +1,11 @@
 -- What is made before the windows of sectors are closed.
-use Rattle.std.specs.Prelude.{◌≡◌, ◌≤◌, ◌+◌, List, [], length, map, option_map, vec_capacity}
+use Rattle.std.specs.Prelude.{◌≡◌, ◌≤◌, List, [], length, map, option_map, vec_capacity}
 use Rattle.vx_policy.specs.declared.version.Version.{Version}
+use Rattle.vx_region.specs.Regions.{Regions}
 use Rattle.vx_sector.specs.SectorData.{SectorData}
 use Rattle.vx_windows.specs.Nexts.{AreNextOf}
 use Rattle.vx_keeper.specs.Bases.{AreNextBases}
-use Rattle.vx_keeper.specs.Keepers.{KeeperData, IsWorked, map_now}
+use Rattle.vx_keeper.specs.Keepers.{KeeperData, IsWorked, map_now, version_next}
 use Rattle.vx_keeper.specs.declared.ready.Ready.{Ready}
 use Rattle.vx_keeper.specs.declared.work.Work.{Work}
 
@@ -21,13 +22,14 @@ pub record IsReady (sectors : List SectorData) (work : Work) (next : Version) (r
   pub none : ready.windows.items ≡ []
   pub room : length sectors ≤ vec_capacity ready.windows
 
--- what was made suits the tick that closes the windows of these sectors, and the version is that of
--- the next
-pub record CanClose (k : KeeperData) (sectors : List SectorData) (ready : Ready) : Type 0 where
+-- what was made suits the tick that closes the windows of these sectors, and the version is the one
+-- that this tick fixes
+pub record CanClose (first : Regions) (k : KeeperData) (sectors : List SectorData) (ready : Ready)
+    : Type 0 where
   pub worked : IsWorked k.world.version.policy (map_now k sectors) ready.puts.items ready.fates.items
       ready.waking
   pub told : ready.told.items ≡ ready.fates.items
-  pub number : ready.version.tick ≡ length k.chronicle.ticks + 2
+  pub version : ready.version ≡ version_next first k
   pub nexts : AreNextOf ready.version sectors ready.nexts.items
   pub bases : AreNextBases sectors (map (λ base. option_map (λ b. b.value) base) ready.bases.items)
   pub none : ready.windows.items ≡ []

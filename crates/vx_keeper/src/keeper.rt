@@ -1,17 +1,18 @@
 ghost use Rattle.std.specs.Bool.{Decides};
 ghost use Rattle.std.specs.List.{All};
-ghost use Rattle.std.specs.Prelude.{◌≡◌, ◌<◌, ◌≤◌, ◌+◌, ◌↔◌, true, [], length, map, replicate, Some, Err, IfOk, IfErr, IfSome, MatchOption, OnOk};
+ghost use mathlib.Core.List.{IsPrefix};
+ghost use Rattle.std.specs.Prelude.{◌≡◌, ℕ, ◌<◌, ◌≤◌, ◌+◌, ◌↔◌, ◌⊎◌, true, [], length, map, replicate, Some, Err, IfOk, IfErr, IfSome, MatchOption, OnOk};
 ghost use Rattle.vx_windows.specs.Sectors.{cells_of, all_renewed, opened_by, opened_with, first_version};
 ghost use Rattle.vx_windows.specs.Limits.{most_ticks};
 ghost use Rattle.vx_wake.specs.Waking.{RestsBut};
 ghost use Rattle.vx_sector.specs.Windows.{count_of};
 ghost use Rattle.vx_record.specs.Records.{chronicle_in};
 ghost use Rattle.vx_record.specs.Settling.{AreKnown, BeganWith, IsKnown, IsTorn};
-ghost use Rattle.vx_keeper.specs.Keepers.{IsKeeper, IsByEdits, IsWorked, keeper_data, known, map_now, map_next, fates_next, chronicle_next};
+ghost use Rattle.vx_keeper.specs.Keepers.{IsKeeper, IsWorked, keeper_data, known, version_next, map_now, map_next, fates_next, chronicle_next};
 ghost use Rattle.vx_keeper.specs.Marks.{IsPartOf, AreParts};
 ghost use Rattle.vx_keeper.specs.Readiness.{CanClose, IsReady};
 ghost use Rattle.vx_keeper.specs.Torn.{IsNoWork};
-ghost use Rattle.vx_keeper.specs.declared.tick_error.TickError.TheVariants.{HistoryFull};
+ghost use Rattle.vx_keeper.specs.declared.tick_error.TickError.TheVariants.{HistoryFull, NoMemory, NoView, Torn};
 
 use crate::known::Known;
 use crate::marked::Marked;
@@ -23,6 +24,7 @@ use crate::work::Work;
 use std::alloc::{AllocError, Global};
 use std::marker::Model;
 use std::thread::Threads;
+use vx_board::{Listed, View};
 use vx_cells::Frozen;
 use vx_geom::Pos;
 use vx_policy::Version;
@@ -36,12 +38,14 @@ use vx_windows::{MAX_TICKS, cells_of, open_sectors, renew_sectors, written};
 
 /// The keeper of a world: its chronicle, and what it knows of the world between two ticks. One who
 /// holds it makes the ticks, of sectors that were taken out of their locks.
-// It keeps where the map as the windows began does not rest, so that a tick looks there alone, and
-// the mark of what it knows, which it gives to the sectors that are part of that.
+// It keeps where the map as the windows began does not rest, so that a tick looks there alone, a
+// view of the desk, by which it fixes versions, and the mark of what it knows, which it gives to the
+// sectors that are part of that.
 pub struct Keeper<A: Places> {
     archive: Archive,
     known: Known,
     waking: Waking,
+    view: View<A>,
     stamper: Stamper<Known, A>,
     mark: Option<Mark<Known, A>>,
 }
@@ -52,9 +56,9 @@ impl<A: Places> Model for Keeper<A> {
 
     ghost Value = { KeeperData };
 
-    ghost view = { λ a. keeper_data a.archive a.known a.waking };
+    ghost view = { λ a. keeper_data a.archive a.known a.waking a.view };
 
-    ghost invariant = { λ a. IsKeeper A.first A.all (keeper_data a.archive a.known a.waking)
+    ghost invariant = { λ a. IsKeeper A.first A.all (keeper_data a.archive a.known a.waking a.view)
         × IfSome a.mark (λ m. m ≡ Some a.known) };
 }
 
@@ -65,6 +69,7 @@ impl<A: Places> Drop for Keeper<A> {
             archive: _archive,
             known: _known,
             waking: _waking,
+            view: _view,
             stamper: _stamper,
             mark: _mark,
         } = self;
@@ -72,11 +77,12 @@ impl<A: Places> Drop for Keeper<A> {
 }
 
 impl<A: Places> Keeper<A> {
-    /// The keeper of a world that opens so, and the sectors of that world, in order of their
-    /// numbers, in their first windows.
+    /// The keeper of a world that opens so, with a view of its desk, and the sectors of that world, in
+    /// order of their numbers, in their first windows.
     pub fn new(
         alloc: Global,
         opening: Opening,
+        view: View<A>,
         stamper: Stamper<Known, A>,
     ) -> Result<(Keeper<A>, Vec<Sector>), AllocError>
         requires first { opening.policy ≡ A.first }
@@ -85,6 +91,7 @@ impl<A: Places> Keeper<A> {
             opened.0.chronicle ≡ record { opening = opening; ticks = [] }) }
         ensures world { IfOk result (λ opened. opened.0.world
             ≡ record { map = opening.terrain; version = first_version opening.policy }) }
+        ensures seen { IfOk result (λ opened. opened.0.seen ≡ view) }
         ensures sectors { IfOk result (λ opened. opened.1.items
             ≡ map (opened_with opening.policy) opening.terrain.sectors) }
         ensures parts { IfOk result (λ opened.
@@ -94,7 +101,8 @@ impl<A: Places> Keeper<A> {
         let (known, waking) = begun(alloc, &opening)?;
         let sectors = first_sectors(alloc, &opening, known.version())?;
         let archive = Archive::new(alloc, opening)?;
-        let keeper = Keeper::opened(archive, known, waking, stamper);
+        view.soundness();
+        let keeper = Keeper::opened(archive, known, waking, view, stamper);
         Ok((keeper, sectors))
     }
 
@@ -103,10 +111,11 @@ impl<A: Places> Keeper<A> {
         archive: Archive,
         known: Known,
         waking: Waking,
+        view: View<A>,
         stamper: Stamper<Known, A>,
     ) -> Keeper<A>
-        requires { IsKeeper A.first A.all (keeper_data archive known waking) }
-        ensures { result ≡ keeper_data archive known waking }
+        requires { IsKeeper A.first A.all (keeper_data archive known waking view) }
+        ensures { result ≡ keeper_data archive known waking view }
     {
         let mut stamper = stamper;
         let mark = stamper.mark(&known);
@@ -114,6 +123,7 @@ impl<A: Places> Keeper<A> {
             archive,
             known,
             waking,
+            view,
             stamper,
             mark,
         }
@@ -153,6 +163,13 @@ impl<A: Places> Keeper<A> {
             && follows(sector, self.archive.count(at), self.archive.opening())
     }
 
+    /// Whether there are as many ticks as there may be.
+    pub fn is_full(&self) -> bool
+        ensures { Decides result (most_ticks ≤ length self.now.chronicle.ticks) }
+    {
+        MAX_TICKS <= self.archive.ticks().len() as u64
+    }
+
     /// What the next tick does, whose windows these sectors have, all of the world in order of their
     /// numbers. Where one is not what the keeper has of it the first of these is told; but first of
     /// all, that there is no number left. The sectors are worked by 1 to 8 threads.
@@ -171,18 +188,41 @@ impl<A: Places> Keeper<A> {
         ensures full { (result ≡ Err HistoryFull)
             ↔ (most_ticks ≤ length self.now.chronicle.ticks) }
         ensures refused { IfErr result (IsNoWork (known self.now) (map Some sectors.now)) }
+        ensures torn { (k : ℕ) → result ≡ Err (Torn k) → k < A.all }
         ensures known { OnOk result (AreKnown (known self.now) (map Some sectors.now)) }
         ensures worked { IfOk result (λ work. IsWorked self.now.world.version.policy
             (map_now self.now sectors.now) work.plan.puts.items work.plan.fates.items
             work.waking) }
     {
-        if MAX_TICKS <= self.archive.ticks().len() as u64 {
+        if self.is_full() {
             return Err(TickError::HistoryFull);
         }
         if let Some(at) = self.first_torn(sectors, are_parts) {
             return Err(TickError::Torn(at));
         }
         Ok(self.worked(rt, alloc, sectors, workers, gate)?)
+    }
+
+    /// From now on it fixes no version without the edits of this list. It takes no memory.
+    pub fn learn(&mut self, listed: &Listed<A>)
+        ensures seen { IsPrefix self.old.seen self.new.seen }
+        ensures learnt { IsPrefix listed.now.front self.new.seen }
+        ensures kept { self.new ≡ record self.old { seen = self.new.seen } }
+    {
+        self.view.learn(listed);
+        self.view.soundness();
+    }
+
+    /// The version that the next tick fixes: the policy after all edits that the keeper's view then
+    /// sees. These begin with all that it has seen or was told of.
+    pub fn fix(&mut self) -> Result<Version, TickError>
+        ensures version { IfOk result (λ version. version ≡ version_next A.first self.new) }
+        ensures refused { IfErr result (λ error. (error ≡ NoView) ⊎ (error ≡ NoMemory)) }
+        ensures seen { IsPrefix self.old.seen self.new.seen }
+        ensures kept { self.new ≡ record self.old { seen = self.new.seen } }
+    {
+        let number = self.next_number();
+        Ok(self.view.fix(number)?)
     }
 
     /// Makes all that closing the windows of these sectors takes, with the work of the tick and the
@@ -197,6 +237,7 @@ impl<A: Places> Keeper<A> {
         ensures chronicle { self.new.chronicle ≡ self.old.chronicle }
         ensures counts { self.new.counts ≡ self.old.counts }
         ensures world { self.new.world ≡ self.old.world }
+        ensures seen { self.new.seen ≡ self.old.seen }
         ensures room { OnOk result (self.new.is_roomy ≡ true) }
         ensures ready { IfOk result (IsReady sectors.now work version) }
     {
@@ -212,12 +253,12 @@ impl<A: Places> Keeper<A> {
         requires each { length sectors.old ≡ A.all }
         requires more { length self.old.chronicle.ticks < most_ticks }
         requires room { self.old.is_roomy ≡ true }
-        requires ready { CanClose self.old sectors.old ready }
-        requires edits { IsByEdits A.first ready.version }
+        requires ready { CanClose A.first self.old sectors.old ready }
         ensures chronicle { self.new.chronicle ≡ chronicle_next self.old sectors.old }
         ensures counts { self.new.counts ≡ map count_of sectors.old }
         ensures world { self.new.world
             ≡ record { map = map_next self.old sectors.old; version = ready.version } }
+        ensures seen { self.new.seen ≡ self.old.seen }
         ensures sectors { sectors.new ≡ all_renewed ready.version sectors.old
             (map_next self.old sectors.old).sectors }
         ensures fates { result.items ≡ fates_next self.old sectors.old }
@@ -278,6 +319,27 @@ impl<A: Places> Keeper<A> {
         &self.archive
     }
 
+    /// The map as the open windows began. Nothing is copied.
+    pub fn base(&self) -> Frozen<'_>
+        ensures { result ≡ self.now.world.map }
+    {
+        self.known.frozen()
+    }
+
+    /// The version that judges the open windows.
+    pub fn version(&self) -> &Version
+        ensures { result.now ≡ self.now.world.version }
+    {
+        self.known.version()
+    }
+
+    /// How many entries are closed in each sector, in order of their numbers.
+    pub fn closed(&self) -> &[u64]
+        ensures { result.now ≡ self.now.counts }
+    {
+        self.archive.counts()
+    }
+
     /// The number of the version that the next tick fixes.
     pub fn next_number(&self) -> u64
         ensures { result ≡ length self.now.chronicle.ticks + 2 }
@@ -285,18 +347,20 @@ impl<A: Places> Keeper<A> {
         self.archive.ticks().len() as u64 + 2
     }
 
-    /// The chronicle. It takes no memory.
-    pub fn into_chronicle(self) -> Chronicle
-        ensures { chronicle_in result ≡ self.chronicle }
+    /// The chronicle, and the version that judges the open windows. It takes no memory.
+    pub fn into_parts(self) -> (Chronicle, Version)
+        ensures chronicle { chronicle_in result.0 ≡ self.chronicle }
+        ensures version { result.1 ≡ self.world.version }
     {
         let Keeper {
             archive,
-            known: _known,
+            known,
             waking: _waking,
+            view: _view,
             stamper: _stamper,
             mark: _mark,
         } = self;
-        archive.into_chronicle()
+        (archive.into_chronicle(), known.into_version())
     }
 
     // Whether the window of the sector began with what the keeper has of the sector of that number.

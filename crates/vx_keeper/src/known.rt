@@ -11,7 +11,7 @@ ghost use Rattle.vx_keeper.specs.Bases.{AreNextBases};
 use std::marker::Model;
 use std::mem;
 use vx_block::Cell;
-use vx_cells::{Cells, put_all};
+use vx_cells::{Cells, Frozen, put_all};
 use vx_geom::{Bounds, Pos};
 use vx_policy::Version;
 use vx_record::began_with;
@@ -68,11 +68,25 @@ impl Known {
         self.bounds
     }
 
+    /// The map as the windows began. Nothing is copied.
+    pub fn frozen(&self) -> Frozen<'_>
+        ensures { result ≡ self.now.map }
+    {
+        Frozen::new(self.bounds, &self.cells)
+    }
+
     /// The version that judges the windows.
     pub fn version(&self) -> &Version
         ensures { result.now ≡ self.now.version }
     {
         &self.version
+    }
+
+    /// The version that judges the windows, without the map.
+    pub fn into_version(self) -> Version
+        ensures { result ≡ self.version }
+    {
+        self.version
     }
 
     /// Whether the window of a sector began with the cells of the sector of that number, and is

@@ -1,4 +1,5 @@
 use std::alloc::AllocError;
+use vx_board::ViewError;
 
 /// Why no tick was made.
 #[derive(Clone, Copy, Debug, PartialEq, Eq)]
@@ -7,6 +8,8 @@ pub enum TickError {
     HistoryFull,
     /// The sector of that number differs from what the keeper has of it.
     Torn(u32),
+    /// The keeper's view of the desk told no policy.
+    NoView,
     NoMemory,
 }
 
@@ -18,5 +21,19 @@ impl From<AllocError> for TickError {
 
     fn from(_refused: AllocError) -> TickError {
         TickError::NoMemory
+    }
+}
+
+impl From<ViewError> for TickError {
+    ghost use Rattle.std.specs.Prelude.{◌≡◌};
+    ghost use Rattle.vx_keeper.specs.Torn.{tick_error};
+
+    ghost from_gives = { λ error e. e ≡ tick_error error };
+
+    fn from(error: ViewError) -> TickError {
+        match error {
+            ViewError::NoView => TickError::NoView,
+            ViewError::NoMemory => TickError::NoMemory,
+        }
     }
 }

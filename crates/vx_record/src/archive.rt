@@ -109,6 +109,13 @@ impl Archive {
         &self.chronicle.ticks
     }
 
+    /// How many entries of each sector are closed, in order of their numbers.
+    pub fn counts(&self) -> &[u64]
+        ensures { result.now ≡ self.now.counts }
+    {
+        &self.counts
+    }
+
     /// How many entries of the sector of that number are closed.
     pub fn count(&self, at: usize) -> u64
         requires { at < length self.now.counts }

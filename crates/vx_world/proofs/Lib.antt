@@ -1,6 +1,7 @@
 mod Counted
 mod Numbered
 mod Numbers
+mod Opened
 mod Parts
 mod Settled
 mod Ticked

@@ -1,9 +1,9 @@
 -- What a settlement looks at, and what it tells.
-use Rattle.std.specs.Prelude.{◌≡◌, ℕ, Bool, true, Option, Some, None, option_map, is_some, unwrap_or}
+use Rattle.std.specs.Prelude.{◌≡◌, ℕ, ⊤, Bool, true, Option, Some, None, option_map, is_some, unwrap_or}
 use Rattle.vx_cells.specs.SectorCells.{holds}
 use Rattle.vx_geom.specs.declared.pos.Pos.{Pos}
 use Rattle.vx_sector.specs.SectorData.{SectorData}
-use Rattle.vx_sector.specs.Windows.{count_of}
+use Rattle.vx_sector.specs.Windows.{IsWindow, count_of}
 use Rattle.vx_record.specs.Settling.{CallerData}
 use Rattle.vx_record.specs.declared.fault.Fault.{Fault}
 use Rattle.vx_world.specs.declared.pass.Pass.{Pass}
@@ -27,6 +27,12 @@ IsHomeOf p (Some s) = holds s.cells p ≡ true
 -- how many entries it has, in closed windows too; none where it is away
 abbrev pub count_here : {A : Type 0} {P : _} {N : _} {H : _} → Slot A P N H → ℕ
 count_here slot = unwrap_or (option_map (λ home. count_of home.marked) slot.home) 0
+
+-- the entries of the sector there, if one is there, are a window over the cells with which it began,
+-- by its version
+abbrev pub IsWindowHere : Option SectorData → Type 0
+IsWindowHere None = ⊤
+IsWindowHere (Some s) = IsWindow s.version.policy s.base s.entries
 
 -- who made the calls of a pass
 abbrev pub caller_of : {A B : Type 0} {P : _} {N : _} {H : _} {S : _} → Pass A B P N H S

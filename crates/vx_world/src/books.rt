@@ -1,11 +1,8 @@
 ghost use Rattle.std.specs.Prelude.{◌≡◌, ◌+◌, ◌<◌};
 
-use crate::reserve::Reserve;
+use crate::reserve::{AT_ONCE, Reserve};
 use std::sync::Wait;
 use std::sync::ledger::{Book, Ledger, Share};
-
-// By how many calls the books are raised at once.
-const AT_ONCE: u64 = 64;
 
 /// The books of the two ledgers, which are equal: as many calls are recorded in sectors as are on
 /// the lists of passes, each beside what the passes have in reserve. What is left of the shares once
@@ -51,7 +48,7 @@ impl<A: Ledger, B: Ledger> Books<A, B> {
         requires part { 0 < reserve.old.places.parts }
         requires spent { reserve.old.left ≡ 0 }
         ensures part { reserve.new.places.parts ≡ reserve.old.places.parts }
-        ensures more { 0 < reserve.new.left }
+        ensures more { reserve.new.left ≡ AT_ONCE }
     {
         let Books {
             count,

@@ -4,6 +4,7 @@ ghost use Rattle.std.specs.Prelude.{◌≡◌, ◌≤◌, ◌+◌, ◌*◌, leng
 ghost use Rattle.vx_region.specs.Texts.{texts};
 ghost use Rattle.vx_sector.specs.SectorData.{seat_of};
 ghost use Rattle.vx_sector.specs.Windows.{count_of};
+ghost use Rattle.vx_windows.specs.Sectors.{first_version};
 ghost use Rattle.vx_keeper.specs.Marks.{IsPartOf};
 ghost use Rattle.vx_world.specs.Openings.{seats_from};
 
@@ -38,6 +39,8 @@ pub fn kept<A: Places>(
     requires amount { rest.old.amount ≡ 0 }
     ensures chronicle { IfOk result (λ kept.
         kept.0.chronicle ≡ record { opening = opening; ticks = [] }) }
+    ensures world { IfOk result (λ kept. kept.0.world
+        ≡ record { map = opening.terrain; version = first_version opening.policy }) }
     ensures each { IfOk result (λ kept. vec_len kept.1 ≡ A.all) }
     ensures rest { OnOk result ((rest.new.parts ≡ 0) × (rest.new.amount ≡ 0)) }
 {
@@ -105,6 +108,8 @@ pub fn passes<A: Places, B: Seats>(
     requires none { (places.old.amount ≡ 0) × (seats.old.amount ≡ 0) }
     ensures seated { IfOk result (λ passes.
         map (λ pass. seat_of pass.seat) passes.items ≡ seats_from 0 (texts names.now)) }
+    ensures empty { IfOk result (λ passes.
+        All (λ pass. pass.lists ≡ replicate A.all []) passes.items) }
     ensures places { OnOk result ((places.new.parts + length names.now ≡ places.old.parts)
         × (places.new.amount ≡ 0)) }
     ensures seats { OnOk result ((seats.new.parts ≡ 0) × (seats.new.amount ≡ 0)) }
@@ -131,6 +136,7 @@ fn pass<A: Places, B: Seats>(
     requires amounts { (places.old.amount ≡ 0) × (seats.old.amount ≡ 0) }
     requires more { (1 ≤ places.old.parts) × (2 ≤ seats.old.parts) }
     ensures seat { result.seat ≡ seat }
+    ensures lists { result.lists ≡ lists }
     ensures places { (places.new.parts + 1 ≡ places.old.parts) × (places.new.amount ≡ 0) }
     ensures seats { (seats.new.parts + 2 ≡ seats.old.parts) × (seats.new.amount ≡ 0) }
 {

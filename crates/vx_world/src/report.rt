@@ -1,14 +1,16 @@
 ghost use Rattle.std.specs.Prelude.{◌≡◌, vec_len};
 
+use vx_policy::Version;
 use vx_record::Chronicle;
 use vx_sector::Entry;
 
-/// The record of a world that was settled: its chronicle, and the open window of each sector in
-/// order of their numbers.
+/// The record of a world that was settled: its chronicle, the open window of each sector in order of
+/// their numbers, and the version that judges these.
 #[derive(Drop)]
 pub struct Report {
     pub chronicle: Chronicle,
     pub windows: Vec<Vec<Entry>>,
+    pub version: Version,
     pub(crate) calls: u64,
 }
 

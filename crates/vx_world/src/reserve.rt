@@ -1,9 +1,13 @@
-ghost use Rattle.std.specs.Prelude.{◌≡◌, ◌+◌, ◌<◌};
+ghost use Rattle.std.specs.Prelude.{◌≡◌, ◌+◌, ◌<◌, ◌≤◌};
+ghost use Rattle.vx_world.specs.declared.reserve.TheConstants.{AT_ONCE};
 
 use crate::books::Books;
 use crate::patience::patiently;
 use std::sync::ledger::{Ledger, Share};
 use std::sync::{Mutex, Wait};
+
+/// By how many calls the books are raised at once, and how many a reserve has at most.
+pub const AT_ONCE: u64 = 64;
 
 /// Calls that both books count already and that were not made yet. Each pass has such a reserve, so
 /// that it takes the lock of the books once for many calls.
@@ -15,6 +19,7 @@ pub struct Reserve<A: Ledger, B: Ledger> {
     ghost parts: { seats.parts ≡ places.parts },
     ghost in_sectors: { places.amount ≡ left },
     ghost on_lists: { seats.amount ≡ left },
+    ghost few: { left ≤ AT_ONCE },
 }
 
 impl<A: Ledger, B: Ledger> Reserve<A, B> {

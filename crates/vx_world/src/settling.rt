@@ -1,12 +1,13 @@
 //! The settlement of a world that has ended.
 ghost use Rattle.std.specs.List.{All, sum_by};
 ghost use Rattle.std.specs.Prelude.{◌≡◌, ◌+◌, ◌*◌, ◌≤◌, [], true, None, map, vec_len, vec_capacity, IfOk, IfErr, OnOk};
+ghost use Rattle.vx_record.specs.Chronicles.{AreWindows, IsRun, map_after};
 ghost use Rattle.vx_record.specs.Records.{chronicle_in};
 ghost use Rattle.vx_windows.specs.Sectors.{entries_in};
 ghost use Rattle.vx_record.specs.Calls.{calls_in};
 ghost use Rattle.vx_record.specs.Settling.{IsFound, open_entries};
 ghost use Rattle.vx_keeper.specs.Keepers.{known};
-ghost use Rattle.vx_world.specs.Settlements.{found_by, sector_here, caller_of, count_here, is_home};
+ghost use Rattle.vx_world.specs.Settlements.{found_by, sector_here, caller_of, count_here, is_home, IsWindowHere};
 
 use crate::books::Books;
 use crate::home::Home;
@@ -46,6 +47,13 @@ impl<A: Places, B: Seats> Lifted<A, B> {
             chronicle_in report.chronicle ≡ keeper.chronicle) }
         ensures windows { IfOk result (λ report. map entries_in report.windows.items
             ≡ map (λ slot. open_entries (sector_here slot)) self.slots.items) }
+        ensures version { IfOk result (λ report. report.version ≡ keeper.world.version) }
+        ensures run { IfOk result (λ report. IsRun (chronicle_in report.chronicle)) }
+        // Each open window follows the chronicle's ticks.
+        ensures open { IfOk result (λ report. AreWindows keeper.chronicle.opening.names
+            keeper.world.version.policy
+            (map_after keeper.chronicle.opening.terrain keeper.chronicle.ticks).sectors
+            (map entries_in report.windows.items)) }
         ensures calls { IfOk result (λ report.
             report.calls ≡ sum_by (λ pass. calls_in pass.lists) passes.items) }
         ensures entries { IfOk result (λ report.
@@ -68,6 +76,7 @@ impl<A: Places, B: Seats> Lifted<A, B> {
                 passes,
             });
         };
+        keeper.soundness();
         Ok(self.report(keeper, passes, windows))
     }
 
@@ -90,6 +99,8 @@ impl<A: Places, B: Seats> Lifted<A, B> {
         ensures chronicle { chronicle_in result.chronicle ≡ keeper.chronicle }
         ensures windows { map entries_in result.windows.items
             ≡ map (λ slot. open_entries (sector_here slot)) self.slots.items }
+        ensures version { result.version ≡ keeper.world.version }
+        ensures open { All (λ slot. IsWindowHere (sector_here slot)) self.slots.items }
         ensures calls { result.calls ≡ sum_by (λ pass. calls_in pass.lists) passes.items }
         ensures entries { result.calls ≡ sum_by count_here self.slots.items }
     {
@@ -102,9 +113,11 @@ impl<A: Places, B: Seats> Lifted<A, B> {
         let (places, mut seats) = pass_shares(&mut books, passes);
         let (mut places, windows) = place_shares(slots, places, windows);
         let calls = books.calls(&mut places, &mut seats);
+        let (chronicle, version) = keeper.into_parts();
         Report {
-            chronicle: keeper.into_chronicle(),
+            chronicle,
             windows,
+            version,
             calls,
         }
     }
@@ -143,6 +156,7 @@ fn place_shares<A: Places>(
     ensures amount { result.0.amount ≡ sum_by count_here slots.items }
     ensures windows { map entries_in result.1.items
         ≡ map (λ slot. open_entries (sector_here slot)) slots.items }
+    ensures open { All (λ slot. IsWindowHere (sector_here slot)) slots.items }
 {
     let mut all = of_passes;
     let mut windows = windows;
@@ -160,10 +174,14 @@ fn closed<A: Places>(slot: Slot<A>) -> (Share<A>, Vec<Entry>)
     ensures parts { result.0.parts ≡ 1 }
     ensures amount { result.0.amount ≡ count_here slot }
     ensures window { entries_in result.1 ≡ open_entries (sector_here slot) }
+    ensures open { IsWindowHere (sector_here slot) }
 {
     let Some(home) = slot.home else {
         unreachable!()
     };
     let (marked, share) = home.into_parts();
-    (share, marked.into_sector().into_entries())
+    let sector = marked.into_sector();
+    // Its clause says of every sector that its entries are a window.
+    let _ = sector.entries();
+    (share, sector.into_entries())
 }

@@ -1,4 +1,4 @@
-ghost use Rattle.std.specs.Prelude.{◌≡◌, true};
+ghost use Rattle.std.specs.Prelude.{◌≡◌, ◌↔◌, true};
 ghost use Rattle.vx_world.specs.Settlements.{IsHomeOf, sector_here};
 
 use crate::home::Home;
@@ -16,7 +16,7 @@ pub struct Slot<A: Places> {
 impl<A: Places> Slot<A> {
     /// Whether a sector is at home that holds the position.
     pub fn is_home_of(&self, p: Pos) -> bool
-        ensures { result ≡ true → IsHomeOf p (sector_here self.now) }
+        ensures { (result ≡ true) ↔ IsHomeOf p (sector_here self.now) }
     {
         match &self.home {
             Some(home) => home.holds(p),

@@ -1,10 +1,10 @@
 //! A tick of a world that threads share.
 ghost use Rattle.std.specs.List.{All};
-ghost use Rattle.std.specs.Prelude.{◌≡◌, ◌<◌, ◌≤◌, [], true, length, map, vec_len, Err, IfOk, OnOk, OnErr};
+ghost use Rattle.std.specs.Prelude.{◌≡◌, ℕ, ◌↔◌, ◌<◌, ◌≤◌, [], true, length, map, vec_len, Err, IfOk, OnOk, OnErr};
 ghost use Rattle.vx_windows.specs.Limits.{most_ticks};
 ghost use Rattle.vx_sector.specs.Windows.{count_of};
 ghost use Rattle.vx_keeper.specs.Marks.{AreParts, IsPartOf};
-ghost use Rattle.vx_keeper.specs.declared.tick_error.TickError.TheVariants.{HistoryFull};
+ghost use Rattle.vx_keeper.specs.declared.tick_error.TickError.TheVariants.{HistoryFull, Torn};
 ghost use Rattle.vx_world.specs.Ticks.{HasTicked, KnowsAsBefore};
 
 use crate::home::Home;
@@ -39,10 +39,13 @@ impl<A: Places, B: Seats> World<A, B> {
         ensures ok { IfOk result (λ fates.
             HasTicked A.first A.all keeper.old fates.items keeper.new) }
         ensures err { OnErr result (KnowsAsBefore keeper.old keeper.new) }
-        // No tick is refused for their number while there is one left.
-        ensures full { result ≡ Err HistoryFull
-            → most_ticks ≤ length keeper.old.chronicle.ticks }
+        ensures full { (result ≡ Err HistoryFull)
+            ↔ (most_ticks ≤ length keeper.old.chronicle.ticks) }
+        ensures torn { (k : ℕ) → result ≡ Err (Torn k) → k < A.all }
     {
+        if keeper.is_full() {
+            return Err(TickError::HistoryFull);
+        }
         let mut taken = Taken::with_room(alloc, self.slots.len())?;
         self.take_all(rt, keeper, &mut taken);
         let made = make(rt, alloc, &self.desk, keeper, &mut taken, workers, gate);
@@ -119,6 +122,7 @@ fn make<A: Places, R: Threads + Wait + Sync, G: Gate + Sync>(
     ensures err { OnErr result (KnowsAsBefore keeper.old keeper.new) }
     ensures full { result ≡ Err HistoryFull
         → most_ticks ≤ length keeper.old.chronicle.ticks }
+    ensures torn { (k : ℕ) → result ≡ Err (Torn k) → k < A.all }
     ensures all { vec_len taken.new.sectors ≡ A.all }
     ensures parts { AreParts keeper.new.world taken.new.are_parts.items
         taken.new.sectors.items }
@@ -152,6 +156,7 @@ fn tick_of<A: Places, R: Threads + Wait + Sync, G: Gate + Sync>(
     ensures err { OnErr result (KnowsAsBefore keeper.old keeper.new) }
     ensures full { result ≡ Err HistoryFull
         → most_ticks ≤ length keeper.old.chronicle.ticks }
+    ensures torn { (k : ℕ) → result ≡ Err (Torn k) → k < A.all }
     ensures kept { OnErr result (sectors.new ≡ sectors.old) }
     ensures counts { map count_of sectors.new ≡ map count_of sectors.old }
     ensures parts { OnOk result (All (IsPartOf keeper.new.world) sectors.new) }

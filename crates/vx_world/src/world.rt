@@ -1,8 +1,10 @@
-ghost use Rattle.std.specs.Prelude.{◌≡◌, ℕ, ◌↔◌, ◌+◌, ◌*◌, ◌<◌, ◌≤◌, true, false, None, Some, Err, map, length, vec_len, IfOk, IfSome, ◌^◌, []};
+ghost use Rattle.std.specs.List.{All};
+ghost use Rattle.std.specs.Prelude.{◌≡◌, ℕ, ◌↔◌, ◌+◌, ◌*◌, ◌<◌, ◌≤◌, true, false, None, Some, Err, map, length, replicate, vec_len, IfOk, IfSome, ◌^◌, []};
 ghost use Rattle.vx_geom.specs.Sizes.{sector_count, sector_of};
 ghost use Rattle.vx_sector.specs.Commands.{place_of};
 ghost use Rattle.vx_sector.specs.SectorData.{seat_of};
 ghost use Rattle.vx_sector.specs.Windows.{is_recorded};
+ghost use Rattle.vx_windows.specs.Sectors.{first_version};
 ghost use Rattle.vx_record.specs.Calls.{with_call};
 ghost use Rattle.vx_world.specs.Openings.{seats_from};
 
@@ -78,8 +80,12 @@ impl<A: Places, B: Seats> World<A, B> {
             opened.0.bounds ≡ opening.terrain.sizes) }
         ensures chronicle { IfOk result (λ opened.
             opened.1.chronicle ≡ record { opening = opening; ticks = [] }) }
+        ensures world { IfOk result (λ opened. opened.1.world
+            ≡ record { map = opening.terrain; version = first_version opening.policy }) }
         ensures seats { IfOk result (λ opened.
             map (λ pass. seat_of pass.seat) opened.2.items ≡ seats_from 0 opening.names) }
+        ensures empty { IfOk result (λ opened.
+            All (λ pass. pass.lists ≡ replicate A.all []) opened.2.items) }
     {
         opening.soundness();
         let bounds = opening.terrain().frozen().bounds();

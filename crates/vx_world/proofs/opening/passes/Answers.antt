@@ -1,5 +1,6 @@
-use Rattle.std.proofs.Common.{[], ◌∷◌, ◌++◌, take, sym, ◌∙◌, arith, add-one}
+use Rattle.std.proofs.Common.{◌≡◌, [], ◌∷◌, ◌++◌, replicate, take, sym, ap, ◌∙◌, arith, add-one}
 use Rattle.std.proofs.lemmas.List.{map_push}
+use Rattle.std.proofs.lemmas.List.Elements.{All-push}
 use Rattle.vx_region.specs.Texts.{texts}
 use Rattle.vx_world.specs.Openings.{seats_from}
 use Rattle.vx_world.proofs.Numbered.{seats_more}
@@ -19,4 +20,6 @@ loop-number-preserved g c =
       c.pass.ensures.places.1,
       omega (arith, c.pass.ensures.seats.0, before.5),
       c.pass.ensures.seats.1,
+      rw c.push_reserved.ensures.items
+          (All-push (λ pass. pass.lists ≡ replicate g.A.Places.all []) _ _ before.7 (c.pass.ensures.lists ∙ c.in_ok-new.ensures ∙ ap (λ n. replicate n []) c.requires.sectors)),
     )

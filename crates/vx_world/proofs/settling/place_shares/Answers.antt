@@ -1,8 +1,8 @@
 use Rattle.std.proofs.Common.{◌≡◌, true, length, refl, ap, arith}
 use Rattle.std.proofs.lemmas.List.{length_push, map_push}
 use Rattle.std.proofs.lemmas.List.Sums.{sum_by_push}
-use Rattle.std.proofs.lemmas.List.Elements.{All-rest}
-use Rattle.vx_world.specs.Settlements.{is_home}
+use Rattle.std.proofs.lemmas.List.Elements.{All-rest, All-push}
+use Rattle.vx_world.specs.Settlements.{is_home, sector_here, IsWindowHere}
 use Rattle.vx_world.proofs.settling.place_shares.Goals as goal
 
 pub loop-slot-preserved : goal.loop-slot-preserved
@@ -15,4 +15,5 @@ loop-slot-preserved g c =
       omega (arith, c.push_reserved.ensures.len, before.3, ap length left),
       omega (arith, c.push_reserved.ensures.capacity, before.4),
       All-rest (λ slot. is_home slot ≡ true) _ _ _ left before.5,
+      All-push (λ slot. IsWindowHere (sector_here slot)) _ _ before.6 c.closed-share.ensures.open,
     )

@@ -165,26 +165,29 @@ module _ (g : Over) (c : goal.After-drop-puts g) where
       })
 
   keeper_is : IsKeeper g.A.Naming.first g.A.Places.all
-      (keeper_data c.add.new.self c.go_on-was.new.self c.args.ready.waking)
+      (keeper_data c.add.new.self c.go_on-was.new.self c.args.ready.waking c.self.inside.view)
   keeper_is =
       let first = g.A.Naming.first in
       let many = g.A.Places.all in
+      let seen = ap (λ (k : KeeperData). k.seen) c.self.view_is in
       let counted : next_counts k.counts (map entries_of ss) ≡ map count_of ss =
       ap (λ ns. next_counts ns (map entries_of ss)) held.closed ∙ counts_go_on ss in
       let archive = subst (IsArchive (chronicle_next k ss)) counted
       (archive_grown k.chronicle k.counts (tick first many k c.soundness.ensures ss c.are_sectors.ensures held)
-      c.soundness.ensures.archive (is_next first many k c.soundness.ensures ss c.are_sectors.ensures held)) in
+      c.soundness.ensures.archive (is_next first many k c.soundness.ensures ss c.are_sectors.ensures held)
+      (length-map ss entries_of ∙ c.requires.each ∙ sym c.soundness.ensures.all)) in
       subst (IsKeeper first many)
       (λ i. record {
         chronicle = sym chronicle_is i;
         counts = sym counts_are i;
         world = sym world_is i;
         waking = c.args.ready.waking;
+        seen = sym seen i;
         is_roomy = c.add.new.self.is_roomy;
       })
       (keeps first many k c.soundness.ensures ss c.are_sectors.ensures held (map count_of ss) c.args.ready.version
       c.args.ready.waking c.add.new.self.is_roomy archive (length-map ss count_of ∙ c.requires.each)
-      c.requires.ready.number c.requires.ready.worked.rests c.requires.edits c.requires.more next_whole next_each)
+      c.requires.ready.version c.requires.ready.worked.rests c.requires.more next_whole next_each)
 
 pub invariant_of-self : goal.invariant_of-self
 invariant_of-self g c = (keeper_is g c, c.mark.ensures)

@@ -1,8 +1,13 @@
-use Rattle.std.proofs.Common.{◌≡◌, length, map, ap, arith}
+use Rattle.std.proofs.Common.{◌≡◌, length, map, sym, ap, ◌∙◌, subst, arith}
 use Rattle.std.specs.Vec.{vec_len}
 use Rattle.std.proofs.lemmas.List.{length-map}
+use Rattle.std.proofs.lemmas.List.Elements.{All-map, recursion_from_All}
+use Rattle.std.proofs.lemmas.Simd.{map-map}
+use Rattle.vx_record.specs.Chronicles.{AreWindows, map_after}
+use Rattle.vx_record.specs.Settling.{open_entries}
 use Rattle.vx_keeper.specs.Keepers.{known}
-use Rattle.vx_world.specs.Settlements.{caller_of}
+use Rattle.vx_world.specs.Settlements.{caller_of, sector_here, IsWindowHere}
+use Rattle.vx_world.proofs.Opened.{open_windows}
 use Rattle.vx_world.proofs.Settled.{as_many, all_home, settled}
 use Rattle.vx_world.proofs.lifted.Lifted.finish.Goals as goal
 
@@ -20,3 +25,16 @@ report-requires-clause-passes g c =
     let all : length lent ≡ length c.args.passes.items = ap length c.deref.ensures.value in
     let many : vec_len c.args.passes ≡ g.B.Seats.all = omega (arith, callers, passes, all, c.args.passes.ok.0) in
     many
+
+pub returns-clause-open : goal.returns-clause-open
+returns-clause-open g c =
+    let slots = c.args.self.slots.items in
+    let k = c.args.keeper in
+    let places = map sector_here slots in
+    let long : length places ≡ g.A.Places.all =
+    omega (arith, length-map slots sector_here, c.args.self.all_here, c.args.self.slots.ok.0) in
+    let all = recursion_from_All IsWindowHere places (All-map IsWindowHere sector_here slots c.report.ensures.open) in
+    let cells = (map_after k.chronicle.opening.terrain k.chronicle.ticks).sectors in
+    subst (AreWindows k.chronicle.opening.names k.world.version.policy cells)
+    (map-map open_entries sector_here slots ∙ sym c.report.ensures.windows)
+    (open_windows g.A.Naming.first g.A.Places.all k places c.soundness.ensures long c.in_default.ensures.1 all)

@@ -1,10 +1,11 @@
-ghost use Rattle.std.specs.Prelude.{◌≡◌, ◌++◌, ◌∷◌, List, [], None, Some, Ok, length, is_some, IsSome, IfOk, IfErr};
+ghost use Rattle.std.specs.Prelude.{◌≡◌, ◌++◌, ◌∷◌, List, [], None, Ok, length, is_some, IsSome, IfOk, IfErr};
 ghost use Rattle.vx_board.specs.Accepted.{IsAnswer, IsRefused};
 ghost use Rattle.vx_board.specs.declared.view_error.ViewError.TheVariants.{NoView};
 ghost use Rattle.vx_policy.specs.Asked.{Asked, asked};
 ghost use Rattle.vx_policy.specs.Edits.{after, AreAccepted};
 
 use crate::board::Board;
+use crate::first::First;
 use crate::front::Front;
 use crate::listed::Listed;
 use crate::locked::Locked;
@@ -30,8 +31,9 @@ where
     alloc: Global,
     factory: ReadHandleFactory<Posted<J>>,
     start: Front<J>,
-    // The first view, until it is handed out.
-    pub(crate) first: Option<View<J>>,
+    // The first view, until it is handed out. It has a lock, since threads share a desk and not a
+    // view.
+    pub(crate) first: Option<Mutex<First<J>>>,
     locked: Mutex<Locked<J, R>>,
     ghost no_edit: { start ≡ [] },
 }
@@ -46,7 +48,7 @@ impl<J: Board, R: Wait + Drop> Desk<J, R> {
     ) -> Result<Desk<J, R>, AllocError>
         requires first { policy ≡ J.first }
         requires edits { opened ≡ J.edits }
-        ensures { IfOk result (λ desk. desk.first ≡ Some []) }
+        ensures { IfOk result (λ desk. IsSome desk.first) }
     {
         let (head, start) = opened.named::<J>();
         let one = Posted::new(policy.try_clone()?, start.again());
@@ -61,13 +63,13 @@ impl<J: Board, R: Wait + Drop> Desk<J, R> {
         }
         writer.publish()?;
         let factory = writer.factory()?;
-        let first = View::new(alloc, factory.handle()?, start.again());
+        let view = View::new(alloc, factory.handle()?, start.again());
         let locked = Locked::new(alloc, head, start.again(), policy, writer);
         Ok(Desk {
             alloc,
             factory,
             start,
-            first: Some(first),
+            first: Some(Mutex::new(First { view })),
             locked: Mutex::new(locked),
         })
     }
@@ -117,12 +119,13 @@ impl<J: Board, R: Wait + Drop> Desk<J, R> {
         self.first.is_some()
     }
 
-    /// Hands out the first view.
+    /// Hands out the first view, which has seen no edit yet. It takes no lock.
     pub fn first_view(&mut self) -> View<J>
         requires { IsSome self.old.first }
-        ensures view { self.old.first ≡ Some result }
+        ensures view { result ≡ [] }
         ensures taken { self.new.first ≡ None }
     {
-        self.first.take().unwrap()
+        let first = self.first.take().unwrap();
+        first.into_inner().view
     }
 }

@@ -9,6 +9,7 @@ mod desk;
 mod desk_error;
 mod desk_state;
 mod edited;
+mod first;
 mod front;
 mod head;
 mod listed;

@@ -12,11 +12,12 @@ use Rattle.vx_world.specs.declared.settle_error.SettleError.{SettleError}
 use Rattle.vx_world.specs.declared.settle_error.SettleError.TheVariants.{Disagreement, NoMemory}
 
 -- the sector that is at home there, if one is
-abbrev pub sector_here : {A : Type 0} {P : _} {N : _} {H : _} → Slot A P N H → Option SectorData
+abbrev pub sector_here : {A : Type 0} {P : _} {E : _} {N : _} {H : _} → Slot A P E N H
+    → Option SectorData
 sector_here slot = option_map (λ home. home.marked) slot.home
 
 -- a sector is at home there
-abbrev pub is_home : {A : Type 0} {P : _} {N : _} {H : _} → Slot A P N H → Bool
+abbrev pub is_home : {A : Type 0} {P : _} {E : _} {N : _} {H : _} → Slot A P E N H → Bool
 is_home slot = is_some slot.home
 
 -- a sector is at home there that holds the position
@@ -25,7 +26,7 @@ IsHomeOf p None = ⊥
 IsHomeOf p (Some s) = holds s.cells p ≡ true
 
 -- how many entries it has, in closed windows too; none where it is away
-abbrev pub count_here : {A : Type 0} {P : _} {N : _} {H : _} → Slot A P N H → ℕ
+abbrev pub count_here : {A : Type 0} {P : _} {E : _} {N : _} {H : _} → Slot A P E N H → ℕ
 count_here slot = unwrap_or (option_map (λ home. count_of home.marked) slot.home) 0
 
 -- the entries of the sector there, if one is there, are a window over the cells with which it began,
@@ -35,8 +36,8 @@ IsWindowHere None = ⊤
 IsWindowHere (Some s) = IsWindow s.version.policy s.base s.entries
 
 -- who made the calls of a pass
-abbrev pub caller_of : {A B : Type 0} {P : _} {N : _} {H : _} {S : _} → Pass A B P N H S
-    → CallerData
+abbrev pub caller_of : {A B : Type 0} {P : _} {E : _} {N : _} {H : _} {S : _}
+    → Pass A B P E N H S → CallerData
 caller_of pass = record { seat = pass.seat.number; lists = pass.lists }
 
 -- what it found, by the error that it answers; memory is wanting only where all agree

@@ -18,17 +18,19 @@ use crossbeam_utils::CachePadded;
 use std::alloc::{AllocError, Global};
 use std::sync::Mutex;
 use std::sync::ledger::Share;
+use vx_board::View;
 use vx_keeper::{Keeper, Known, Marked, Places};
 use vx_record::{Lists, Opening};
 use vx_region::Name;
 use vx_sector::{Seat, Sector};
 use vx_stamp::Opened;
 
-/// The keeper of a world that opens so, its sectors under their locks, each with a part of the
-/// share, and room for the end of the world.
+/// The keeper of a world that opens so, with a view of its desk, its sectors under their locks, each
+/// with a part of the share, and room for the end of the world.
 pub fn kept<A: Places>(
     alloc: Global,
     opening: Opening,
+    view: View<A>,
     marks: Opened<Known>,
     rest: &mut Share<A>,
 ) -> Result<(Keeper<A>, Vec<CachePadded<Mutex<Slot<A>>>>, Room<A>), AllocError>
@@ -41,12 +43,13 @@ pub fn kept<A: Places>(
         kept.0.chronicle ≡ record { opening = opening; ticks = [] }) }
     ensures world { IfOk result (λ kept. kept.0.world
         ≡ record { map = opening.terrain; version = first_version opening.policy }) }
+    ensures seen { IfOk result (λ kept. kept.0.seen ≡ view) }
     ensures each { IfOk result (λ kept. vec_len kept.1 ≡ A.all) }
     ensures rest { OnOk result ((rest.new.parts ≡ 0) × (rest.new.amount ≡ 0)) }
 {
     opening.soundness();
     let room = Room::new(alloc, opening.terrain().sectors().len())?;
-    let (keeper, sectors) = Keeper::new(alloc, opening, marks.named())?;
+    let (keeper, sectors) = Keeper::new(alloc, opening, view, marks.named())?;
     let slots = locked(alloc, &keeper, sectors, rest)?;
     Ok((keeper, slots, room))
 }

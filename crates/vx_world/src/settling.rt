@@ -4,9 +4,10 @@ ghost use Rattle.std.specs.Prelude.{◌≡◌, ◌+◌, ◌*◌, ◌≤◌, [], 
 ghost use Rattle.vx_record.specs.Chronicles.{AreWindows, IsRun, map_after};
 ghost use Rattle.vx_record.specs.Records.{chronicle_in};
 ghost use Rattle.vx_windows.specs.Sectors.{entries_in};
+ghost use Rattle.vx_record.specs.Archives.{calls_on};
 ghost use Rattle.vx_record.specs.Calls.{calls_in};
 ghost use Rattle.vx_record.specs.Settling.{IsFound, open_entries};
-ghost use Rattle.vx_keeper.specs.Keepers.{known};
+ghost use Rattle.vx_keeper.specs.Keepers.{AreByEdits, known};
 ghost use Rattle.vx_world.specs.Settlements.{found_by, sector_here, caller_of, count_here, is_home, IsWindowHere};
 
 use crate::books::Books;
@@ -49,6 +50,8 @@ impl<A: Places, B: Seats> Lifted<A, B> {
             ≡ map (λ slot. open_entries (sector_here slot)) self.slots.items) }
         ensures version { IfOk result (λ report. report.version ≡ keeper.world.version) }
         ensures run { IfOk result (λ report. IsRun (chronicle_in report.chronicle)) }
+        ensures edits { IfOk result (λ report. AreByEdits A.first keeper.seen
+            (chronicle_in report.chronicle).ticks report.version) }
         // Each open window follows the chronicle's ticks.
         ensures open { IfOk result (λ report. AreWindows keeper.chronicle.opening.names
             keeper.world.version.policy
@@ -58,6 +61,8 @@ impl<A: Places, B: Seats> Lifted<A, B> {
             report.calls ≡ sum_by (λ pass. calls_in pass.lists) passes.items) }
         ensures entries { IfOk result (λ report.
             report.calls ≡ sum_by count_here self.slots.items) }
+        ensures recorded { IfOk result (λ report. report.calls
+            ≡ calls_on (chronicle_in report.chronicle).ticks (map entries_in report.windows.items)) }
     {
         let found = self.found(&keeper, &passes);
         if let Some(fault) = found {

@@ -14,7 +14,6 @@ use crate::world::World;
 use std::alloc::Global;
 use std::sync::Wait;
 use std::thread::Threads;
-use vx_board::Desk;
 use vx_geom::Pos;
 use vx_keeper::{Keeper, Marked, Places, TickError};
 use vx_sector::Sector;
@@ -24,9 +23,9 @@ use vx_tick::Fate;
 impl<A: Places, B: Seats> World<A, B> {
     /// Makes a tick: takes each sector out of its lock, makes the tick of them all by the version
     /// that judged their windows, on 1 to 8 threads, and puts each back in its next window, which
-    /// the policy judges that stands at the desk. It tells what becomes of the pistons' moves, in
-    /// the order of positions. Where no tick is made, for want of memory too, the sectors are put
-    /// back as they were, and the keeper knows what it knew.
+    /// the policy judges that the keeper sees by then. It tells what becomes of the pistons' moves,
+    /// in the order of positions. Where no tick is made, for want of memory or of a view too, the
+    /// sectors are put back as they were, and the keeper knows what it knew.
     pub fn tick<R: Threads + Wait + Sync, G: Gate + Sync>(
         &self,
         rt: &R,
@@ -48,7 +47,7 @@ impl<A: Places, B: Seats> World<A, B> {
         }
         let mut taken = Taken::with_room(alloc, self.slots.len())?;
         self.take_all(rt, keeper, &mut taken);
-        let made = make(rt, alloc, &self.desk, keeper, &mut taken, workers, gate);
+        let made = make(rt, alloc, keeper, &mut taken, workers, gate);
         self.put_all(rt, keeper, taken);
         made
     }
@@ -107,7 +106,6 @@ fn marked<A: Places>(keeper: &Keeper<A>, sector: Sector, is_part: bool) -> Marke
 fn make<A: Places, R: Threads + Wait + Sync, G: Gate + Sync>(
     rt: &R,
     alloc: Global,
-    desk: &Desk<A>,
     keeper: &mut Keeper<A>,
     taken: &mut Taken<A>,
     workers: usize,
@@ -132,7 +130,7 @@ fn make<A: Places, R: Threads + Wait + Sync, G: Gate + Sync>(
         are_parts,
         ..
     } = taken;
-    let fates = tick_of(rt, alloc, desk, keeper, sectors, are_parts, workers, gate)?;
+    let fates = tick_of(rt, alloc, keeper, sectors, are_parts, workers, gate)?;
     taken.are_all_parts();
     Ok(fates)
 }
@@ -141,7 +139,6 @@ fn make<A: Places, R: Threads + Wait + Sync, G: Gate + Sync>(
 fn tick_of<A: Places, R: Threads + Wait + Sync, G: Gate + Sync>(
     rt: &R,
     alloc: Global,
-    desk: &Desk<A>,
     keeper: &mut Keeper<A>,
     sectors: &mut [Sector],
     are_parts: &[bool],
@@ -162,7 +159,7 @@ fn tick_of<A: Places, R: Threads + Wait + Sync, G: Gate + Sync>(
     ensures parts { OnOk result (All (IsPartOf keeper.new.world) sectors.new) }
 {
     let work = keeper.work(rt, alloc, sectors, are_parts, workers, gate)?;
-    let version = desk.fix(rt, keeper.next_number())?;
+    let version = keeper.fix()?;
     let ready = keeper.fresh(alloc, sectors, work, version)?;
     Ok(keeper.close(sectors, ready))
 }

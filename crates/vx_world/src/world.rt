@@ -21,7 +21,7 @@ use crossbeam_utils::CachePadded;
 use std::alloc::{AllocError, Global};
 use std::sync::{Condvar, Mutex, Wait};
 use vx_block::Part;
-use vx_board::Desk;
+use vx_board::View;
 use vx_geom::{Bounds, Pos};
 use vx_keeper::{Keeper, Places};
 use vx_record::Opening;
@@ -37,7 +37,6 @@ pub struct World<A: Places, B: Seats> {
     pub(crate) came: Condvar,
     seats: u8,
     pub(crate) room: Mutex<Room<A>>,
-    pub(crate) desk: Desk<A>,
     // Apart from the bounds and the slots, which every command reads.
     pub(crate) books: Mutex<Books<A, B>>,
     ghost all_here: { vec_len slots ≡ A.all },
@@ -55,7 +54,6 @@ impl<A: Places, B: Seats> Drop for World<A, B> {
             came: _came,
             seats: _,
             room: _room,
-            desk: _desk,
             books: _books,
         } = self;
     }
@@ -63,11 +61,12 @@ impl<A: Places, B: Seats> Drop for World<A, B> {
 
 impl<A: Places, B: Seats> World<A, B> {
     /// Opens a world: the world itself, its keeper, and a pass for each seat in order. The blanks
-    /// are those of the opening, and the types are named by them.
+    /// are those of the opening, and the types are named by them. The view is of the desk at which
+    /// the policy is edited: each tick takes from it the version for the next windows.
     pub fn new(
         alloc: Global,
         opening: Opening,
-        desk: Desk<A>,
+        view: View<A>,
         blanks: Blanks,
     ) -> Result<(World<A, B>, Keeper<A>, Vec<Pass<A, B>>), AllocError>
         requires places { (blanks.places.name ≡ A.name) × (blanks.places.parts ≡ A.parts) }
@@ -82,6 +81,7 @@ impl<A: Places, B: Seats> World<A, B> {
             opened.1.chronicle ≡ record { opening = opening; ticks = [] }) }
         ensures world { IfOk result (λ opened. opened.1.world
             ≡ record { map = opening.terrain; version = first_version opening.policy }) }
+        ensures seen { IfOk result (λ opened. opened.1.seen ≡ view) }
         ensures seats { IfOk result (λ opened.
             map (λ pass. seat_of pass.seat) opened.2.items ≡ seats_from 0 opening.names) }
         ensures empty { IfOk result (λ opened.
@@ -105,10 +105,10 @@ impl<A: Places, B: Seats> World<A, B> {
             &mut place_rest,
             &mut seat_rest,
         )?;
-        let (keeper, slots, room) = kept(alloc, opening, marks, &mut place_rest)?;
+        let (keeper, slots, room) = kept(alloc, opening, view, marks, &mut place_rest)?;
         let books = Books::new(in_sectors, on_lists, place_rest, seat_rest);
         Ok((
-            World::of(bounds, slots, books, desk, room, number),
+            World::of(bounds, slots, books, room, number),
             keeper,
             passes,
         ))
@@ -119,7 +119,6 @@ impl<A: Places, B: Seats> World<A, B> {
         bounds: Bounds,
         slots: Vec<CachePadded<Mutex<Slot<A>>>>,
         books: Books<A, B>,
-        desk: Desk<A>,
         room: Room<A>,
         seats: u8,
     ) -> World<A, B>
@@ -134,15 +133,9 @@ impl<A: Places, B: Seats> World<A, B> {
             slots,
             came: Condvar::new(),
             books: Mutex::new(books),
-            desk,
             room: Mutex::new(room),
             seats,
         }
-    }
-
-    /// The desk where the policy is edited.
-    pub fn desk(&self) -> &Desk<A> {
-        &self.desk
     }
 
     /// Carries out a command from the seat of a pass under the lock of its sector, by the rules of
@@ -217,7 +210,6 @@ impl<A: Places, B: Seats> World<A, B> {
             came: _came,
             seats,
             room,
-            desk: _desk,
             books,
         } = self;
         Lifted::new(room.into_inner().filled(slots), books.into_inner(), seats)

@@ -1,9 +1,15 @@
-use Rattle.std.proofs.Common.{◌≡◌, length, ap, ◌∙◌, arith}
-use Rattle.std.proofs.lemmas.List.Elements.{All-rest}
+use Rattle.std.proofs.Common.{◌≡◌, length, ap, ◌∙◌, subst, arith}
+use Rattle.std.proofs.lemmas.List.Elements.{All-head, All-rest}
+use Rattle.std.specs.List.{All}
 use Rattle.vx_sector.specs.SectorData.{SectorData}
 use Rattle.vx_sector.specs.Windows.{count_of}
 use Rattle.vx_keeper.specs.Marks.{IsPartOf}
 use Rattle.vx_world.proofs.opening.locked.Goals as goal
+
+pub locked_slot-requires-clause-none : goal.locked_slot-requires-clause-none
+locked_slot-requires-clause-none g c =
+    let P : SectorData → Type 0 = λ s. count_of s ≡ 0 in
+    All-head P _ _ (subst (All P) c.in-Some.ensures.steps.0 c.loop-sector.invariant.0)
 
 pub loop-sector-preserved : goal.loop-sector-preserved
 loop-sector-preserved g c =

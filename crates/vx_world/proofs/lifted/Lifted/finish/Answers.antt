@@ -3,11 +3,12 @@ use Rattle.std.specs.Vec.{vec_len}
 use Rattle.std.proofs.lemmas.List.{length-map}
 use Rattle.std.proofs.lemmas.List.Elements.{All-map, recursion_from_All}
 use Rattle.std.proofs.lemmas.Simd.{map-map}
-use Rattle.vx_record.specs.Chronicles.{AreWindows, map_after}
+use Rattle.vx_record.specs.Chronicles.{AreWindows, ChronicleData, map_after}
+use Rattle.vx_record.specs.Archives.{calls_on}
 use Rattle.vx_record.specs.Settling.{open_entries}
-use Rattle.vx_keeper.specs.Keepers.{known}
+use Rattle.vx_keeper.specs.Keepers.{AreByEdits, known}
 use Rattle.vx_world.specs.Settlements.{caller_of, sector_here, IsWindowHere}
-use Rattle.vx_world.proofs.Opened.{open_windows}
+use Rattle.vx_world.proofs.Opened.{all_on_record, counts_here, open_windows}
 use Rattle.vx_world.proofs.Settled.{as_many, all_home, settled}
 use Rattle.vx_world.proofs.lifted.Lifted.finish.Goals as goal
 
@@ -38,3 +39,21 @@ returns-clause-open g c =
     subst (AreWindows k.chronicle.opening.names k.world.version.policy cells)
     (map-map open_entries sector_here slots ∙ sym c.report.ensures.windows)
     (open_windows g.A.Naming.first g.A.Places.all k places c.soundness.ensures long c.in_default.ensures.1 all)
+
+pub returns-clause-recorded : goal.returns-clause-recorded
+returns-clause-recorded g c =
+    let slots = c.args.self.slots.items in
+    let k = c.args.keeper in
+    let places = map sector_here slots in
+    let long : length places ≡ g.A.Places.all =
+    omega (arith, length-map slots sector_here, c.args.self.all_here, c.args.self.slots.ok.0) in
+    c.report.ensures.entries ∙ counts_here (λ slot. slot.home) (λ home. home.marked) slots
+    ∙ all_on_record g.A.Naming.first g.A.Places.all k places c.soundness.ensures long c.in_default.ensures.1
+    ∙ (λ i. calls_on (sym (ap (λ (d : ChronicleData). d.ticks) c.report.ensures.chronicle) i)
+    ((map-map open_entries sector_here slots ∙ sym c.report.ensures.windows) i))
+
+pub returns-clause-edits : goal.returns-clause-edits
+returns-clause-edits g c =
+    subst (λ (d : ChronicleData). AreByEdits g.A.Naming.first c.args.keeper.seen d.ticks c.report.result.version) (sym c.report.ensures.chronicle)
+    (subst (AreByEdits g.A.Naming.first c.args.keeper.seen c.args.keeper.chronicle.ticks) (sym c.report.ensures.version)
+    c.soundness.ensures.edits)

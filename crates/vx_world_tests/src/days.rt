@@ -1,14 +1,14 @@
 //! Worlds that are opened for a test, each in a function that is generic in their ledgers.
 ghost use Rattle.std.specs.Prelude.{◌≡◌, ◌+◌, ◌*◌, length};
 
-use crate::{gates, passes, refused, ticks, torn};
+use crate::{gates, machines, passes, refused, ticks, torn};
 use std::alloc::Global;
 use std::marker::Brand;
 use std::process::Abort;
 use std::sync::Wait;
 use std::test::Fail;
 use std::thread::Threads;
-use vx_board::Desk;
+use vx_board::{Desk, Opened};
 use vx_geom::{Bounds, Pos};
 use vx_keeper::{Keeper, Places};
 use vx_policy::Policy;
@@ -17,7 +17,7 @@ use vx_region::Name;
 use vx_sector::Cmd;
 use vx_world::{Blanks, Lifted, Pass, Seats, World};
 
-/// What is done with a world of ann, bob and cyd, of two sectors with their border at x 15/16.
+/// What is done with a world of ann, bob and cyd, whose sectors have their first border at x 15/16.
 #[derive(Clone, Copy)]
 pub enum Day {
     /// A command waits at the gate in one sector while one in the other is answered.
@@ -34,6 +34,10 @@ pub enum Day {
     EditsCountNext,
     /// What memory was refused to is called again.
     MadeAgain,
+    /// Machines step, with so many workers, in a world of three sectors.
+    Machines(usize),
+    /// A chest is filled and emptied, in the same world.
+    Chest,
 }
 
 /// Opens a world and spends the day in it.
@@ -42,18 +46,30 @@ pub fn spend<R: Threads + Wait + Abort + Sync>(
     alloc: Global,
     day: Day,
 ) -> Result<(), Fail> {
-    let opening = opening(alloc)?;
+    let opening = opening(alloc, day)?;
     let blanks = Blanks::new(&opening);
-    spend_in::<Brand, Brand, R>(rt, alloc, opening, blanks, day)
+    spend_in::<Brand, Brand, R>(rt, alloc, opening, blanks, Opened::new(), day)
 }
 
-fn opening(alloc: Global) -> Result<Opening, Fail> {
+fn opening(alloc: Global, day: Day) -> Result<Opening, Fail> {
+    match day {
+        Day::Machines(_) | Day::Chest => machines::opening(alloc, players(alloc)?),
+        _ => empty(alloc),
+    }
+}
+
+// Two sectors of air, without regions.
+fn empty(alloc: Global) -> Result<Opening, Fail> {
     let bounds = Bounds::new(2, 1, 1).ok_or("no bounds")?;
+    Ok(Opening::new(alloc, bounds, players(alloc)?, Policy::new(alloc)?)?)
+}
+
+fn players(alloc: Global) -> Result<Vec<Name>, Fail> {
     let mut names = Vec::with_capacity(alloc, 3)?;
     for text in ["ann", "bob", "cyd"] {
         names.push(Name::read(text).map_err(|_| "no name")?)?;
     }
-    Ok(Opening::new(alloc, bounds, names, Policy::new(alloc)?)?)
+    Ok(names)
 }
 
 fn spend_in<A: Places + Send + Sync, B: Seats + Send + Sync, R: Threads + Wait + Abort + Sync>(
@@ -61,6 +77,7 @@ fn spend_in<A: Places + Send + Sync, B: Seats + Send + Sync, R: Threads + Wait +
     alloc: Global,
     opening: Opening,
     blanks: Blanks,
+    edits: Opened,
     day: Day,
 ) -> Result<(), Fail>
     requires places { (blanks.places.name ≡ A.name) × (blanks.places.parts ≡ A.parts) }
@@ -69,10 +86,12 @@ fn spend_in<A: Places + Send + Sync, B: Seats + Send + Sync, R: Threads + Wait +
     requires sectors { (length opening.terrain.sectors ≡ A.all) × (A.parts ≡ A.all + B.all) }
     requires names { (length opening.names ≡ B.all) × (B.parts ≡ 2 * B.all) }
     requires first { opening.policy ≡ A.first }
+    requires edits { edits ≡ A.edits }
 {
-    let desk = Desk::new(alloc, opening.policy().try_clone()?);
-    let (world, mut keeper, mut passes) = World::<A, B>::new(alloc, opening, desk, blanks)?;
-    played(rt, alloc, day, &world, &mut keeper, &mut passes)?;
+    let mut desk = Desk::new(rt, alloc, opening.policy().try_clone()?, edits)?;
+    let view = desk.first_view();
+    let (world, mut keeper, mut passes) = World::<A, B>::new(alloc, opening, view, blanks)?;
+    played(rt, alloc, day, &world, &desk, &mut keeper, &mut passes)?;
     settled(rt, alloc, day, world.lift(), keeper, passes)
 }
 
@@ -82,17 +101,20 @@ fn played<A: Places + Send + Sync, B: Seats + Send + Sync, R: Threads + Wait + A
     alloc: Global,
     day: Day,
     world: &World<A, B>,
+    desk: &Desk<A, &R>,
     keeper: &mut Keeper<A>,
     passes: &mut [Pass<A, B>],
 ) -> Result<(), Fail> {
     match day {
         Day::TwoSectors => gates::two_sectors(rt, world, passes),
         Day::TwoWorkers => gates::two_workers(rt, alloc, world, keeper, passes),
-        Day::ThreePlayers => passes::three_players(rt, alloc, world, keeper, passes),
+        Day::ThreePlayers => passes::three_players(rt, alloc, world, desk, keeper, passes),
         Day::Tampered => torn::tampered(rt, alloc, world, keeper),
         Day::SeenAfterATick => ticks::seen_after_a_tick(rt, alloc, world, keeper, passes),
-        Day::EditsCountNext => ticks::edits_count_next(rt, alloc, world, keeper, passes),
+        Day::EditsCountNext => ticks::edits_count_next(rt, alloc, world, desk, keeper, passes),
         Day::MadeAgain => refused::made_again(rt, alloc, world, keeper, passes),
+        Day::Machines(workers) => machines::step(rt, alloc, world, keeper, passes, workers),
+        Day::Chest => machines::a_chest_is_kept(rt, world, passes),
     }
 }
 
@@ -148,4 +170,24 @@ fn an_edit_counts_from_the_next_window(rt: HostRuntime) -> Result<(), Fail> {
 #[test]
 fn what_was_refused_is_done_again(rt: HostRuntime) -> Result<(), Fail> {
     spend(&rt, rt.alloc(), Day::MadeAgain)
+}
+
+#[test]
+fn machines_step_by_one_worker(rt: HostRuntime) -> Result<(), Fail> {
+    spend(&rt, rt.alloc(), Day::Machines(1))
+}
+
+#[test]
+fn machines_step_by_two_workers(rt: HostRuntime) -> Result<(), Fail> {
+    spend(&rt, rt.alloc(), Day::Machines(2))
+}
+
+#[test]
+fn machines_step_by_eight_workers(rt: HostRuntime) -> Result<(), Fail> {
+    spend(&rt, rt.alloc(), Day::Machines(8))
+}
+
+#[test]
+fn a_chest_is_for_its_owner(rt: HostRuntime) -> Result<(), Fail> {
+    spend(&rt, rt.alloc(), Day::Chest)
 }

@@ -6,6 +6,10 @@ mod days;
 #[cfg(test)]
 mod gates;
 #[cfg(test)]
+mod machines;
+#[cfg(test)]
+mod noting;
+#[cfg(test)]
 mod passes;
 #[cfg(test)]
 mod refused;

@@ -8,18 +8,20 @@ use std::thread::Threads;
 use vx_block::{Cell, Part};
 use vx_cells::Stack;
 use vx_decide::Rule;
-use vx_geom::Pos;
+use vx_file::read_policy;
+use vx_geom::{Bounds, Pos};
 use vx_keeper::{Keeper, Places};
 use vx_record::Opening;
-use vx_region::RegionNo;
+use vx_region::{Name, RegionNo};
 use vx_sector::{Cmd, Refusal, Reply};
 use vx_step::NoGate;
 use vx_tick::Fate;
 use vx_world::{Pass, Seats, World};
 
-/// The regions: a column before the sticky piston, of which nobody is a member, and ann's, with a
-/// chest.
-pub const PLOTS: &str = "version = 1\n[[region]]\nid = 'nobodys'\ncuboid = [7, 0, 10, 7, 63, 10]\n[[region]]\nid = 'anns'\ncuboid = [5, 0, 14, 5, 63, 14]\nowners = ['ann']\n";
+// The regions: a column before the sticky piston, of which nobody is a member, and ann's, with a
+// chest.
+const PLOTS: &str =
+    "version = 1\n[[region]]\nid = 'nobodys'\ncuboid = [7, 0, 10, 7, 63, 10]\n[[region]]\nid = 'anns'\ncuboid = [5, 0, 14, 5, 63, 14]\nowners = ['ann']\n";
 
 // What stands at x 5 in the rows of these z: a lever before dust, a piston before twelve stones, a
 // sticky piston that can draw one, and a chest. Each piston has its lever to the south.
@@ -31,8 +33,17 @@ const STICKY: i32 = 10;
 
 const CHEST: i32 = 14;
 
-/// Puts down what stands in these rows.
-pub fn build(opening: &mut Opening) -> Result<(), Fail> {
+/// Three sectors, with these rows and regions.
+pub fn opening(alloc: Global, players: Vec<Name>) -> Result<Opening, Fail> {
+    let bounds = Bounds::new(3, 1, 1).ok_or("no bounds")?;
+    let policy = read_policy(alloc, PLOTS.as_bytes())?;
+    let mut opening = Opening::new(alloc, bounds, players, policy)?;
+    build(&mut opening)?;
+    Ok(opening)
+}
+
+// Puts down what stands in these rows.
+fn build(opening: &mut Opening) -> Result<(), Fail> {
     for (x, z, text) in [
         (5, DUST, "lever:down"),
         (5, PISTON, "piston:east"),
@@ -69,11 +80,7 @@ fn at(x: i32, z: i32) -> Pos {
 }
 
 /// Levers are turned, and dust, a push and a draw follow in the ticks after.
-pub fn machines_step<
-    A: Places + Send + Sync,
-    B: Seats + Send + Sync,
-    R: Threads + Wait + Abort + Sync,
->(
+pub fn step<A: Places + Send + Sync, B: Seats + Send + Sync, R: Threads + Wait + Abort + Sync>(
     rt: &R,
     alloc: Global,
     world: &World<A, B>,
@@ -98,10 +105,7 @@ fn push_and_reach<A: Places, B: Seats, R: Threads + Wait + Abort + Sync>(
     for z in [DUST, PISTON + 1, STICKY + 1] {
         turns(rt, world, ann, at(5, z));
     }
-    let moved = [
-        (at(5, PISTON), Fate::Moved),
-        (at(5, STICKY), Fate::Moved),
-    ];
+    let moved = [(at(5, PISTON), Fate::Moved), (at(5, STICKY), Fate::Moved)];
     ticks(rt, alloc, world, keeper, workers, &moved);
     for (x, z, text) in [
         (6, DUST, "dust:15"),
@@ -128,7 +132,14 @@ fn draw<A: Places, B: Seats, R: Threads + Wait + Abort + Sync>(
     turns(rt, world, ann, at(5, STICKY + 1));
     let denied = Fate::Denied(at(7, STICKY), Rule::Member { at: RegionNo(1) });
     for _ in 0..2 {
-        ticks(rt, alloc, world, keeper, workers, &[(at(5, STICKY), denied)]);
+        ticks(
+            rt,
+            alloc,
+            world,
+            keeper,
+            workers,
+            &[(at(5, STICKY), denied)],
+        );
     }
     sees(rt, world, ann, at(5, STICKY), "sticky:east:out");
 }
@@ -201,7 +212,13 @@ pub fn a_chest_is_kept<A: Places, B: Seats, R: Wait + Abort>(
         count: 64,
     };
     answers(rt, world, ann, take, Ok(Reply::Done(ANNS)));
-    answers(rt, world, ann, Cmd::Break(at(5, CHEST)), Ok(Reply::Done(ANNS)));
+    answers(
+        rt,
+        world,
+        ann,
+        Cmd::Break(at(5, CHEST)),
+        Ok(Reply::Done(ANNS)),
+    );
     Ok(())
 }
 
@@ -231,9 +248,12 @@ fn holds_one_stack<A: Places, B: Seats, R: Wait + Abort>(
     world: &World<A, B>,
     pass: &mut Pass<A, B>,
 ) {
-    let Ok(Reply::Opened(rule, contents)) =
-        world.submit(rt, pass, Cmd::OpenChest(at(5, CHEST)), &NoGate)
-    else {
+    let Ok(Reply::Opened(rule, contents)) = world.submit(
+        rt,
+        pass,
+        Cmd::OpenChest(at(5, CHEST)),
+        &NoGate,
+    ) else {
         panic!(rt; "not opened");
     };
     assert!(rt; rule == ANNS);

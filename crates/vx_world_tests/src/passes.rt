@@ -1,25 +1,29 @@
 //! Players on threads of their own, and the settlement of what they did.
 ghost use Rattle.std.specs.Prelude.{◌≡◌, ◌+◌, ◌*◌};
 
-use std::alloc::Global;
+use std::alloc::{AllocError, Global};
 use std::process::Abort;
 use std::sync::Wait;
 use std::test::Fail;
 use std::thread::{self, Threads};
 use vx_block::Part;
-use vx_geom::Pos;
+use vx_board::Desk;
+use vx_geom::{Pos, ShapeSpec};
 use vx_keeper::{Keeper, Places};
+use vx_policy::Edit;
 use vx_record::Fault;
 use vx_sector::Cmd;
 use vx_step::NoGate;
 use vx_world::{Lifted, Pass, Report, Seats, SettleError, Unsettled, World};
 
-// How many calls each player makes, and how many ticks are made meanwhile.
+// How many calls each player makes, and how many ticks and edits are made meanwhile.
 const CALLS: i32 = 100;
 
 const TICKS: u64 = 5;
 
-/// Three players call at once while ticks are made, and each tick is made.
+const EDITS: i32 = 20;
+
+/// Three players call at once while ticks are made and the policy is edited, and each tick is made.
 pub fn three_players<
     A: Places + Send + Sync,
     B: Seats + Send + Sync,
@@ -28,13 +32,14 @@ pub fn three_players<
     rt: &R,
     alloc: Global,
     world: &World<A, B>,
+    desk: &Desk<A, &R>,
     keeper: &mut Keeper<A>,
     passes: &mut [Pass<A, B>],
 ) -> Result<(), Fail> {
     let (ann, others) = passes.split_first_mut().ok_or("no pass")?;
     let (bob, others) = others.split_first_mut().ok_or("no pass")?;
     let (cyd, _) = others.split_first_mut().ok_or("no pass")?;
-    let (_, (_, (_, ticked))) = thread::join(
+    let (_, (_, (_, (edited, ticked)))) = thread::join(
         rt,
         || play(rt, world, ann),
         || {
@@ -45,13 +50,19 @@ pub fn three_players<
                     thread::join(
                         rt,
                         || play(rt, world, cyd),
-                        || tick(rt, alloc, world, keeper),
+                        || {
+                            thread::join(
+                                rt,
+                                || edit(rt, alloc, desk),
+                                || tick(rt, alloc, world, keeper),
+                            )
+                        },
                     )
                 },
             )
         },
     );
-    assert!(rt; ticked);
+    assert!(rt; edited && ticked);
     Ok(())
 }
 
@@ -65,6 +76,29 @@ fn play<A: Places, B: Seats, R: Wait>(rt: &R, world: &World<A, B>, pass: &mut Pa
             Cmd::Place(p, Part::Stone)
         };
         let _ = world.submit(rt, pass, cmd, &NoGate);
+    }
+}
+
+// Makes one column after another a plot of nobody, and tells whether all edits were accepted.
+fn edit<A: Places, R: Wait>(rt: &R, alloc: Global, desk: &Desk<A, &R>) -> bool {
+    let mut all = true;
+    for x in 0..EDITS {
+        all = plot(rt, alloc, desk, x).is_ok() && all;
+    }
+    all
+}
+
+fn plot<A: Places, R: Wait>(
+    rt: &R,
+    alloc: Global,
+    desk: &Desk<A, &R>,
+    x: i32,
+) -> Result<(), AllocError> {
+    let column = ShapeSpec::Cuboid(Pos::new(x, 0, 3), Pos::new(x, 63, 3));
+    let edit = Edit::Define(format!(in alloc; "plot{x}")?, column);
+    match desk.edit(rt, alloc, edit) {
+        Ok(_) => Ok(()),
+        Err(_) => Err(AllocError),
     }
 }
 

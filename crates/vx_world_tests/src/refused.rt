@@ -9,7 +9,7 @@ use std::test::Fail;
 use std::thread::Threads;
 use vx_block::Part;
 use vx_geom::Pos;
-use vx_keeper::{Keeper, Places};
+use vx_keeper::{Keeper, Places, TickError};
 use vx_sector::{Cmd, Refusal, Reply};
 use vx_step::NoGate;
 use vx_world::{Lifted, Pass, Seats, SettleError, Unsettled, World};
@@ -56,7 +56,8 @@ fn tick_again<A: Places, B: Seats, R: Threads + Wait + Abort + Sync>(
     world: &World<A, B>,
     keeper: &mut Keeper<A>,
 ) {
-    if world.tick(rt, alloc, keeper, 1, &NoGate).is_err() {
+    if let Err(error) = world.tick(rt, alloc, keeper, 1, &NoGate) {
+        assert!(rt; error == TickError::NoMemory);
         assert!(rt; keeper.archive().ticks().is_empty());
         assert!(rt; world.tick(rt, alloc, keeper, 1, &NoGate).is_ok());
     }

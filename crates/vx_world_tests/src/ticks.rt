@@ -5,6 +5,7 @@ use std::sync::Wait;
 use std::test::Fail;
 use std::thread::Threads;
 use vx_block::{Cell, Part};
+use vx_board::Desk;
 use vx_decide::Rule;
 use vx_geom::{Pos, ShapeSpec};
 use vx_keeper::{Keeper, Places};
@@ -85,24 +86,29 @@ pub fn edits_count_next<
     rt: &R,
     alloc: Global,
     world: &World<A, B>,
+    desk: &Desk<A, &R>,
     keeper: &mut Keeper<A>,
     passes: &mut [Pass<A, B>],
 ) -> Result<(), Fail> {
     let ann = passes.first_mut().ok_or("no pass")?;
-    plotted(rt, alloc, world)?;
+    plotted(rt, alloc, desk, keeper)?;
     is_denied_next(rt, alloc, world, keeper, ann);
     Ok(())
 }
 
-// A column becomes a plot of which nobody is a member.
-fn plotted<A: Places, B: Seats, R: Wait + Abort>(
+// A column becomes a plot of which nobody is a member, and the keeper is told.
+fn plotted<A: Places, R: Wait>(
     rt: &R,
     alloc: Global,
-    world: &World<A, B>,
+    desk: &Desk<A, &R>,
+    keeper: &mut Keeper<A>,
 ) -> Result<(), Fail> {
     let column = ShapeSpec::Cuboid(Pos::new(5, 0, 5), Pos::new(5, 63, 5));
     let plot = Edit::Define(String::from_str(alloc, "plot")?, column);
-    assert!(rt; world.desk().edit(rt, alloc, plot).is_ok());
+    let Ok(listed) = desk.edit(rt, alloc, plot) else {
+        return Err("no plot".into());
+    };
+    keeper.learn(&listed);
     Ok(())
 }
 

@@ -8,6 +8,9 @@ ghosts-spend_in-A-Ledger g a = record { name = a.blanks.places.name; parts = a.b
 abbrev pub ghosts-spend_in-A-Naming : goal.ghosts-spend_in-A-Naming
 ghosts-spend_in-A-Naming g a = record { first = a.opening.policy }
 
+abbrev pub ghosts-spend_in-A-Board : goal.ghosts-spend_in-A-Board
+ghosts-spend_in-A-Board g a = record { edits = a.edits }
+
 abbrev pub ghosts-spend_in-A-History : goal.ghosts-spend_in-A-History
 ghosts-spend_in-A-History g a = record { book = a.blanks.marks }
 

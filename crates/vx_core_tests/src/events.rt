@@ -63,7 +63,11 @@ fn told(rt: &impl Abort, core: &Core) -> Result<(), Fail> {
     assert!(rt; core.chronicle.ticks.len() == 1 && core.sectors.len() == 2);
     let bob = bob()?;
     first_tick(rt, &core.chronicle.ticks[0], bob);
-    has_entries(rt, core.sectors[0].entries(), &[entry(bob, stone(5, 2), DENIED)]);
+    has_entries(
+        rt,
+        core.sectors[0].entries(),
+        &[entry(bob, stone(5, 2), DENIED)],
+    );
     Ok(())
 }
 

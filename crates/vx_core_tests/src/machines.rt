@@ -63,7 +63,13 @@ const RIVALS: Placed<'static> = &[
 fn levels_of_a_sector_come_from_its_neighbor(rt: HostRuntime) -> Result<(), Fail> {
     let map = world(&rt, rt.alloc(), LINE)?;
     are_levels(&rt, rt.alloc(), &map, 0, &[(6, 15), (15, 6), (16, 5)])?;
-    are_levels(&rt, rt.alloc(), &map, 1, &[(15, 6), (16, 5), (20, 1), (21, 0)])?;
+    are_levels(
+        &rt,
+        rt.alloc(),
+        &map,
+        1,
+        &[(15, 6), (16, 5), (20, 1), (21, 0)],
+    )?;
     Ok(())
 }
 
@@ -132,7 +138,9 @@ fn is_asked(
     due: Option<&[Pos]>,
 ) -> Result<(), AllocError> {
     let asked = asked(rt, alloc, map, Pos::new(5, 1, 5))?;
-    let pushed = asked.as_ref().map(|m| m.push && matches!(m.facing, Dir::East));
+    let pushed = asked
+        .as_ref()
+        .map(|m| m.push && matches!(m.facing, Dir::East));
     same(rt, &pushed, &due.map(|_| true));
     same(rt, &asked.as_ref().map(|m| m.cells.as_slice()), &due);
     Ok(())

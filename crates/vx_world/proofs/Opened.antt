@@ -87,8 +87,13 @@ counts_here home f [] = refl
 counts_here {X} home f (s ∷ slots) =
     let here : X → ℕ = λ s. unwrap_or (option_map (λ h. count_of (f h)) (home s)) 0 in
     let there : X → Option SectorData = λ s. option_map f (home s) in
-    omega (arith, sum_by-cons here s slots, sum_by-cons count_in (there s) (map there slots), count_at f (home s),
-    counts_here home f slots)
+    omega (
+      arith,
+      sum_by-cons here s slots,
+      sum_by-cons count_in (there s) (map there slots),
+      count_at f (home s),
+      counts_here home f slots,
+    )
 
 -- all entries are those of the chronicle's windows and of the open ones
 pub all_on_record : (first : Regions) (many : ℕ) (k : KeeperData) (places : List (Option SectorData))

@@ -19,9 +19,9 @@ pub fn viewed<J: Board, R: Abort + Wait>(
     desk: &Desk<J, &R>,
     view: &mut View<J>,
 ) -> Result<(), Fail> {
-    learns(rt, alloc, desk, view, plot(alloc)?);
+    learns(rt, alloc, desk, view, plot(alloc)?)?;
     says(rt, view, ("bob", 5), (Verdict::Deny(member()), 1))?;
-    learns(rt, alloc, desk, view, owned(alloc)?);
+    learns(rt, alloc, desk, view, owned(alloc)?)?;
     says(rt, view, ("bob", 5), (Verdict::Permit(member()), 2))?;
     says(rt, view, ("ann", 6), (Verdict::Permit(Rule::Default), 2))?;
     fixes(rt, view)?;
@@ -42,11 +42,21 @@ fn learns<J: Board, R: Abort + Wait>(
     desk: &Desk<J, &R>,
     view: &mut View<J>,
     edit: Edit,
-) {
-    let listed = desk.edit(rt, alloc, edit);
-    assert!(rt; listed.is_ok());
-    if let Ok(listed) = listed {
-        view.learn(&listed);
+) -> Result<(), Fail> {
+    let listed = accepted(rt, alloc, desk, edit)?;
+    view.learn(&listed);
+    Ok(())
+}
+
+fn accepted<J: Board, R: Wait>(
+    rt: &R,
+    alloc: Global,
+    desk: &Desk<J, &R>,
+    edit: Edit,
+) -> Result<Listed<J>, Fail> {
+    match desk.edit(rt, alloc, edit) {
+        Ok(listed) => Ok(listed),
+        Err(_) => Err("no edit")?,
     }
 }
 
@@ -150,8 +160,5 @@ fn edited_again<J: Board, R: Abort + Wait>(
         Err(refused) => refused,
     };
     same(rt, &refused.error, &DeskError::NoMemory);
-    match desk.edit(rt, alloc, second) {
-        Ok(listed) => Ok(listed),
-        Err(_) => Err("no edit")?,
-    }
+    accepted(rt, alloc, desk, second)
 }

@@ -22,7 +22,7 @@ use vx_policy::{Edit, Policy, Version};
 /// A desk has at most so many views at once.
 const MAX_VIEWS: usize = 64;
 
-/// A desk that threads share: what edits change lies under a lock, and views of it take none.
+/// A desk that threads share. An edit takes its lock; a view takes none.
 #[derive(Drop)]
 pub struct Desk<J: Board, R: Wait + Drop>
 where
@@ -75,8 +75,8 @@ impl<J: Board, R: Wait + Drop> Desk<J, R> {
     }
 
     /// Accepts an edit or refuses it, as `DeskState::apply` does, by what stands when the lock is
-    /// taken. It tells the list that the edit stands last in, or on which it was refused. Views
-    /// that ask after this returns see an accepted edit.
+    /// taken. It tells the list that the edit stands last in, or on which it was refused. A view
+    /// that learns the answer sees the edit from then on.
     pub fn edit(&self, rt: &impl Wait, alloc: Global, edit: Edit) -> Result<Listed<J>, Refused<J>>
         ensures ok { IfOk result (λ listed. (before : List Asked) × AreAccepted J.first before
             × (listed.front ≡ before ++ asked edit ∷ [])

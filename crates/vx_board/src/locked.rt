@@ -12,8 +12,8 @@ use crate::board::Board;
 use crate::front::Front;
 use crate::head::Head;
 use crate::listed::Listed;
+use crate::next::{Next, make_next};
 use crate::posted::Posted;
-use crate::queue::{Next, make_next};
 use crate::refused::Refused;
 use crate::spares::Spares;
 use left_right::{Absorb, WriteHandle};
@@ -159,7 +159,7 @@ fn show<J: Board, R: Wait + Drop>(
     ensures shown { published writer.new ≡ posted }
     ensures none_left { pending writer.new ≡ [] }
 {
-    // The log of the writer has room for two, and no more than one is ever left in it.
+    // The writer's log got its room as the desk was opened, and is never longer than then.
     if writer.append(posted).is_err() {
         stop(rt);
     }

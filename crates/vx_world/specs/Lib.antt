@@ -1,3 +1,4 @@
 pub mod Openings
+pub mod Reserves
 pub mod Settlements
 pub mod Ticks

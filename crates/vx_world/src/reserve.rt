@@ -1,5 +1,5 @@
 ghost use Rattle.std.specs.Prelude.{◌≡◌, ◌+◌, ◌<◌, ◌≤◌};
-ghost use Rattle.vx_world.specs.declared.reserve.TheConstants.{AT_ONCE};
+ghost use Rattle.vx_world.specs.Reserves.{most_reserved};
 
 use crate::books::Books;
 use crate::patience::patiently;
@@ -19,7 +19,7 @@ pub struct Reserve<A: Ledger, B: Ledger> {
     ghost parts: { seats.parts ≡ places.parts },
     ghost in_sectors: { places.amount ≡ left },
     ghost on_lists: { seats.amount ≡ left },
-    ghost few: { left ≤ AT_ONCE },
+    ghost few: { left ≤ most_reserved },
 }
 
 impl<A: Ledger, B: Ledger> Reserve<A, B> {

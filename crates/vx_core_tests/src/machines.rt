@@ -37,18 +37,21 @@ const REPEATER: Placed<'static> = &[
     (6, 1, 5, "repeater:east:4:off:0"),
 ];
 
+// A piston before eleven stones.
 const PISTON: Placed<'static> = &[
     (5, 1, 5, "piston:east:in"),
     (5, 1, 6, "lever:down:on"),
     (6, 1, 5, "stone"),
-    (7, 1, 5, "glass"),
-];
-
-const STOPPED: Placed<'static> = &[
-    (5, 1, 5, "piston:east:in"),
-    (5, 1, 6, "lever:down:on"),
-    (6, 1, 5, "stone"),
-    (7, 1, 5, "obsidian"),
+    (7, 1, 5, "stone"),
+    (8, 1, 5, "stone"),
+    (9, 1, 5, "stone"),
+    (10, 1, 5, "stone"),
+    (11, 1, 5, "stone"),
+    (12, 1, 5, "stone"),
+    (13, 1, 5, "stone"),
+    (14, 1, 5, "stone"),
+    (15, 1, 5, "stone"),
+    (16, 1, 5, "stone"),
 ];
 
 // Two pistons that both want the cell between them.
@@ -91,6 +94,20 @@ fn are_levels(
 }
 
 #[test]
+fn dust_gets_its_levels(rt: HostRuntime) -> Result<(), Fail> {
+    let map = world(&rt, rt.alloc(), LINE)?;
+    let mut due = Vec::new(rt.alloc());
+    for (x, text) in (6..16).zip([
+        "dust:15", "dust:14", "dust:13", "dust:12", "dust:11", "dust:10", "dust:9", "dust:8",
+        "dust:7", "dust:6",
+    ]) {
+        due.push((Pos::new(x, 1, 5), Cell::read(text).ok_or("no cell")?))?;
+    }
+    change_to(&rt, rt.alloc(), &map, &due)?;
+    Ok(())
+}
+
+#[test]
 fn a_repeater_begins_to_count(rt: HostRuntime) -> Result<(), Fail> {
     let map = world(&rt, rt.alloc(), REPEATER)?;
     let counting = Cell::read("repeater:east:4:off:3").ok_or("no cell")?;
@@ -114,23 +131,17 @@ fn change_to(
 }
 
 #[test]
-fn a_piston_asks_for_its_row(rt: HostRuntime) -> Result<(), Fail> {
-    let row = [5, 6, 7, 8].map(|x| Pos::new(x, 1, 5));
-    asks_for(&rt, rt.alloc(), PISTON, Some(row.as_slice()))?;
-    asks_for(&rt, rt.alloc(), STOPPED, None)
+fn a_piston_pushes_twelve_cells_and_no_more(rt: HostRuntime) -> Result<(), Fail> {
+    let mut map = world(&rt, rt.alloc(), PISTON)?;
+    map.set(Pos::new(17, 1, 5), Cell::Stone)?;
+    let row = [5, 6, 7, 8, 9, 10, 11, 12, 13, 14, 15, 16, 17, 18].map(|x| Pos::new(x, 1, 5));
+    is_asked(&rt, rt.alloc(), &map.frozen(), Some(row.as_slice()))?;
+    map.set(Pos::new(18, 1, 5), Cell::Stone)?;
+    is_asked(&rt, rt.alloc(), &map.frozen(), None)?;
+    Ok(())
 }
 
 // The piston on this map asks for a push of these cells, or for nothing.
-fn asks_for(
-    rt: &impl Abort,
-    alloc: Global,
-    placed: Placed,
-    due: Option<&[Pos]>,
-) -> Result<(), Fail> {
-    let map = world(rt, alloc, placed)?;
-    Ok(is_asked(rt, alloc, &map.frozen(), due)?)
-}
-
 fn is_asked(
     rt: &impl Abort,
     alloc: Global,

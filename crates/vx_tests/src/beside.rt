@@ -16,13 +16,18 @@ const TURNS: u64 = 1_000_000_000;
 
 const REGIONS: u32 = 2_000;
 
+// So many questions within one edit are no accident: an edit asks for the desk's lock at once, and
+// tells of its end as it has let the lock go.
+const WITHIN: u64 = 8;
+
 // What the two threads tell each other.
 #[derive(Drop)]
 struct Meeting {
     // Odd while an edit is under way.
     edits: AtomicU64,
+    refused: AtomicU64,
     explained: AtomicU64,
-    // An explain began and ended within one edit.
+    // So many questions were asked and answered within one edit.
     met: AtomicU64,
     given_up: AtomicU64,
 }
@@ -31,6 +36,7 @@ impl Meeting {
     fn new() -> Meeting {
         Meeting {
             edits: AtomicU64::new(0),
+            refused: AtomicU64::new(0),
             explained: AtomicU64::new(0),
             met: AtomicU64::new(0),
             given_up: AtomicU64::new(0),
@@ -41,14 +47,19 @@ impl Meeting {
         self.met.load(Ordering::SeqCst) != 0 || self.given_up.load(Ordering::SeqCst) != 0
     }
 
-    // Edits again and again, each time once the view has explained twice since the last.
+    // Edits again and again, each time once the view has explained twice since the last. A version
+    // is kept of each policy, so that an edit has many regions to copy.
     fn edit<J: Board, R: Wait>(&self, rt: &R, alloc: Global, desk: &Desk<J, &R>) {
         let mut due = 2;
+        let mut versions = Vec::new(alloc);
         for turn in 0..TURNS {
             if self.is_over() {
                 return;
             }
             if due <= self.explained.load(Ordering::SeqCst) {
+                if let Ok(version) = desk.fix(rt, turn) {
+                    let _ = versions.push(version);
+                }
                 self.edit_once(rt, alloc, desk, turn as i32);
                 due = self.explained.load(Ordering::SeqCst).saturating_add(2);
             }
@@ -65,12 +76,16 @@ impl Meeting {
     ) {
         if let Ok(id) = String::from_str(alloc, "r7") {
             self.edits.fetch_add(1, Ordering::SeqCst);
-            let _answer = desk.edit(rt, alloc, Edit::Priority(id, priority));
+            let is_refused = desk.edit(rt, alloc, Edit::Priority(id, priority)).is_err();
             self.edits.fetch_add(1, Ordering::SeqCst);
+            if is_refused {
+                self.refused.store(1, Ordering::SeqCst);
+            }
         }
     }
 
     fn explain<J: Board>(&self, view: &mut View<J>, bob: &Subject) {
+        let mut within: u64 = 0;
         for turn in 0..TURNS {
             if self.is_over() {
                 return;
@@ -78,7 +93,13 @@ impl Meeting {
             let before = self.edits.load(Ordering::SeqCst);
             let told = view.explain(bob, Action::Placing, Pos::new(5, 1, 5));
             let after = self.edits.load(Ordering::SeqCst);
-            if told.is_ok() && before == after && before % 2 == 1 {
+            let is_within = told.is_ok() && before == after && before % 2 == 1;
+            within = if is_within {
+                within.saturating_add(1)
+            } else {
+                0
+            };
+            if within == WITHIN {
                 self.met.store(1, Ordering::SeqCst);
             }
             self.explained.store(turn, Ordering::SeqCst);
@@ -87,8 +108,8 @@ impl Meeting {
     }
 }
 
-/// Two threads, of which one edits and the other explains, until an explain began and ended within
-/// one edit.
+/// Two threads, of which one edits and the other explains, until questions were asked and answered
+/// within one edit.
 pub fn explained_beside<J: Board + Send + Sync, R: Threads + Wait + Abort + Sync>(
     rt: &R,
     alloc: Global,
@@ -114,6 +135,7 @@ fn meet<J: Board + Send + Sync, R: Threads + Wait + Abort + Sync>(
         || meeting.explain(view, bob),
     );
     assert!(rt; meeting.met.load(Ordering::SeqCst) == 1);
+    assert!(rt; meeting.refused.load(Ordering::SeqCst) == 0);
 }
 
 /// A policy of many regions, side by side.

@@ -23,7 +23,7 @@ pub fn viewed<J: Board, R: Abort + Wait>(
     says(rt, view, ("bob", 5), (Verdict::Deny(member()), 1))?;
     learns(rt, alloc, desk, view, owned(alloc)?)?;
     says(rt, view, ("bob", 5), (Verdict::Permit(member()), 2))?;
-    says(rt, view, ("ann", 6), (Verdict::Permit(Rule::Default), 2))?;
+    uses(rt, view)?;
     fixes(rt, view)?;
     sees_all(rt, &mut desk.view()?)
 }
@@ -74,6 +74,14 @@ fn says<J: Board>(
         &view.explain(&player, Action::Placing, Pos::new(x, 1, 5)),
         &Ok(due),
     );
+    Ok(())
+}
+
+// Ann may turn a lever where there is no plot.
+fn uses<J: Board>(rt: &impl Abort, view: &mut View<J>) -> Result<(), Fail> {
+    let ann = Subject::Player(Name::read("ann")?);
+    let told = view.explain(&ann, Action::Turning, Pos::new(6, 1, 5));
+    same(rt, &told, &Ok((Verdict::Permit(Rule::Default), 2)));
     Ok(())
 }
 

@@ -1,7 +1,7 @@
 //! Worlds that are opened for a test, each in a function that is generic in their ledgers.
 ghost use Rattle.std.specs.Prelude.{◌≡◌, ◌+◌, ◌*◌, length};
 
-use crate::{gates, machines, passes, refused, ticks, torn};
+use crate::{explaining, gates, machines, passes, refused, ticks, torn};
 use std::alloc::Global;
 use std::marker::Brand;
 use std::process::Abort;
@@ -36,8 +36,10 @@ pub enum Day {
     MadeAgain,
     /// Machines step, with so many workers, in a world of three sectors.
     Machines(usize),
-    /// A chest is filled and emptied, in the same world.
-    Chest,
+    /// A view explains before and after an edit, and a command is made between.
+    Explained,
+    /// The desk is gone before a tick.
+    DeskGone,
 }
 
 /// Opens a world and spends the day in it.
@@ -53,7 +55,7 @@ pub fn spend<R: Threads + Wait + Abort + Sync>(
 
 fn opening(alloc: Global, day: Day) -> Result<Opening, Fail> {
     match day {
-        Day::Machines(_) | Day::Chest => machines::opening(alloc, players(alloc)?),
+        Day::Machines(_) => machines::opening(alloc, players(alloc)?),
         _ => empty(alloc),
     }
 }
@@ -92,6 +94,10 @@ fn spend_in<A: Places + Send + Sync, B: Seats + Send + Sync, R: Threads + Wait +
     let view = desk.first_view();
     let (world, mut keeper, mut passes) = World::<A, B>::new(alloc, opening, view, blanks)?;
     played(rt, alloc, day, &world, &desk, &mut keeper, &mut passes)?;
+    drop(desk);
+    if matches!(day, Day::DeskGone) {
+        torn::no_tick(rt, alloc, &world, &mut keeper, &mut passes)?;
+    }
     settled(rt, alloc, day, world.lift(), keeper, passes)
 }
 
@@ -114,7 +120,8 @@ fn played<A: Places + Send + Sync, B: Seats + Send + Sync, R: Threads + Wait + A
         Day::EditsCountNext => ticks::edits_count_next(rt, alloc, world, desk, keeper, passes),
         Day::MadeAgain => refused::made_again(rt, alloc, world, keeper, passes),
         Day::Machines(workers) => machines::step(rt, alloc, world, keeper, passes, workers),
-        Day::Chest => machines::a_chest_is_kept(rt, world, passes),
+        Day::Explained => explaining::explained_and_done(rt, alloc, world, desk, passes),
+        Day::DeskGone => Ok(()),
     }
 }
 
@@ -188,6 +195,11 @@ fn machines_step_by_eight_workers(rt: HostRuntime) -> Result<(), Fail> {
 }
 
 #[test]
-fn a_chest_is_for_its_owner(rt: HostRuntime) -> Result<(), Fail> {
-    spend(&rt, rt.alloc(), Day::Chest)
+fn a_view_explains_beside_a_command(rt: HostRuntime) -> Result<(), Fail> {
+    spend(&rt, rt.alloc(), Day::Explained)
+}
+
+#[test]
+fn no_tick_is_made_without_a_desk(rt: HostRuntime) -> Result<(), Fail> {
+    spend(&rt, rt.alloc(), Day::DeskGone)
 }

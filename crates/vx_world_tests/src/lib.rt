@@ -2,7 +2,11 @@
 #![tactic(auto)]
 
 #[cfg(test)]
+mod chests;
+#[cfg(test)]
 mod days;
+#[cfg(test)]
+mod explaining;
 #[cfg(test)]
 mod gates;
 #[cfg(test)]

@@ -1,4 +1,6 @@
-//! Machines and a chest in a world of three sectors, played with one worker and with more.
+//! Machines in a world of three sectors, played with one worker and with more, and a chest beside
+//! them.
+use crate::chests::{CHEST, empty, fill};
 use crate::noting::Noting;
 use std::alloc::Global;
 use std::process::Abort;
@@ -6,14 +8,13 @@ use std::sync::Wait;
 use std::test::Fail;
 use std::thread::Threads;
 use vx_block::{Cell, Part};
-use vx_cells::Stack;
 use vx_decide::Rule;
 use vx_file::read_policy;
 use vx_geom::{Bounds, Pos};
 use vx_keeper::{Keeper, Places};
 use vx_record::Opening;
 use vx_region::{Name, RegionNo};
-use vx_sector::{Cmd, Refusal, Reply};
+use vx_sector::{Cmd, Reply};
 use vx_step::NoGate;
 use vx_tick::Fate;
 use vx_world::{Pass, Seats, World};
@@ -23,15 +24,16 @@ use vx_world::{Pass, Seats, World};
 const PLOTS: &str =
     "version = 1\n[[region]]\nid = 'nobodys'\ncuboid = [7, 0, 10, 7, 63, 10]\n[[region]]\nid = 'anns'\ncuboid = [5, 0, 14, 5, 63, 14]\nowners = ['ann']\n";
 
-// What stands at x 5 in the rows of these z: a lever before dust, a piston before twelve stones, a
-// sticky piston that can draw one, and a chest. Each piston has its lever to the south.
+// What stands at x 5 in the rows of these z, beside the chest: a lever before dust, a piston before
+// twelve stones, a sticky piston that can draw one, and a piston before thirteen stones. The first
+// two pistons have their lever to the south, the third has that of the sticky one to the north.
 const DUST: i32 = 2;
 
 const PISTON: i32 = 6;
 
 const STICKY: i32 = 10;
 
-const CHEST: i32 = 14;
+const TOO_MUCH: i32 = 12;
 
 /// Three sectors, with these rows and regions.
 pub fn opening(alloc: Global, players: Vec<Name>) -> Result<Opening, Fail> {
@@ -51,11 +53,13 @@ fn build(opening: &mut Opening) -> Result<(), Fail> {
         (5, STICKY, "sticky:east"),
         (5, STICKY + 1, "lever:down"),
         (7, STICKY, "stone"),
+        (5, TOO_MUCH, "piston:east"),
         (5, CHEST, "chest"),
     ] {
         put(opening, x, z, text)?;
     }
     put_row(opening, 21, DUST, "dust")?;
+    put_row(opening, 18, TOO_MUCH, "stone")?;
     put_row(opening, 17, PISTON, "stone")
 }
 
@@ -75,11 +79,13 @@ fn put(opening: &mut Opening, x: i32, z: i32, text: &str) -> Result<(), Fail> {
     }
 }
 
-fn at(x: i32, z: i32) -> Pos {
+/// A position in these rows.
+pub fn at(x: i32, z: i32) -> Pos {
     Pos::new(x, 1, z)
 }
 
-/// Levers are turned, and dust, a push and a draw follow in the ticks after.
+/// Levers are turned, and dust, a push and a draw follow in the ticks after. A chest that was filled
+/// before holds after them what it held.
 pub fn step<A: Places + Send + Sync, B: Seats + Send + Sync, R: Threads + Wait + Abort + Sync>(
     rt: &R,
     alloc: Global,
@@ -88,9 +94,12 @@ pub fn step<A: Places + Send + Sync, B: Seats + Send + Sync, R: Threads + Wait +
     passes: &mut [Pass<A, B>],
     workers: usize,
 ) -> Result<(), Fail> {
-    let ann = passes.first_mut().ok_or("no pass")?;
+    let (ann, others) = passes.split_first_mut().ok_or("no pass")?;
+    let bob = others.first_mut().ok_or("no pass")?;
+    fill(rt, world, ann);
     push_and_reach(rt, alloc, world, keeper, ann, workers);
     draw(rt, alloc, world, keeper, ann, workers);
+    empty(rt, world, ann, bob);
     Ok(())
 }
 
@@ -115,6 +124,8 @@ fn push_and_reach<A: Places, B: Seats, R: Threads + Wait + Abort + Sync>(
         (5, PISTON, "piston:east:out"),
         (6, PISTON, "head:east:plain"),
         (18, PISTON, "stone"),
+        (5, TOO_MUCH, "piston:east:in"),
+        (18, TOO_MUCH, "stone"),
     ] {
         sees(rt, world, ann, at(x, z), text);
     }
@@ -184,80 +195,4 @@ fn sees<A: Places, B: Seats, R: Wait + Abort>(
     let answer = world.submit(rt, pass, Cmd::Look(p), &gate);
     assert!(rt; answer == Ok(Reply::Seen(cell)));
     assert!(rt; gate.has_held(p.x / 16));
-}
-
-/// Ann fills her chest, nobody else looks into it, and it breaks once it is empty.
-pub fn a_chest_is_kept<A: Places, B: Seats, R: Wait + Abort>(
-    rt: &R,
-    world: &World<A, B>,
-    passes: &mut [Pass<A, B>],
-) -> Result<(), Fail> {
-    let (ann, others) = passes.split_first_mut().ok_or("no pass")?;
-    let bob = others.first_mut().ok_or("no pass")?;
-    for (cmd, due) in [
-        (put_in(0, 7, 64), Ok(Reply::Done(ANNS))),
-        (put_in(0, 7, 1), Err(Refusal::BadCount)),
-        (put_in(27, 7, 1), Err(Refusal::NoSlot)),
-        (put_in(0, 8, 1), Err(Refusal::OtherItem)),
-        (Cmd::Break(at(5, CHEST)), Err(Refusal::NotEmpty)),
-    ] {
-        answers(rt, world, ann, cmd, due);
-    }
-    holds_one_stack(rt, world, ann);
-    let open = Cmd::OpenChest(at(5, CHEST));
-    answers(rt, world, bob, open, Err(Refusal::Denied(ANNS)));
-    let take = Cmd::Take {
-        at: at(5, CHEST),
-        slot: 0,
-        count: 64,
-    };
-    answers(rt, world, ann, take, Ok(Reply::Done(ANNS)));
-    answers(
-        rt,
-        world,
-        ann,
-        Cmd::Break(at(5, CHEST)),
-        Ok(Reply::Done(ANNS)),
-    );
-    Ok(())
-}
-
-const ANNS: Rule = Rule::Member { at: RegionNo(2) };
-
-fn put_in(slot: u8, item: u16, count: u8) -> Cmd {
-    Cmd::Put {
-        at: at(5, CHEST),
-        slot,
-        item,
-        count,
-    }
-}
-
-fn answers<A: Places, B: Seats, R: Wait + Abort>(
-    rt: &R,
-    world: &World<A, B>,
-    pass: &mut Pass<A, B>,
-    cmd: Cmd,
-    due: Result<Reply, Refusal>,
-) {
-    assert!(rt; world.submit(rt, pass, cmd, &NoGate) == due);
-}
-
-fn holds_one_stack<A: Places, B: Seats, R: Wait + Abort>(
-    rt: &R,
-    world: &World<A, B>,
-    pass: &mut Pass<A, B>,
-) {
-    let Ok(Reply::Opened(rule, contents)) = world.submit(
-        rt,
-        pass,
-        Cmd::OpenChest(at(5, CHEST)),
-        &NoGate,
-    ) else {
-        panic!(rt; "not opened");
-    };
-    assert!(rt; rule == ANNS);
-    let stack = Stack { item: 7, count: 64 };
-    assert!(rt; contents.slots()[0] == Some(stack));
-    assert!(rt; contents.slots()[1..].iter().all(|slot| slot.is_none()));
 }

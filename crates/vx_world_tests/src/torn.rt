@@ -1,4 +1,4 @@
-//! A sector that was changed past the rules.
+//! Ticks that can't be made: a sector was changed past the rules, or the desk is gone.
 ghost use Rattle.std.specs.Prelude.{◌≡◌, ◌+◌, ◌*◌};
 
 use std::alloc::Global;
@@ -10,6 +10,7 @@ use vx_block::Part;
 use vx_geom::Pos;
 use vx_keeper::{Keeper, Places, TickError};
 use vx_record::Fault;
+use vx_sector::Cmd;
 use vx_step::NoGate;
 use vx_world::{Lifted, Pass, Seats, SettleError, World};
 
@@ -55,4 +56,23 @@ fn is_torn<A: Places, B: Seats, R: Threads + Wait + Abort + Sync>(
     let made = world.tick(rt, alloc, keeper, 1, &NoGate);
     assert!(rt; matches!(made, Err(TickError::Torn(1))));
     assert!(rt; keeper.archive().ticks().len() == 1);
+}
+
+/// Without a desk no tick is made, and the world is played on as it was.
+pub fn no_tick<A: Places, B: Seats, R: Threads + Wait + Abort + Sync>(
+    rt: &R,
+    alloc: Global,
+    world: &World<A, B>,
+    keeper: &mut Keeper<A>,
+    passes: &mut [Pass<A, B>],
+) -> Result<(), Fail> {
+    let ann = passes.first_mut().ok_or("no pass")?;
+    for x in [5, 20] {
+        let made = world.tick(rt, alloc, keeper, 1, &NoGate);
+        assert!(rt; matches!(made, Err(TickError::NoView)));
+        assert!(rt; keeper.archive().ticks().is_empty());
+        let placed = Cmd::Place(Pos::new(x, 1, 5), Part::Stone);
+        assert!(rt; world.submit(rt, ann, placed, &NoGate).is_ok());
+    }
+    Ok(())
 }

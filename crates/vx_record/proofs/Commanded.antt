@@ -1,17 +1,11 @@
--- What the commands of a window leave at a position.
+-- What each command of a window leaves at a position.
 use Rattle.std.proofs.Common.{◌≡◌, ◌≢◌, ◌⊎◌, ℕ, true, false, List, [], ◌∷◌, ◌++◌, Option, Some, None, Result, Ok, Err, refl, sym, ap, ◌∙◌, subst, inl, inr}
 use Rattle.std.specs.Option.{option_map_or}
 use Rattle.std.proofs.lemmas.List.Elements.{All-head, All-tail}
-use Rattle.std.specs.Prelude.{nat_eq, ◌&&◌}
-use Rattle.std.specs.Bool.{Decides}
-use Rattle.std.proofs.lemmas.Bool.{cases_Bool}
-use Rattle.std.proofs.lemmas.Bool.Decides.{Decides-and, Decides-like, not_from_Decides}
+use Rattle.std.specs.Prelude.{nat_eq}
 use Rattle.vx_geom.specs.declared.pos.Pos.{Pos}
 use Rattle.vx_geom.specs.Sizes.{AreSizes, sector_of}
-use Rattle.vx_cells.specs.CellsLaws.{cell_decided}
-use Rattle.vx_cells.specs.SameCells.{same_cell}
-use Rattle.vx_cells.specs.SameSlots.{same_slots, slots_decided}
-use Rattle.vx_cells.specs.SectorCells.{SectorCells, Block, IsWhole, holds, block_at}
+use Rattle.vx_cells.specs.SectorCells.{SectorCells, IsWhole, holds, block_at}
 use Rattle.vx_flag.specs.declared.action.Action.{Action}
 use Rattle.vx_flag.specs.declared.action.Action.TheVariants.{Placing, Breaking, Turning, Reaching}
 use Rattle.vx_region.specs.Regions.{Regions}
@@ -33,7 +27,7 @@ use Rattle.vx_sector.proofs.Outside.{answered_by_the_rules}
 use Rattle.vx_tick.proofs.Puts.{cases_place}
 use Rattle.vx_windows.specs.Sectors.{opened_with}
 use Rattle.vx_record.specs.Chronicles.{IsSeatOf, AreSeated}
-use Rattle.vx_record.specs.Owners.{as_built, standing_after, HasLeave}
+use Rattle.vx_record.specs.Owners.{as_built, standing_after, HasLeave, IsByCommand}
 
 said : {X : Type 0} (o : Option Refusal) (x y : X) → ok_unless o x ≡ Ok y → x ≡ y
 said None x y same = cc
@@ -113,46 +107,7 @@ same_holds : (c d : SectorCells) (p : Pos) → d.bounds ≡ c.bounds → d.secto
 unfolding holds
 same_holds c d p bounds sector = λ i. option_map_or (nat_eq (sector i)) (sector_of (bounds i) p) false
 
-one_or_not : (a b : Block) → (a ≡ b) ⊎ (a ≢ b)
-one_or_not a b = elim (cases_Bool (same_cell a.cell b.cell && same_slots a.slots b.slots)) [
-  | inl same ↦ inl (one.0 same)
-  | inr other ↦ inr (not_from_Decides _ one other)
-]
-  where
-    one : Decides (same_cell a.cell b.cell && same_slots a.slots b.slots) (a ≡ b)
-    one =
-        Decides-like _
-        (λ h i. record { cell = h.0 i; slots = h.1 i })
-        (λ e. (ap (λ (d : Block). d.cell) e, ap (λ (d : Block). d.slots) e))
-        (Decides-and _ _ (cell_decided a.cell b.cell) (slots_decided a.slots b.slots))
-
 module _ (names : List (List ℕ)) (policy : Regions) where
-  -- an entry of the window changed what stands at the position, by leave, and those after it left it
-  pub record IsByEntry (c : SectorCells) (window : List EntryData) (p : Pos) : Type 0 where
-    pub earlier : List EntryData
-    pub entry : EntryData
-    pub later : List EntryData
-    pub all : window ≡ earlier ++ entry ∷ later
-    pub seat : IsSeatOf names entry.seat
-    pub place : place_of entry.cmd ≡ p
-    pub leave : HasLeave policy entry
-    pub changed : standing_after c (earlier ++ entry ∷ []) p ≢ standing_after c earlier p
-    pub left : standing_after c window p ≡ standing_after c (earlier ++ entry ∷ []) p
-
-  one_more : (c : SectorCells) (e : EntryData) (window : List EntryData) (p : Pos)
-      → IsByEntry (cells_by c e.cmd e.answer) window p → IsByEntry c (e ∷ window) p
-  one_more c e window p by = record {
-    earlier = e ∷ by.earlier;
-    entry = by.entry;
-    later = by.later;
-    all = ap (λ es. e ∷ es) by.all;
-    seat = by.seat;
-    place = by.place;
-    leave = by.leave;
-    changed = by.changed;
-    left = by.left;
-  }
-
   -- the sector stays in its place, and whole
   pub window_keeps : (c : SectorCells) (window : List EntryData) → IsWhole c → IsWindow policy c window
       → IsWhole (cells_after c window) × ((cells_after c window).bounds ≡ c.bounds)
@@ -163,39 +118,26 @@ module _ (names : List (List ℕ)) (policy : Regions) where
       let rest = window_keeps (cells_by c e.cmd e.answer) window first.0 is.2 in
       (rest.0, rest.1 ∙ first.1, rest.2 ∙ first.2)
 
-  -- what stands at a position stays, or an entry changed it by leave
-  pub window_leaves : (c : SectorCells) (window : List EntryData) (p : Pos) → AreSizes c.bounds → IsWhole c
-      → holds c p ≡ true → IsWindow policy c window → AreSeated names window
-      → (standing_after c window p ≡ standing_after c [] p) ⊎ IsByEntry c window p
-  window_leaves c [] p sizes whole held is seated = inl refl
-  window_leaves c (e ∷ window) p sizes whole held is seated =
-      let next = cells_by c e.cmd e.answer in
-      let first = kept policy c e is.0 is.1 whole in
-      let sits = All-head (λ (entry : EntryData). IsSeatOf names entry.seat) e window seated in
-      let rest =
-      window_leaves next window p (subst AreSizes (sym first.1) sizes) first.0
-      (same_holds c next p first.1 first.2 ∙ held) is.2
-      (All-tail (λ (entry : EntryData). IsSeatOf names entry.seat) e window seated) in
-      elim rest [
-        | inr by ↦ inr (one_more c e window p by)
-        | inl same ↦ elim (one_or_not (standing_after next [] p) (standing_after c [] p)) [
-          | inl stays ↦ inl (same ∙ stays)
-          | inr changed ↦ elim (cases_place p (place_of e.cmd)) [
-            | inr differ ↦ absurd (changed (ap as_built (elsewhere policy c e is.0 is.1 p sizes held differ)))
-            | inl place ↦ elim (here policy c e is.0 is.1) [
-              | inl nothing ↦ absurd (changed (ap (λ d. standing_after d [] p) nothing))
-              | inr leave ↦ inr (record {
-                earlier = [];
-                entry = e;
-                later = window;
-                all = refl;
-                seat = sits;
-                place = sym place;
-                leave = leave;
-                changed = changed;
-                left = same;
-              })
-            ]
-          ]
+  -- an entry of a window leaves what stands at a position, or is a command there by leave
+  pub entry_leaves : (c : SectorCells) (earlier : List EntryData) (e : EntryData) (later : List EntryData) (p : Pos)
+      → AreSizes c.bounds → IsWhole c → holds c p ≡ true → IsWindow policy c (earlier ++ e ∷ later)
+      → AreSeated names (earlier ++ e ∷ later)
+      → (standing_after c (earlier ++ e ∷ []) p ≡ standing_after c earlier p) ⊎ IsByCommand names policy e p
+  entry_leaves c [] e later p sizes whole held is seated =
+      elim (cases_place p (place_of e.cmd)) [
+        | inr differ ↦ inl (ap as_built (elsewhere policy c e is.0 is.1 p sizes held differ))
+        | inl place ↦ elim (here policy c e is.0 is.1) [
+          | inl nothing ↦ inl (ap (λ d. standing_after d [] p) nothing)
+          | inr leave ↦ inr (record {
+            seat = All-head (λ (entry : EntryData). IsSeatOf names entry.seat) e later seated;
+            place = sym place;
+            leave = leave;
+          })
         ]
       ]
+  entry_leaves c (d ∷ earlier) e later p sizes whole held is seated =
+      let next = cells_by c d.cmd d.answer in
+      let first = kept policy c d is.0 is.1 whole in
+      entry_leaves next earlier e later p (subst AreSizes (sym first.1) sizes) first.0
+      (same_holds c next p first.1 first.2 ∙ held) is.2
+      (All-tail (λ (entry : EntryData). IsSeatOf names entry.seat) d (earlier ++ e ∷ later) seated)

@@ -1,5 +1,5 @@
 -- What the windows of a tick leave on its map.
-use Rattle.std.proofs.Common.{◌≡◌, ◌⊎◌, ℕ, zero, suc, List, [], ◌∷◌, length, slice_get, Option, Some, None, refl, sym, ap, ◌∙◌, subst, inl, inr}
+use Rattle.std.proofs.Common.{◌≡◌, ◌<◌, ℕ, zero, suc, List, [], ◌∷◌, ◌++◌, length, slice_get, Option, Some, None, refl, sym, ap, ◌∙◌, subst, inl, inr, arith}
 use Rattle.std.specs.List.{All}
 use Rattle.std.proofs.lemmas.List.Elements.{All-nil, All-cons, All-head, All-tail}
 use Rattle.vx_geom.specs.declared.pos.Pos.{Pos}
@@ -7,14 +7,20 @@ use Rattle.vx_geom.specs.Sizes.{Sizes, AreSizes, sector_of}
 use Rattle.vx_cells.specs.MapLaws.{block_in, block_on, IsFilled}
 use Rattle.vx_cells.specs.Maps.{MapData, AreFrom, sector_at}
 use Rattle.vx_cells.specs.SectorCells.{SectorCells, Block, IsWhole}
-use Rattle.vx_cells.proofs.MapLemmas.{placed_at, is_held}
+use Rattle.vx_cells.proofs.MapLemmas.{placed_at, is_held, is_there}
 use Rattle.vx_region.specs.Regions.{Regions}
 use Rattle.vx_sector.specs.SectorData.{EntryData}
 use Rattle.vx_sector.specs.Windows.{IsWindow, cells_after}
 use Rattle.vx_record.specs.Chronicles.{TickData, AreSeated, all_after, map_acted, AreWindows}
 use Rattle.vx_windows.proofs.Sparing.{of_found}
-use Rattle.vx_record.specs.Owners.{as_built, standing, IsByCommand}
-use Rattle.vx_record.proofs.Commanded.{window_keeps, window_leaves}
+use Rattle.vx_record.specs.Owners.{as_built, EachCommandHasLeave, IsByWindow, IsStepByStep}
+use Rattle.vx_record.proofs.Commanded.{window_keeps, entry_leaves}
+
+-- a number below their count is that of a sector
+sector_found : (cs : List SectorCells) (k : ℕ) → k < length cs → (c : SectorCells) × (slice_get cs k ≡ Some c)
+sector_found [] k below = absurd (omega arith)
+sector_found (c ∷ cs) zero below = (c, refl)
+sector_found (c ∷ cs) (suc k) below = sector_found cs k (omega arith)
 
 module _ (names : List (List ℕ)) (policy : Regions) where
   -- the window of the sector of a number
@@ -45,13 +51,6 @@ module _ (names : List (List ℕ)) (policy : Regions) where
       }
   window_at (d ∷ cs) (w ∷ windows) (suc k) c are found =
       further d c cs w windows k (window_at cs windows k c are.2 found)
-
-  pub none_at : (cs : List SectorCells) (windows : List (List EntryData)) (k : ℕ)
-      → AreWindows names policy cs windows → slice_get cs k ≡ None → slice_get (all_after cs windows) k ≡ None
-  none_at [] windows k are none = none
-  none_at (d ∷ cs) [] k are none = absurd are
-  none_at (d ∷ cs) (w ∷ windows) zero are none = cc
-  none_at (d ∷ cs) (w ∷ windows) (suc k) are none = none_at cs windows k are.2 none
 
   as_many : (cs : List SectorCells) (windows : List (List EntryData)) → AreWindows names policy cs windows
       → length (all_after cs windows) ≡ length cs
@@ -93,10 +92,22 @@ module _ (names : List (List ℕ)) (policy : Regions) where
 
 module _ (names : List (List ℕ)) (m : MapData) (tick : TickData) (filled : IsFilled m)
     (are : AreWindows names tick.version.policy m.sectors tick.windows) where
-  -- what stands at a position stays, or a command changed it by leave
-  pub acted_leaves : (p : Pos) → (standing (map_acted m tick) p ≡ standing m p) ⊎ IsByCommand names m tick p
+  -- each command leaves what stands at a position, or is one there by leave
+  pub commands_have_leave : (p : Pos) → EachCommandHasLeave names m tick p
+  commands_have_leave p c earlier e later at =
+      let has = window_at names tick.version.policy m.sectors tick.windows at.number c are at.begun in
+      let both : Some has.window ≡ Some (earlier ++ e ∷ later) = sym has.recorded ∙ at.recorded in
+      let same : has.window ≡ earlier ++ e ∷ later = cc in
+      let placed = placed_at m.sizes 0 at.number m.sectors c filled.map.each at.begun in
+      entry_leaves names tick.version.policy c earlier e later p (subst AreSizes (sym placed.0) filled.map.valid)
+      (of_found IsWhole m.sectors at.number c filled.each at.begun)
+      (is_held m p at.number at.sector c filled.map at.begun)
+      (subst (IsWindow tick.version.policy c) same has.is) (subst (AreSeated names) same has.seated)
+
+  -- and these commands are all that is done there
+  pub acted_step_by_step : (p : Pos) → IsStepByStep m tick p
   unfolding block_on
-  acted_leaves p = by (sector_of m.sizes p) refl
+  acted_step_by_step p = by (sector_of m.sizes p) refl
     where
       stands_in : List SectorCells → Option ℕ → Block
       stands_in cs k = as_built (block_in (sector_at cs k) p)
@@ -104,38 +115,19 @@ module _ (names : List (List ℕ)) (m : MapData) (tick : TickData) (filled : IsF
       after : List SectorCells
       after = all_after m.sectors tick.windows
 
-      Stays : Option ℕ → Type 0
-      Stays k = (stands_in after k ≡ stands_in m.sectors k) ⊎ IsByCommand names m tick p
-
-      found : (k : ℕ) (c : SectorCells) → sector_of m.sizes p ≡ Some k → slice_get m.sectors k ≡ Some c → Stays (Some k)
+      found : (k : ℕ) (c : SectorCells) → sector_of m.sizes p ≡ Some k → slice_get m.sectors k ≡ Some c → IsByWindow m tick p
       found k c number there =
           let has = window_at names tick.version.policy m.sectors tick.windows k c are there in
-          let placed = placed_at m.sizes 0 k m.sectors c filled.map.each there in
-          let whole = of_found IsWhole m.sectors k c filled.each there in
-          elim (window_leaves names tick.version.policy c has.window p (subst AreSizes (sym placed.0) filled.map.valid) whole
-          (is_held m p k number c filled.map there) has.is has.seated) [
-            | inl same ↦
-                inl (ap (λ o. as_built (block_in o p)) has.after ∙ same ∙ sym (ap (λ o. as_built (block_in o p)) there))
-            | inr by ↦ inr (record {
-              cells = c;
-              earlier = by.earlier;
-              entry = by.entry;
-              later = by.later;
-              window = record { number = k; sector = number; begun = there; recorded = has.recorded ∙ ap Some by.all };
-              seat = by.seat;
-              place = by.place;
-              leave = by.leave;
-              changed = by.changed;
-              left = ap (stands_in after) number ∙ ap (λ o. as_built (block_in o p)) has.after ∙ by.left;
-            })
-          ]
+          record {
+            cells = c;
+            window = has.window;
+            found = record { number = k; sector = number; begun = there; recorded = has.recorded };
+            begun = ap (stands_in m.sectors) number ∙ ap (λ o. as_built (block_in o p)) there;
+            ended = ap (stands_in after) number ∙ ap (λ o. as_built (block_in o p)) has.after;
+          }
 
-      there_or_not : (k : ℕ) (o : Option SectorCells) → sector_of m.sizes p ≡ Some k → slice_get m.sectors k ≡ o → Stays (Some k)
-      there_or_not k None number none =
-          inl (ap (λ o. as_built (block_in o p)) (none_at names tick.version.policy m.sectors tick.windows k are none)
-          ∙ sym (ap (λ o. as_built (block_in o p)) none))
-      there_or_not k (Some c) number there = found k c number there
-
-      by : (k : Option ℕ) → sector_of m.sizes p ≡ k → Stays k
-      by None number = inl refl
-      by (Some k) number = there_or_not k (slice_get m.sectors k) number refl
+      by : (k : Option ℕ) → sector_of m.sizes p ≡ k → IsStepByStep m tick p
+      by None number = inr (number, ap (stands_in after) number ∙ sym (ap (stands_in m.sectors) number))
+      by (Some k) number =
+          let there = sector_found m.sectors k (is_there m.sizes m.sectors p k number filled.map) in
+          inl (found k there.0 number there.1)

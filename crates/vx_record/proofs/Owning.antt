@@ -22,8 +22,8 @@ use Rattle.vx_tick.specs.Ticks.{fates_on, stepped, IsTick}
 use Rattle.vx_tick.proofs.Making.{moves_are_asked, asked_are_moves, stays_filled}
 use Rattle.vx_tick.proofs.OneTick.{stepped_is_tick}
 use Rattle.vx_record.specs.Chronicles.{TickData, ChronicleData, AreWindows, map_acted, map_ticked, map_after, IsTickOn, AreTicks}
-use Rattle.vx_record.specs.Owners.{standing, IsTickOf, map_before, IsRecorded, IsAskedOn, IsByCommand, IsByMove, ChangesHaveLeave, CommandsDeniedByThePolicy, MovesDeniedByThePolicy}
-use Rattle.vx_record.proofs.Mapped.{acted_filled, acted_leaves}
+use Rattle.vx_record.specs.Owners.{standing, IsTickOf, map_before, IsRecorded, IsAskedOn, EachCommandHasLeave, IsStepByStep, IsByMove, ChangesHaveLeave, CommandsDeniedByThePolicy, MovesDeniedByThePolicy}
+use Rattle.vx_record.proofs.Mapped.{acted_filled, commands_have_leave, acted_step_by_step}
 use Rattle.vx_record.proofs.Stepped.{stepped_stands}
 
 -- the map stays filled, and the tick is one on it
@@ -67,10 +67,11 @@ module _ (c : ChronicleData) (before : List TickData) (tick : TickData) (is : Is
   step : IsTick rs acted (stepped rs acted) (fates_on rs acted)
   step = stepped_is_tick rs acted
 
-  changes : (p : Pos) → ((standing acted p ≡ standing m p) ⊎ IsByCommand names m tick p)
+  changes : (p : Pos) → EachCommandHasLeave names m tick p × IsStepByStep m tick p
       × ((standing (map_ticked m tick) p ≡ standing acted p) ⊎ IsByMove m tick p)
   changes p = (
-    acted_leaves names m tick at.0 at.1.windows p,
+    commands_have_leave names m tick at.0 at.1.windows p,
+    acted_step_by_step names m tick at.0 at.1.windows p,
     elim (stepped_stands rs acted filled p) [
       | inl same ↦ inl same
       | inr taken ↦ inr (record {

@@ -1,5 +1,5 @@
 -- What may change a world, in the words of those who own plots in it.
-use Rattle.std.specs.Prelude.{◌≡◌, ◌≢◌, ◌⊎◌, ◌↔◌, ℕ, true, false, List, [], ◌∷◌, ◌++◌, slice_get, Some, Ok, Err}
+use Rattle.std.specs.Prelude.{◌≡◌, ◌⊎◌, ◌↔◌, ℕ, true, false, List, [], ◌∷◌, ◌++◌, slice_get, Some, None, Ok, Err}
 use Rattle.vx_geom.specs.declared.pos.Pos.{Pos}
 use Rattle.vx_geom.specs.Sizes.{sector_of}
 use Rattle.vx_block.specs.declared.cell.Cell.{Cell}
@@ -81,19 +81,37 @@ pub record HasLeave (policy : Regions) (entry : EntryData) : Type 0 where
   pub asked : action_of entry.cmd ≡ Some action
   pub permitted : judged policy entry.seat action (place_of entry.cmd) ≡ Permit rule
 
--- a player's command at p, done by leave of the policy of the tick, itself changed what stands
--- there, and what it left is what stands there after all commands of the tick
-pub record IsByCommand (names : List (List ℕ)) (m : MapData) (tick : TickData) (p : Pos) : Type 0 where
-  pub cells : SectorCells
-  pub earlier : List EntryData
-  pub entry : EntryData
-  pub later : List EntryData
-  pub window : IsWindowAt m tick p cells (earlier ++ entry ∷ later)
+-- the command of the entry is a player's, at p, and was done by leave of the policy
+pub record IsByCommand (names : List (List ℕ)) (policy : Regions) (entry : EntryData) (p : Pos)
+    : Type 0 where
   pub seat : IsSeatOf names entry.seat
   pub place : place_of entry.cmd ≡ p
-  pub leave : HasLeave tick.version.policy entry
-  pub changed : standing_after cells (earlier ++ entry ∷ []) p ≢ standing_after cells earlier p
-  pub left : standing (map_acted m tick) p ≡ standing_after cells (earlier ++ entry ∷ []) p
+  pub leave : HasLeave policy entry
+
+-- each command of the window of p's sector leaves what stands at p as the commands before it left
+-- it, or it is a player's at p, done by leave of the policy of the tick
+abbrev pub EachCommandHasLeave : List (List ℕ) → MapData → TickData → Pos → Type 0
+EachCommandHasLeave names m tick p = (cells : SectorCells)
+    (earlier : List EntryData) (entry : EntryData) (later : List EntryData)
+    → IsWindowAt m tick p cells (earlier ++ entry ∷ later)
+    → (standing_after cells (earlier ++ entry ∷ []) p ≡ standing_after cells earlier p)
+    ⊎ IsByCommand names tick.version.policy entry p
+
+-- the window of p's sector leads from what stands at p as the tick begins to what stands there
+-- after all commands of the tick
+pub record IsByWindow (m : MapData) (tick : TickData) (p : Pos) : Type 0 where
+  pub cells : SectorCells
+  pub window : List EntryData
+  pub found : IsWindowAt m tick p cells window
+  pub begun : standing m p ≡ standing_after cells [] p
+  pub ended : standing (map_acted m tick) p ≡ standing_after cells window p
+
+-- the commands of the window of p's sector are all that is done at p before the machines, and
+-- nothing is done where p is of no sector
+abbrev pub IsStepByStep : MapData → TickData → Pos → Type 0
+IsStepByStep m tick p =
+    IsByWindow m tick p
+    ⊎ ((sector_of m.sizes p ≡ None) × (standing (map_acted m tick) p ≡ standing m p))
 
 -- the move that a piston asks for as the machines begin
 abbrev pub IsAskedOn : MapData → Moving → Type 0
@@ -109,13 +127,15 @@ pub record IsByMove (m : MapData) (tick : TickData) (p : Pos) : Type 0 where
   pub permitted : (q : Pos) → IsAmong move.cells q
       → IsPermit (pushing_verdict tick.version.policy move.at q)
 
--- the commands of a tick change what stands at a place, and what a chest there holds, only by a
--- player's command that the policy of the tick permits to that player there; and its machines
--- change it after them only by a machine's move all of whose cells it permits to that machine
+-- each command of a tick leaves what stands at a place, and what a chest there holds, or it is a
+-- player's command that the policy of the tick permits to that player there; these commands, one
+-- after another, are all that changes it before the machines; and the machines leave it, or change
+-- it by a machine's move all of whose cells the policy permits to that machine
 abbrev pub ChangesHaveLeave : Type 0
 ChangesHaveLeave = (c : ChronicleData) (before : List TickData) (tick : TickData) (p : Pos)
     → IsTickOf c before tick → let m = map_before c before in
-    ((standing (map_acted m tick) p ≡ standing m p) ⊎ IsByCommand c.opening.names m tick p)
+    EachCommandHasLeave c.opening.names m tick p
+    × IsStepByStep m tick p
     × ((standing (map_ticked m tick) p ≡ standing (map_acted m tick) p) ⊎ IsByMove m tick p)
 
 -- a command on record is denied by a rule exactly where the policy of the tick denies its player

@@ -58,14 +58,14 @@ fn build(opening: &mut Opening) -> Result<(), Fail> {
     ] {
         put(opening, x, z, text)?;
     }
-    put_row(opening, 21, DUST, "dust")?;
-    put_row(opening, 18, TOO_MUCH, "stone")?;
-    put_row(opening, 17, PISTON, "stone")
+    put_row(opening, 22, DUST, "dust")?;
+    put_row(opening, 19, TOO_MUCH, "stone")?;
+    put_row(opening, 18, PISTON, "stone")
 }
 
-// From x 6 on.
-fn put_row(opening: &mut Opening, last: i32, z: i32, text: &str) -> Result<(), Fail> {
-    for x in 6..last + 1 {
+// From x 6 on, as far as before this one.
+fn put_row(opening: &mut Opening, end: i32, z: i32, text: &str) -> Result<(), Fail> {
+    for x in 6..end {
         put(opening, x, z, text)?;
     }
     Ok(())

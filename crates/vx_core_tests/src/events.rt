@@ -93,25 +93,36 @@ fn has_entries(rt: &impl Abort, window: &[Entry], due: &[Entry]) {
 #[test]
 fn an_opening_has_its_parts_and_players(rt: HostRuntime) -> Result<(), Fail> {
     let mut opening = opening(rt.alloc(), 16)?;
-    has_parts(&rt, &mut opening);
+    has_parts(&rt, &mut opening)?;
     same(&rt, &opening.names().len(), &16);
     are_too_many(&rt, rt.alloc(), 17)
 }
 
-fn has_parts(rt: &impl Abort, opening: &mut Opening) {
+fn has_parts(rt: &impl Abort, opening: &mut Opening) -> Result<(), AllocError> {
     let inside = Pos::new(31, 63, 15);
     let chest = Pos::new(5, 1, 5);
-    is_told(rt, opening, inside, Part::Stone, Ok(()));
-    is_told(rt, opening, chest, Part::Chest, Ok(()));
+    is_told(rt, opening, inside, Ok(()));
+    has_chest(rt, opening, chest)?;
     let outside = Pos::new(32, 1, 5);
-    is_told(rt, opening, outside, Part::Stone, Err(Refusal::OutOfWorld));
+    is_told(rt, opening, outside, Err(Refusal::OutOfWorld));
     let map = opening.terrain().frozen();
     same(rt, &map.cell(inside), &Cell::Stone);
     same(rt, &map.cell(chest), &Cell::Chest);
+    Ok(())
 }
 
-fn is_told(rt: &impl Abort, opening: &mut Opening, p: Pos, part: Part, due: Result<(), Refusal>) {
-    same(rt, &opening.set(p, part), &due);
+// A chest alone takes memory.
+fn has_chest(rt: &impl Abort, opening: &mut Opening, p: Pos) -> Result<(), AllocError> {
+    let told = opening.set(p, Part::Chest);
+    if told == Err(Refusal::NoMemory) {
+        return Err(AllocError);
+    }
+    same(rt, &told, &Ok(()));
+    Ok(())
+}
+
+fn is_told(rt: &impl Abort, opening: &mut Opening, p: Pos, due: Result<(), Refusal>) {
+    same(rt, &opening.set(p, Part::Stone), &due);
 }
 
 fn are_too_many(rt: &impl Abort, alloc: Global, players: usize) -> Result<(), Fail> {

@@ -3,11 +3,15 @@
 
 mod document;
 mod edits;
+mod file_error;
 mod flags;
 mod keys;
 mod policy;
+mod reading;
 mod shapes;
 mod tables;
 mod values;
 
+pub use file_error::FileError;
 pub use policy::read_policy;
+pub use reading::read_bytes;

@@ -17,7 +17,7 @@ use vx_base::Unread;
 use vx_policy::{Edit, Policy};
 
 /// How many bytes a regions file may have.
-const MAX_BYTES: usize = 1_048_576;
+pub(crate) const MAX_BYTES: usize = 1_048_576;
 
 /// The policy that a regions file describes: the edits that it means, applied to the policy without
 /// regions. It is faulty where it means no edits, or one of them is refused.

@@ -1,17 +1,15 @@
-ghost use Rattle.std.specs.Prelude.{◌≡◌, ◌+◌, ◌<◌, ◌≤◌, not, false, Ok, [], ◌++◌, List, ℕ, length, take, position, ◌==◌, IfOk, OnOk, OnErr};
+ghost use Rattle.std.specs.Prelude.{◌≡◌, ◌+◌, ◌<◌, ◌≤◌, not, false, Ok, [], ◌++◌, List, ℕ, length, position, ◌==◌, IfOk, OnOk, OnErr};
 ghost use Rattle.std.specs.Io.KnownBytes.{Consumes, IsAtEnd};
 ghost use Rattle.vx_lines.specs.Lines.{line_feed, TakesPiece};
 
 use crate::read_failed::ReadFailed;
+use crate::reads::Reads;
 use std::alloc::{AllocError, Global};
-use std::io::{ErrorKind, Read};
+use std::io::Read;
 use std::marker::Model;
 
 /// How many bytes a script may have.
 pub const MAX_SCRIPT_BYTES: usize = 16_777_216;
-
-/// How many reads a script may take.
-const MAX_READS: u32 = 33_554_432;
 
 /// How many bytes are asked for at once.
 const BUFFER_BYTES: usize = 65_536;
@@ -23,7 +21,7 @@ pub struct Input {
     at: usize,
     end: usize,
     bytes: usize,
-    reads: u32,
+    reads: Reads,
 }
 
 impl Model for Input {
@@ -52,7 +50,7 @@ impl Input {
             at: 0,
             end: 0,
             bytes: 0,
-            reads: 0,
+            reads: Reads::new(),
         })
     }
 
@@ -70,7 +68,7 @@ impl Input {
     {
         let left = MAX_SCRIPT_BYTES - self.bytes;
         let room = left.clamp(1, BUFFER_BYTES);
-        let count = read_some(reader, &mut self.buffer, room, &mut self.reads)?;
+        let count = self.reads.read(reader, &mut self.buffer, room)?;
         if left < count {
             return Err(ReadFailed);
         }
@@ -111,30 +109,4 @@ fn feed_in(bytes: &[u8]) -> Option<usize>
     ensures { result ≡ position (λ b. b == line_feed) bytes.now }
 {
     bytes.iter().position(|b| *b == b'\n')
-}
-
-// Reads once into the front of the buffer, and again where a read was interrupted, as long as reads
-// are left.
-fn read_some<R: Read>(
-    reader: &mut R,
-    buffer: &mut [u8],
-    room: usize,
-    reads: &mut u32,
-) -> Result<usize, ReadFailed>
-    requires some { 0 < room }
-    requires within { room ≤ length buffer.old }
-    ensures count { IfOk result (λ n. n ≤ room) }
-    ensures bytes { IfOk result (λ n.
-        Consumes (R.remaining reader.old) (R.remaining reader.new) (take n buffer.new)) }
-    ensures end { IfOk result (λ n. n ≡ 0 → IsAtEnd (R.remaining reader.new)) }
-{
-    while *reads < MAX_READS {
-        *reads += 1;
-        match reader.read(&mut buffer[..room]) {
-            Ok(n) => return Ok(n),
-            Err(error) if error.kind() == ErrorKind::Interrupted => {}
-            Err(_) => return Err(ReadFailed),
-        }
-    }
-    Err(ReadFailed)
 }

@@ -6,8 +6,10 @@ mod input;
 mod line_error;
 mod lines;
 mod read_failed;
+mod reads;
 
 pub use input::MAX_SCRIPT_BYTES;
 pub use line_error::LineError;
 pub use lines::{Lines, MAX_LINE_BYTES};
 pub use read_failed::ReadFailed;
+pub use reads::Reads;

@@ -3,6 +3,7 @@ ghost use Rattle.vx_script.specs.Statuses.{status_of};
 
 use std::alloc::AllocError;
 use thiserror::Error;
+use vx_file::FileError;
 use vx_lines::ReadFailed;
 
 /// Why a run ended before its script did. docs/FORMATS.md has the table of numbers, words and
@@ -62,5 +63,20 @@ impl From<ReadFailed> for Fault {
 
     fn from(_failed: ReadFailed) -> Fault {
         Fault::ReadFailed
+    }
+}
+
+impl From<FileError> for Fault {
+    ghost use Rattle.std.specs.Prelude.{◌≡◌};
+    ghost use Rattle.vx_script.specs.Statuses.{file_fault};
+
+    ghost from_gives = { λ error e. e ≡ file_fault error };
+
+    fn from(error: FileError) -> Fault {
+        match error {
+            FileError::TooLong => Fault::BadRegionFile,
+            FileError::ReadFailed => Fault::ReadFailed,
+            FileError::NoMemory => Fault::NoMemory,
+        }
     }
 }

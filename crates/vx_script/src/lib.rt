@@ -12,5 +12,5 @@ mod regions;
 mod running;
 
 pub use fault::Fault;
-pub use regions::regions_file;
+pub use regions::{read_regions, regions_file};
 pub use running::run;

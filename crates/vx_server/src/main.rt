@@ -2,18 +2,22 @@
 //! output.
 #![tactic(auto)]
 
-use std::io;
+mod options;
+
+use clap::error::ErrorKind;
+use options::{REGIONS, command};
 use std::io::BufWriter;
 use std::process::ExitCode;
+use std::{env, fs, io};
 use vx_policy::Policy;
-use vx_script::{Fault, run};
+use vx_script::{Fault, read_regions, run};
 
 /// How many bytes of replies are kept before they are written.
 const OUTPUT_BYTES: usize = 65_536;
 
 fn main(rt: HostRuntime) -> ExitCode {
     match serve(&rt) {
-        Ok(()) => ExitCode::from(0),
+        Ok(status) => ExitCode::from(status),
         Err(fault) => {
             // Where standard error takes no words, the status still tells.
             let _ = eprintln!(rt; "{fault}");
@@ -22,11 +26,57 @@ fn main(rt: HostRuntime) -> ExitCode {
     }
 }
 
-fn serve(rt: &HostRuntime) -> Result<(), Fault> {
+// Does what the command line asks for, and answers the status. The command line is judged first,
+// then the regions file, then the script.
+fn serve(rt: &HostRuntime) -> Result<u8, Fault> {
+    let words = env::args(rt).map_err(|_| Fault::NoMemory)?;
+    let words: Vec<String> = words.collect(rt.alloc())?;
+    match command(rt.alloc())?.try_get_matches_from(words.as_slice()) {
+        Ok(matches) => {
+            let policy = first_policy(rt, matches.get_str(REGIONS))?;
+            play(rt, policy)?;
+            Ok(0)
+        }
+        Err(error) if error.kind() == ErrorKind::OutOfMemory => Err(Fault::NoMemory),
+        Err(error) => {
+            error.print(rt).map_err(|error| not_written(error.kind()))?;
+            Ok(if error.use_stderr() { 1 } else { 0 })
+        }
+    }
+}
+
+// The policy of a regions file, if there is one, else one without regions.
+fn first_policy(rt: &HostRuntime, path: Option<&str>) -> Result<Policy, Fault> {
+    match path {
+        None => Ok(Policy::new(rt.alloc())?),
+        Some(path) => {
+            let mut file = fs::open(rt, path).map_err(|error| not_opened(error.kind()))?;
+            read_regions(rt.alloc(), &mut file)
+        }
+    }
+}
+
+// Why a file was not opened.
+fn not_opened(kind: io::ErrorKind) -> Fault {
+    match kind {
+        io::ErrorKind::OutOfMemory => Fault::NoMemory,
+        _ => Fault::ReadFailed,
+    }
+}
+
+// Why the words of the parser were not written.
+fn not_written(kind: io::ErrorKind) -> Fault {
+    match kind {
+        io::ErrorKind::OutOfMemory => Fault::NoMemory,
+        _ => Fault::WriteFailed,
+    }
+}
+
+// Plays the script on standard input under this policy.
+fn play(rt: &HostRuntime, policy: Policy) -> Result<(), Fault> {
     let mut input = rt.stdin();
     let mut output = BufWriter::with_capacity(rt.alloc(), OUTPUT_BYTES, io::writer(rt)).map_err(
         |_| Fault::NoMemory,
     )?;
-    let policy = Policy::new(rt.alloc()).map_err(|_| Fault::NoMemory)?;
     run(rt.alloc(), &mut input, &mut output, policy)
 }

@@ -1,0 +1,40 @@
+//! The command line of the server.
+use clap::{Arg, Command};
+use std::alloc::{AllocError, Global};
+
+/// The option whose value is the path of a regions file.
+pub const REGIONS: &str = "regions";
+
+const ABOUT: &str = "\
+Plays the script that comes on standard input, in a world of blocks whose land is protected by
+regions, and writes the reply to each of its lines to standard output.";
+
+const USAGE: &str = "vx_server [--regions FILE] < SCRIPT";
+
+const REGIONS_HELP: &str = "\
+A regions file in TOML: the policy that stands as the script begins; without it there
+are no regions";
+
+const EXAMPLE: &str = "\
+Status 0: the script was played to its end. Status 1: a fault in it, in the regions file or on the
+command line. Status 2: want of memory. A fault is told in a line on standard error.
+
+Example: a script of four lines
+  printf 'world 1 1 1\\nplayer ann\\nas ann place 0 0 0 stone\\nas ann look 0 0 0\\n' | vx_server
+writes these three
+  ok default
+  seen stone
+  done ticks 0 calls 2";
+
+/// What the server takes on its command line.
+pub fn command(alloc: Global) -> Result<Command<'static>, AllocError> {
+    let regions = Arg::new(alloc, REGIONS)
+        .long(REGIONS)
+        .value_name("FILE")
+        .help(REGIONS_HELP);
+    Command::new(alloc, "vx_server")
+        .about(ABOUT)
+        .override_usage(USAGE)
+        .after_help(EXAMPLE)
+        .arg(regions)
+}

@@ -13,7 +13,10 @@ use Rattle.vx_decide.specs.Candidates.{HoldCandidates}
 use Rattle.vx_index.specs.declared.chunk.Chunk.{Chunk}
 use Rattle.vx_index.specs.declared.patch.Patch.{Patch}
 use Rattle.vx_index.specs.Chunks.{IsChunk}
+use Rattle.vx_index.specs.Shapes.{shapes_of}
 use Rattle.vx_index.specs.Patches.{is_near, are_near, AreInOrder}
+use Rattle.vx_index.proofs.Orders.{order_lower}
+use Rattle.vx_index.proofs.Shapes.{shape_at, shape_count}
 
 -- what is gathered of n regions when these patches are left: places that ascend, the next one is no less than `next`, and each region that is
 -- near is among them or near by a patch that is left
@@ -40,11 +43,6 @@ none_gathered n p all here none few ordered before = subst (λ places. Gathered 
   before = before;
   whole = λ i near. inr near;
 })
-
--- an order from a later place on is one from an earlier place on
-order_lower : (a b : ℕ) (patches : List Patch) → a ≤ b → AreInOrder b patches → AreInOrder a patches
-order_lower a b [] low up = tt
-order_lower a b (d ∷ ds) low up = (omega (arith, low, up.0), up.1)
 
 -- a patch that has the position, of a region that is not there yet
 pub gathers : (n : ℕ) (p : Pos) (all : List Patch) (patch : Patch) (rest : List Patch) (here new : List ℕ) (next : ℕ) → new ≡ here ++ patch.place ∷ []
@@ -140,8 +138,14 @@ all_gathered rs p chunk here next is within held = record {
   ascending = λ k below. held.rising k (k + 1) 0 (omega arith) below;
   named = λ i there. omega (arith, All-contains (λ j. j < next) here i held.below there, held.named);
   whole = λ i e item inside.
-      elim (held.whole i (is.told i e p (slice_get_within rs.entries i e item) item within inside)) [
+      let shape = shape_at rs i e item in
+      elim (held.whole i (is.told i e.1.shape p (slice_get_within (shapes_of rs) i e.1.shape shape) shape within inside)) [
         | inl there ↦ there
         | inr left ↦ absurd (both_ways false refl left)
       ];
 }
+
+-- what is gathered of as many shapes as there are regions
+pub gathered_of : (rs : Regions) (p : Pos) (all rest : List Patch) (here : List ℕ) (next : ℕ) → Gathered (length (shapes_of rs)) p all rest here next
+    → Gathered (length rs.entries) p all rest here next
+gathered_of rs p all rest here next held = subst (λ n. Gathered n p all rest here next) (shape_count rs) held

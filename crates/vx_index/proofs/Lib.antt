@@ -1,7 +1,10 @@
 pub mod Adding
 pub mod Edges
 pub mod Gathered
+pub mod Orders
 pub mod Recalled
+pub mod Renewing
 pub mod Rows
+pub mod Shapes
 pub mod Squares
 pub mod Told

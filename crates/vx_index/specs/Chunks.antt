@@ -3,6 +3,7 @@ use Rattle.std.specs.Prelude.{◌≡◌, ℕ, true, length, slice_get, List, [],
 use Rattle.std.specs.List.{All}
 use Rattle.vx_geom.specs.declared.pos.Pos.{Pos}
 use Rattle.vx_geom.specs.Extent.{is_within}
+use Rattle.vx_geom.specs.Outline.{Outline}
 use Rattle.vx_region.specs.Regions.{Regions}
 use Rattle.vx_region.specs.Subjects.{Named}
 use Rattle.vx_decide.specs.declared.verdict.Verdict.{Verdict}
@@ -14,10 +15,15 @@ use Rattle.vx_index.specs.declared.chunk.Chunk.{Chunk}
 use Rattle.vx_index.specs.declared.kept.Kept.{Kept}
 use Rattle.lru.specs.LruCache.{LruCache}
 use Rattle.vx_index.specs.Patches.{AreOf}
+use Rattle.vx_index.specs.Shapes.{shapes_of}
 
--- the chunk tells of all the regions where they lie in its columns
+-- the chunk tells of all these shapes where they lie in its columns, and of no others
+abbrev pub TellsOf : List Outline → Chunk → Type 0
+TellsOf shapes chunk = AreOf shapes chunk.columns (length shapes) chunk.patches.items
+
+-- the chunk tells of all the regions where they lie in its columns, and of no others
 abbrev pub IsChunk : Regions → Chunk → Type 0
-IsChunk rs chunk = AreOf rs.entries chunk.columns (length rs.entries) chunk.patches.items
+IsChunk rs = TellsOf (shapes_of rs)
 
 -- the chunk of that index holds the position
 pub record IsChunkOf (p : Pos) (chunks : List Chunk) (index : ℕ) : Type 0 where

@@ -1,3 +1,6 @@
 pub mod Chunks
+pub mod Lands
 pub mod Patches
 pub mod SameAsked
+pub mod Shapes
+pub mod Squares

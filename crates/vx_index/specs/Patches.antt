@@ -1,11 +1,10 @@
 -- The regions of a chunk, kept as patches of columns.
-use Rattle.std.specs.Prelude.{◌≡◌, ℕ, pos, ◌+◌, ◌^◌, ◌<◌, ◌≤◌, Bool, true, false, ◌&&◌, nat_eq, slice_get, List, [], ◌∷◌, ◌++◌, Option, Some, None}
+use Rattle.std.specs.Prelude.{◌≡◌, ℕ, pos, ◌+◌, ◌-◌, ◌^◌, ◌<◌, ◌≤◌, Bool, true, false, ◌&&◌, nat_eq, slice_get, List, [], ◌∷◌, ◌++◌, Option, Some, None}
 use Rattle.std.specs.List.{list_any, AllByRecursion}
 use Rattle.vx_geom.specs.declared.extent.Extent.{Extent}
 use Rattle.vx_geom.specs.declared.pos.Pos.{Pos}
-use Rattle.vx_geom.specs.Extent.{is_within}
+use Rattle.vx_geom.specs.Extent.{is_within, extent_of, meets}
 use Rattle.vx_geom.specs.Outline.{Outline, is_in, has_column}
-use Rattle.vx_region.specs.Regions.{Entry}
 use Rattle.vx_index.specs.declared.patch.Patch.{Patch}
 
 -- 16 by 16 columns, from this one to the east and to the south
@@ -49,17 +48,23 @@ abbrev pub AreInOrder : ℕ → List Patch → Type 0
 AreInOrder i [] = Unit {0}
 AreInOrder i (patch ∷ rest) = (i ≤ patch.place) × AreInOrder patch.place rest
 
--- where a region before the place i contains a position of these columns, a patch of it is near
-abbrev pub AreTold : List Entry → Extent → ℕ → List Patch → Type 0
-AreTold es columns i patches = (j : ℕ) (e : Entry) (p : Pos) → j < i → slice_get es j ≡ Some e
-    → is_within columns p ≡ true → is_in e.1.shape p ≡ true → are_near patches j p ≡ true
+-- where a shape before the place i contains a position of these columns, a patch of it is near
+abbrev pub AreTold : List Outline → Extent → ℕ → List Patch → Type 0
+AreTold shapes columns i patches = (j : ℕ) (o : Outline) (p : Pos) → j < i → slice_get shapes j ≡ Some o
+    → is_within columns p ≡ true → is_in o p ≡ true → are_near patches j p ≡ true
 
--- the regions before the place i, as they lie in these columns, where a place is a number of 32 bits
-pub record AreOf (es : List Entry) (columns : Extent) (i : ℕ) (patches : List Patch) : Type 0 where
+-- the shape at that place lies in columns that meet these
+abbrev pub IsMet : List Outline → Extent → ℕ → Type 0
+IsMet shapes columns j = (o : Outline) → slice_get shapes j ≡ Some o → meets (extent_of o) columns ≡ true
+
+-- the shapes before the place i, as they lie in these columns and no others, where a place is a
+-- number of 32 bits
+pub record AreOf (shapes : List Outline) (columns : Extent) (i : ℕ) (patches : List Patch) : Type 0 where
   pub few : i < 2 ^ 32
   pub ordered : AreInOrder 0 patches
   pub before : AllByRecursion (λ patch. patch.place < i) patches
-  pub told : AreTold es columns i patches
+  pub told : AreTold shapes columns i patches
+  pub met : AllByRecursion (λ patch. IsMet shapes columns patch.place) patches
 
 -- patches of the region at that place were added, so that one is near wherever the shape contains a
 -- position of these columns
@@ -69,3 +74,7 @@ pub record Adds (place : ℕ) (shape : Outline) (columns : Extent) (old new : Li
   pub own : AllByRecursion (λ patch. patch.place ≡ place) added
   pub whole : (p : Pos) → is_within columns p ≡ true → is_in shape p ≡ true
       → are_near added place p ≡ true
+
+-- the patch of the place before
+abbrev pub moved_down : Patch → Patch
+moved_down patch = record { place = patch.place - 1; columns = patch.columns }

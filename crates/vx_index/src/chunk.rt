@@ -1,14 +1,17 @@
-ghost use Rattle.std.specs.Prelude.{◌≡◌, ◌≤◌, true, IfOk, IfSome};
-ghost use Rattle.vx_geom.specs.Extent.{is_within};
+ghost use Rattle.std.specs.Prelude.{◌≡◌, ◌+◌, ◌^◌, ◌<◌, ◌≤◌, ◌++◌, ℕ, true, nat_eq, nat_lt, nat_le, length, filter, map, remove, unsigned_abs, IfOk, IfSome, OnOk};
+ghost use Rattle.std.specs.List.{list_any};
+ghost use Rattle.vx_geom.specs.Extent.{is_within, meets};
 ghost use Rattle.vx_decide.specs.Candidates.{HoldCandidates};
-ghost use Rattle.vx_index.specs.Chunks.{IsChunk};
-ghost use Rattle.vx_index.specs.Patches.{square};
+ghost use Rattle.vx_index.specs.Chunks.{IsChunk, TellsOf};
+ghost use Rattle.vx_index.specs.Patches.{square, moved_down};
+ghost use Rattle.vx_index.specs.Shapes.{shapes_of, with_at};
+ghost use Rattle.vx_index.specs.Squares.{IsSquare};
 
 use crate::patch::Patch;
 use crate::patches::{add_patches, square};
 use arrayvec::ArrayVec;
 use std::alloc::{AllocError, Global};
-use vx_geom::{Extent, Pos};
+use vx_geom::{Extent, Pos, Shape};
 use vx_region::RegionSet;
 
 /// So many regions at one place are found by a chunk.
@@ -69,5 +72,127 @@ impl Chunk {
             }
         }
         Some(here)
+    }
+
+    /// Whether a column is one of the chunk's and one of these.
+    pub(crate) fn meets(&self, columns: &Extent) -> bool
+        ensures { result ≡ meets columns.now self.now.columns }
+    {
+        columns.meets(&self.columns)
+    }
+
+    /// Whether the region at that place lies in the chunk.
+    pub(crate) fn has(&self, place: u32) -> bool
+        ensures { result ≡ list_any (λ d. nat_eq d.place place) self.now.patches.items }
+    {
+        self.patches.iter().any(|patch| patch.place == place)
+    }
+
+    /// Whether a region at that place or behind it lies in the chunk.
+    pub(crate) fn has_from(&self, place: u32) -> bool
+        ensures { result ≡ list_any (λ d. nat_le place d.place) self.now.patches.items }
+    {
+        self.patches.iter().any(|patch| place <= patch.place)
+    }
+
+    /// The chunk of the same columns, where that shape stands at a place of the regions or behind
+    /// all of them.
+    pub(crate) fn put(
+        &self,
+        alloc: Global,
+        regions: &RegionSet,
+        place: u32,
+        shape: &Shape,
+    ) -> Result<Chunk, AllocError>
+        requires of { IsChunk regions.now self.now }
+        requires square { IsSquare self.now.columns }
+        requires within { place ≤ length (shapes_of regions.now) }
+        requires few { length (with_at (shapes_of regions.now) place shape.now) < 2 ^ 32 }
+        ensures of { IfOk result (TellsOf (with_at (shapes_of regions.now) place shape.now)) }
+        ensures columns { IfOk result (λ chunk. chunk.columns ≡ self.now.columns) }
+    {
+        let _ = regions;
+        let (west, north) = self.corner();
+        let mut patches = self.before(alloc, place)?;
+        add_patches(&mut patches, place, shape, west, north)?;
+        self.add_behind(&mut patches, place)?;
+        Ok(Chunk {
+            columns: self.columns,
+            patches,
+        })
+    }
+
+    /// The chunk of the same columns without the region at that place. Those behind it move down.
+    pub(crate) fn without(
+        &self,
+        alloc: Global,
+        regions: &RegionSet,
+        place: u32,
+    ) -> Result<Chunk, AllocError>
+        requires of { IsChunk regions.now self.now }
+        requires within { place < length (shapes_of regions.now) }
+        ensures of { IfOk result (TellsOf (remove (shapes_of regions.now) place)) }
+        ensures columns { IfOk result (λ chunk. chunk.columns ≡ self.now.columns) }
+    {
+        let _ = regions;
+        let mut patches = self.before(alloc, place)?;
+        self.add_moved(&mut patches, place)?;
+        Ok(Chunk {
+            columns: self.columns,
+            patches,
+        })
+    }
+
+    // Where the chunk begins, from the west and from the north.
+    #[tactic(auto, using(vx_base::proofs::Signed::signed))]
+    fn corner(&self) -> (u32, u32)
+        ensures west { result.0 ≡ unsigned_abs self.now.columns.west }
+        ensures north { result.1 ≡ unsigned_abs self.now.columns.north }
+    {
+        (
+            self.columns.west.unsigned_abs(),
+            self.columns.north.unsigned_abs(),
+        )
+    }
+
+    // The patches of the regions before that place.
+    fn before(&self, alloc: Global, place: u32) -> Result<Vec<Patch>, AllocError>
+        ensures { IfOk result (λ patches. patches.items
+            ≡ filter (λ d. nat_lt d.place place) self.now.patches.items) }
+    {
+        self.patches
+            .iter()
+            .copied()
+            .filter(|patch| patch.place < place)
+            .collect(alloc)
+    }
+
+    // Adds the patches of the regions behind that place.
+    fn add_behind(&self, patches: &mut Vec<Patch>, place: u32) -> Result<(), AllocError>
+        ensures { OnOk result (patches.new.items
+            ≡ patches.old.items ++ filter (λ d. nat_lt place d.place) self.now.patches.items) }
+    {
+        for patch in &self.patches {
+            if place < patch.place {
+                patches.push(*patch)?;
+            }
+        }
+        Ok(())
+    }
+
+    // Adds them for the places before theirs.
+    fn add_moved(&self, patches: &mut Vec<Patch>, place: u32) -> Result<(), AllocError>
+        ensures { OnOk result (patches.new.items ≡ patches.old.items
+            ++ map moved_down (filter (λ d. nat_lt place d.place) self.now.patches.items)) }
+    {
+        for patch in &self.patches {
+            if place < patch.place {
+                patches.push(Patch {
+                    place: patch.place - 1,
+                    columns: patch.columns,
+                })?;
+            }
+        }
+        Ok(())
     }
 }

@@ -8,9 +8,14 @@ mod chunk;
 mod deciding;
 mod indexed;
 mod kept;
+mod land;
 mod patch;
 mod patches;
+mod place;
+mod plot;
 
 pub use cache::Cache;
 pub use cached::Cached;
 pub use indexed::Indexed;
+pub use land::Land;
+pub use place::place_of;

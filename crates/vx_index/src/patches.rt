@@ -1,5 +1,6 @@
 //! The patches of a region in a chunk: all columns of a cuboid, and for each row those of a polygon from the first to the last.
-ghost use Rattle.std.specs.Prelude.{◌≡◌, ◌+◌, ◌-◌, ◌<◌, ◌≤◌, ℕ, pos, true, MatchOption, OnOk};
+ghost use Rattle.std.specs.Prelude.{◌≡◌, ◌+◌, ◌-◌, ◌<◌, ◌≤◌, ℕ, pos, true, false, MatchOption, OnOk};
+ghost use Rattle.vx_geom.specs.Extent.{extent_of, meets};
 ghost use Rattle.vx_geom.specs.Outline.{has_column};
 ghost use Rattle.vx_index.specs.Patches.{square, row_of_square, HoldsRow, Adds};
 
@@ -27,7 +28,8 @@ pub(crate) fn square(west: u32, north: u32) -> Extent
     }
 }
 
-/// Adds the patches of a region in the chunk that begins at `west` and `north`.
+/// Adds the patches of a shape in the chunk that begins at `west` and `north`; none where its
+/// columns don't meet the chunk's.
 pub(crate) fn add_patches(
     patches: &mut Vec<Patch>,
     place: u32,
@@ -37,8 +39,10 @@ pub(crate) fn add_patches(
 ) -> Result<(), AllocError>
     requires west { west ≤ 256 }
     requires north { north ≤ 256 }
-    ensures { OnOk result
+    ensures adds { OnOk result
         (Adds place shape.now (square west north) patches.old.items patches.new.items) }
+    ensures apart { meets (extent_of shape.now) (square west north) ≡ false
+        → patches.new.items ≡ patches.old.items }
 {
     let columns = shape.extent();
     if !columns.meets(&square(west, north)) {

@@ -1,6 +1,7 @@
 use Rattle.std.proofs.Common.{Result, Ok, Err, OnOk, ◌≡◌, true, ◌+◌, length, drop, get_or, sym, ◌∙◌}
 use Rattle.std.specs.Result.{is_ok}
-use Rattle.vx_index.proofs.Gathered.{no_patch, none_gathered, next_left, none_left, gathers, passes_known, passes_far, all_gathered}
+use Rattle.vx_index.proofs.Gathered.{no_patch, none_gathered, next_left, none_left, gathers, passes_known, passes_far, all_gathered, gathered_of}
+use Rattle.vx_index.specs.Shapes.{shapes_of}
 use Rattle.vx_index.proofs.chunk.Chunk.here.Goals as goal
 use Rattle.vx_index.proofs.chunk.Chunk.here.Goals.{then-next-patch+then-holds+in_ok-ok, else-next-patch, else-next-patch-via-then-next-patch+else-holds, else-next-patch-via-else-next-patch}
 
@@ -11,8 +12,9 @@ at_success (Err e) P same holds = cc
 
 pub loop-patch-init : goal.loop-patch-init
 loop-patch-init c =
-    none_gathered (length c.args.regions.now.entries) c.args.p c.args.self.now.patches.items c.new-here.result.items
-    c.new-here.ensures c.requires.of.few c.requires.of.ordered c.requires.of.before
+    gathered_of c.args.regions.now c.args.p c.args.self.now.patches.items c.args.self.now.patches.items c.new-here.result.items 0
+    (none_gathered (length (shapes_of c.args.regions.now)) c.args.p c.args.self.now.patches.items c.new-here.result.items
+    c.new-here.ensures c.requires.of.few c.requires.of.ordered c.requires.of.before)
 
 pub loop-patch-preserved : goal.loop-patch-preserved
 loop-patch-preserved c =

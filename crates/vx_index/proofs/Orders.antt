@@ -1,0 +1,60 @@
+-- Patches that are kept, moved and joined stay in order.
+use Rattle.std.proofs.Common.{◌≡◌, ℕ, ◌+◌, ◌-◌, ◌<◌, ◌≤◌, Bool, true, false, cond, List, [], ◌∷◌, ◌++◌, map, filter, refl, arith}
+use Rattle.std.specs.List.{AllByRecursion}
+use Rattle.vx_index.specs.declared.patch.Patch.{Patch}
+use Rattle.vx_index.specs.Patches.{AreInOrder, moved_down}
+
+-- an order from a later place on is one from an earlier place on
+pub order_lower : (a b : ℕ) (patches : List Patch) → a ≤ b → AreInOrder b patches → AreInOrder a patches
+order_lower a b [] low up = tt
+order_lower a b (d ∷ ds) low up = (omega (arith, low, up.0), up.1)
+
+-- and one from any place that none is before
+pub order_raise : (a b : ℕ) (patches : List Patch) → AllByRecursion (λ patch. b ≤ patch.place) patches → AreInOrder a patches → AreInOrder b patches
+order_raise a b [] from up = tt
+order_raise a b (d ∷ ds) from up = (from.0, up.1)
+
+-- some of the patches stand in order
+pub order_filter : (f : Patch → Bool) (n : ℕ) (patches : List Patch) → AreInOrder n patches → AreInOrder n (filter f patches)
+order_filter f n [] up = tt
+order_filter f n (d ∷ ds) up = by (f d) (order_filter f d.place ds up.1)
+  where
+    by : (b : Bool) → AreInOrder d.place (filter f ds) → AreInOrder n (cond b (d ∷ filter f ds) (filter f ds))
+    by true rest = (up.0, rest)
+    by false rest = order_lower n d.place (filter f ds) up.0 rest
+
+-- patches behind those that are at no later place
+pub order_join : (n p : ℕ) (xs ys : List Patch) → n ≤ p → AreInOrder n xs → AllByRecursion (λ patch. patch.place ≤ p) xs → AreInOrder p ys → AreInOrder n (xs ++ ys)
+order_join n p [] ys low up most behind = order_lower n p ys low behind
+order_join n p (d ∷ ds) ys low up most behind = (up.0, order_join d.place p ds ys most.0 up.1 most.1 behind)
+
+-- all moved down by a place
+pub order_moved : (n : ℕ) (patches : List Patch) → AreInOrder n patches → AreInOrder (n - 1) (map moved_down patches)
+order_moved n [] up = tt
+order_moved n (d ∷ ds) up = (omega (arith, up.0), order_moved d.place ds up.1)
+
+-- what holds of all patches tells of those that are kept
+pub all_kept : (f : Patch → Bool) (P Q : Patch → Type 0) → ((d : Patch) → f d ≡ true → P d → Q d) → (patches : List Patch)
+    → AllByRecursion P patches → AllByRecursion Q (filter f patches)
+all_kept f P Q tells [] all = tt
+all_kept f P Q tells (d ∷ ds) all = by (f d) refl (all_kept f P Q tells ds all.1)
+  where
+    by : (b : Bool) → f d ≡ b → AllByRecursion Q (filter f ds) → AllByRecursion Q (cond b (d ∷ filter f ds) (filter f ds))
+    by true is rest = (tells d is all.0, rest)
+    by false is rest = rest
+
+-- and of other facts
+pub all_weaker : (P Q : Patch → Type 0) → ((d : Patch) → P d → Q d) → (patches : List Patch) → AllByRecursion P patches → AllByRecursion Q patches
+all_weaker P Q tells [] all = tt
+all_weaker P Q tells (d ∷ ds) all = (tells d all.0, all_weaker P Q tells ds all.1)
+
+-- and of those that are moved down
+pub all_moved : (P Q : Patch → Type 0) → ((d : Patch) → P d → Q (moved_down d)) → (patches : List Patch) → AllByRecursion P patches
+    → AllByRecursion Q (map moved_down patches)
+all_moved P Q tells [] all = tt
+all_moved P Q tells (d ∷ ds) all = (tells d all.0, all_moved P Q tells ds all.1)
+
+-- of every patch something holds that always does
+pub all_always : (P : Patch → Type 0) → ((d : Patch) → P d) → (patches : List Patch) → AllByRecursion P patches
+all_always P holds [] = tt
+all_always P holds (d ∷ ds) = (holds d, all_always P holds ds)

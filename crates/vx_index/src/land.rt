@@ -1,0 +1,187 @@
+ghost use Rattle.std.specs.Prelude.{◌≡◌, ◌+◌, ◌^◌, ◌<◌, ◌≤◌, ◌++◌, ◌∷◌, [], true, length, remove, slice_set, IfOk, IfSome};
+ghost use Rattle.vx_decide.specs.Candidates.{HoldCandidates};
+ghost use Rattle.vx_decide.specs.Verdict.{verdict};
+ghost use Rattle.vx_geom.specs.Extent.{is_within};
+ghost use Rattle.vx_index.specs.Chunks.{IsChunk};
+ghost use Rattle.vx_index.specs.Lands.{IsLandOf};
+ghost use Rattle.vx_index.specs.Shapes.{shapes_of, with_at};
+ghost use Rattle.vx_region.specs.Subjects.{actor_of};
+
+use crate::chunk::{Chunk, MAX_HERE};
+use crate::deciding::decided;
+use crate::patches::SIDE;
+use crate::plot::Plot;
+use arrayvec::ArrayVec;
+use std::alloc::{AllocError, Global};
+use std::marker::Model;
+use std::sync::Arc;
+use vx_decide::Verdict;
+use vx_flag::Action;
+use vx_geom::{Pos, Shape};
+use vx_region::{RegionSet, Subject};
+
+/// The widest world has so many chunks from west to east, and from north to south.
+const ACROSS: u32 = 16;
+
+/// Where regions lie in the widest world, chunk by chunk. It depends on their shapes alone. Copies
+/// share it, and a land that differs by one region shares the chunks that tell the same. Contracts
+/// see it as its chunks.
+pub struct Land {
+    // Row by row, each from the west.
+    plots: Arc<Vec<Plot>>,
+}
+
+impl Model for Land {
+    ghost use Rattle.std.specs.Prelude.{List};
+    ghost use Rattle.std.specs.Arc.{arc_value};
+    ghost use Rattle.vx_index.specs.declared.chunk.Chunk.{Chunk};
+
+    ghost Value = { List Chunk };
+
+    ghost view = { λ a. (arc_value a.plots).items };
+}
+
+// Written out, so that what is above this crate need not prove how its parts are let go.
+impl Drop for Land {
+    fn drop(self) {
+        let Land { plots: _plots } = self;
+    }
+}
+
+impl Land {
+    /// The land of these regions. It costs a look at each region for each chunk.
+    pub fn of(alloc: Global, regions: &RegionSet) -> Result<Land, AllocError>
+        ensures { IfOk result (IsLandOf (shapes_of regions.now)) }
+    {
+        let mut plots = Vec::new(alloc);
+        for row in 0..ACROSS {
+            for column in 0..ACROSS {
+                let chunk = Chunk::new(alloc, regions, SIDE * column, SIDE * row)?;
+                plots.push(Plot::new(alloc, chunk)?)?;
+            }
+        }
+        Land::made(alloc, plots)
+    }
+
+    // The land of these plots.
+    fn made(alloc: Global, plots: Vec<Plot>) -> Result<Land, AllocError>
+        ensures { IfOk result (λ land. land ≡ plots.items) }
+    {
+        Ok(Land {
+            plots: Arc::new(alloc, plots)?,
+        })
+    }
+
+    /// A copy, which shares all.
+    pub fn try_clone(&self) -> Result<Land, AllocError>
+        ensures { IfOk result (λ copy. copy ≡ self.now) }
+    {
+        Ok(Land {
+            plots: Arc::try_clone(&self.plots)?,
+        })
+    }
+
+    /// The land of these regions and of one with this shape behind them. This one stays as it is.
+    /// Only the chunks in which the shape lies take memory of their own.
+    pub fn with(
+        &self,
+        alloc: Global,
+        regions: &RegionSet,
+        shape: &Shape,
+    ) -> Result<Land, AllocError>
+        requires of { IsLandOf (shapes_of regions.now) self.now }
+        requires room { length regions.now.entries + 1 < 2 ^ 32 }
+        ensures { IfOk result (IsLandOf (shapes_of regions.now ++ shape.now ∷ [])) }
+    {
+        self.put(alloc, regions, regions.count(), shape)
+    }
+
+    /// The land of these regions where the one at that place has another shape. This one stays as
+    /// it is. Only the chunks in which one of the two shapes lies take memory of their own.
+    pub fn with_shape(
+        &self,
+        alloc: Global,
+        regions: &RegionSet,
+        place: u32,
+        shape: &Shape,
+    ) -> Result<Land, AllocError>
+        requires of { IsLandOf (shapes_of regions.now) self.now }
+        requires within { place < length regions.now.entries }
+        ensures { IfOk result (IsLandOf (slice_set (shapes_of regions.now) place shape.now)) }
+    {
+        prove!(place < regions.count());
+        self.put(alloc, regions, place, shape)
+    }
+
+    // The land of these regions where that shape stands at a place or behind all.
+    fn put(
+        &self,
+        alloc: Global,
+        regions: &RegionSet,
+        place: u32,
+        shape: &Shape,
+    ) -> Result<Land, AllocError>
+        requires of { IsLandOf (shapes_of regions.now) self.now }
+        requires within { place ≤ length (shapes_of regions.now) }
+        requires few { length (with_at (shapes_of regions.now) place shape.now) < 2 ^ 32 }
+        ensures { IfOk result (IsLandOf (with_at (shapes_of regions.now) place shape.now)) }
+    {
+        let columns = shape.extent();
+        let mut plots = Vec::with_capacity(alloc, self.plots.len())?;
+        for index in 0..self.plots.len() {
+            plots.push(self.plots[index].put(alloc, regions, place, shape, &columns)?)?;
+        }
+        Land::made(alloc, plots)
+    }
+
+    /// The land of these regions without the one at that place. This one stays as it is. Only the
+    /// chunks in which that region or one behind it lies take memory of their own.
+    pub fn without(
+        &self,
+        alloc: Global,
+        regions: &RegionSet,
+        place: u32,
+    ) -> Result<Land, AllocError>
+        requires of { IsLandOf (shapes_of regions.now) self.now }
+        requires within { place < length regions.now.entries }
+        ensures { IfOk result (IsLandOf (remove (shapes_of regions.now) place)) }
+    {
+        let mut plots = Vec::with_capacity(alloc, self.plots.len())?;
+        for index in 0..self.plots.len() {
+            plots.push(self.plots[index].without(alloc, regions, place)?)?;
+        }
+        Land::made(alloc, plots)
+    }
+
+    /// Whether the subject may do this at the place, and the rule that says so, by these regions. It
+    /// costs those near the place, and takes no memory. Outside the widest world it walks all.
+    pub fn decide(&self, regions: &RegionSet, subject: &Subject, action: Action, p: Pos) -> Verdict
+        requires { IsLandOf (shapes_of regions.now) self.now }
+        ensures { result ≡ verdict regions.now (actor_of subject.now) action p }
+    {
+        decided(regions, &self.here(regions, p), &[], subject, action, p)
+    }
+
+    // The places of the regions that may contain the position, where it lies in the widest world and
+    // they are few enough.
+    fn here(&self, regions: &RegionSet, p: Pos) -> Option<ArrayVec<u32, MAX_HERE>>
+        requires { IsLandOf (shapes_of regions.now) self.now }
+        ensures { IfSome result (λ here. HoldCandidates regions.now p here.items) }
+    {
+        let chunk = self.plots.get(index_of(p)?)?.chunk();
+        if !chunk.holds(p) {
+            return None;
+        }
+        chunk.here(regions, p)
+    }
+}
+
+// The index of the chunk that holds the position, where that lies in the widest world.
+fn index_of(p: Pos) -> Option<usize> {
+    let column = u32::try_from(p.x).ok()? / SIDE;
+    let row = u32::try_from(p.z).ok()? / SIDE;
+    if ACROSS <= column || ACROSS <= row {
+        return None;
+    }
+    Some((row * ACROSS + column) as usize)
+}

@@ -1,3 +1,4 @@
 pub mod Accepted
+pub mod Outlines
 pub mod Spares
 pub mod Texts

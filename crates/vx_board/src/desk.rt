@@ -5,6 +5,7 @@ ghost use Rattle.vx_policy.specs.Asked.{Asked, asked};
 ghost use Rattle.vx_policy.specs.Edits.{after, AreAccepted};
 
 use crate::board::Board;
+use crate::charted::Charted;
 use crate::first::First;
 use crate::front::Front;
 use crate::listed::Listed;
@@ -28,7 +29,6 @@ pub struct Desk<J: Board, R: Wait + Drop>
 where
     Posted<J>: Absorb<Posted<J>>,
 {
-    alloc: Global,
     factory: ReadHandleFactory<Posted<J>>,
     start: Front<J>,
     // The first view, until it is handed out. It has a lock, since threads share a desk and not a
@@ -51,6 +51,7 @@ impl<J: Board, R: Wait + Drop> Desk<J, R> {
         ensures { IfOk result (λ desk. IsSome desk.first) }
     {
         let (head, start) = opened.named::<J>();
+        let policy = Charted::new(alloc, policy)?;
         let one = Posted::new(policy.try_clone()?, start.again());
         let two = Posted::new(policy.try_clone()?, start.again());
         let again = Posted::new(policy.try_clone()?, start.again());
@@ -63,10 +64,9 @@ impl<J: Board, R: Wait + Drop> Desk<J, R> {
         }
         writer.publish()?;
         let factory = writer.factory()?;
-        let view = View::new(alloc, factory.handle()?, start.again());
+        let view = View::new(factory.handle()?, start.again());
         let locked = Locked::new(alloc, head, start.again(), policy, writer);
         Ok(Desk {
-            alloc,
             factory,
             start,
             first: Some(Mutex::new(First { view })),
@@ -109,7 +109,7 @@ impl<J: Board, R: Wait + Drop> Desk<J, R> {
         let Ok(reader) = self.factory.handle() else {
             return Err(ViewError::NoView);
         };
-        Ok(View::new(self.alloc, reader, self.start.again()))
+        Ok(View::new(reader, self.start.again()))
     }
 
     /// Whether its first view was not handed out yet.

@@ -3,8 +3,8 @@
 #![tactic(auto)]
 
 mod acceptance;
-mod areas;
 mod board;
+mod charted;
 mod desk;
 mod desk_error;
 mod desk_state;
@@ -12,6 +12,7 @@ mod edited;
 mod first;
 mod front;
 mod head;
+mod land_after;
 mod listed;
 mod locked;
 mod naming;

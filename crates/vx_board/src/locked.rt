@@ -9,6 +9,7 @@ ghost use Rattle.vx_policy.specs.Refusals.{refusal};
 
 use crate::acceptance::settle;
 use crate::board::Board;
+use crate::charted::Charted;
 use crate::front::Front;
 use crate::head::Head;
 use crate::listed::Listed;
@@ -20,7 +21,7 @@ use left_right::{Absorb, WriteHandle};
 use std::alloc::{AllocError, Global};
 use std::mem;
 use std::sync::Wait;
-use vx_policy::{Edit, Policy, Version};
+use vx_policy::{Edit, Version};
 
 /// What lies under the lock of a desk: the edits that it accepted, the policy after them, older ones
 /// to take turns with, and what shows it to readers. The list is the front.
@@ -32,7 +33,7 @@ where
     head: Head<J>,
     pub front: Front<J>,
     accepted: Vec<Edit>,
-    policy: Policy,
+    policy: Charted,
     spares: Spares,
     writer: WriteHandle<Posted<J>, Posted<J>, R>,
     ghost listed: { map asked accepted.items ≡ front },
@@ -48,7 +49,7 @@ impl<J: Board, R: Wait + Drop> Locked<J, R> {
         alloc: Global,
         head: Head<J>,
         front: Front<J>,
-        policy: Policy,
+        policy: Charted,
         writer: WriteHandle<Posted<J>, Posted<J>, R>,
     ) -> Locked<J, R>
         requires policy { policy ≡ J.first }
@@ -111,7 +112,7 @@ impl<J: Board, R: Wait + Drop> Locked<J, R> {
         let front = grown(rt, &self.front, &self.head, &ready.edit);
         show(rt, &mut self.writer, Posted::new(shown, front.again()));
         let before = mem::replace(&mut self.policy, policy);
-        self.spares.add(before, self.accepted.len());
+        self.spares.add(before.into_policy(), self.accepted.len());
         let edited = settle(&mut self.accepted, ready);
         self.front = front.again();
         Ok(Listed { edited, front })
@@ -130,7 +131,7 @@ impl<J: Board, R: Wait + Drop> Locked<J, R> {
         Ok(Version {
             tick,
             edits: self.front.len(),
-            policy: self.policy.try_clone()?,
+            policy: self.policy.policy().try_clone()?,
         })
     }
 }

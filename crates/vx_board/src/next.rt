@@ -9,28 +9,30 @@ ghost use Rattle.vx_policy.specs.Edits.{edited, number_given, after, AreAccepted
 ghost use Rattle.vx_policy.specs.Refusals.{refusal};
 
 use crate::acceptance::{Ready, hindrance};
+use crate::charted::Charted;
 use crate::desk_error::DeskError;
 use crate::naming::Naming;
 use crate::spare::Spare;
 use crate::spares::Spares;
 use crate::turns::next_policy;
 use std::alloc::{AllocError, Global};
-use vx_policy::{Edit, Policy};
+use vx_policy::Edit;
 use vx_region::RegionNo;
 
-/// An edit for which there is room in the list of accepted edits, and the policy after it, twice.
+/// An edit for which there is room in the list of accepted edits, and the policy after it with its
+/// land, twice.
 #[derive(Drop)]
 pub struct Next {
     pub ready: Ready,
-    pub policy: Policy,
-    pub shown: Policy,
+    pub policy: Charted,
+    pub shown: Charted,
 }
 
 /// Tests an edit, makes room for it in the list, and makes the policy after it beside the one
 /// before. List and policy are as before, but for room.
 pub fn make_next<J: Naming>(
     alloc: Global,
-    policy: &Policy,
+    policy: &Charted,
     spares: &mut Spares,
     accepted: &mut Vec<Edit>,
     edit: Edit,
@@ -50,7 +52,7 @@ pub fn make_next<J: Naming>(
     ensures list { accepted.new.items ≡ accepted.old.items }
     ensures spares { AreSpares J.first (map asked accepted.old.items) spares.new }
 {
-    if let Some(error) = hindrance(policy, accepted.len() as u64, &edit) {
+    if let Some(error) = hindrance(policy.policy(), accepted.len() as u64, &edit) {
         return Err(error);
     }
     let Ok((next, shown, region)) = make_both::<J>(alloc, policy, spares, accepted, &edit) else {
@@ -63,14 +65,15 @@ pub fn make_next<J: Naming>(
     })
 }
 
-// Makes room in the list for an edit that nothing stands against, and twice the policy after it.
+// Makes room in the list for an edit that nothing stands against, and twice the policy after it
+// with its land.
 fn make_both<J: Naming>(
     alloc: Global,
-    policy: &Policy,
+    policy: &Charted,
     spares: &mut Spares,
     accepted: &mut Vec<Edit>,
     edit: &Edit,
-) -> Result<(Policy, Policy, Option<RegionNo>), AllocError>
+) -> Result<(Charted, Charted, Option<RegionNo>), AllocError>
     requires accepted { AreAccepted J.first (map asked accepted.old.items) }
     requires policy { policy.now ≡ after J.first (map asked accepted.old.items) }
     requires spares { AreSpares J.first (map asked accepted.old.items) spares.old }
@@ -85,8 +88,9 @@ fn make_both<J: Naming>(
     accepted.reserve(1)?;
     let copy = edit.try_clone(alloc)?;
     let spare = oldest::<J>(spares, accepted);
-    let mut next = next_policy::<J>(alloc, policy, spare, accepted)?;
+    let mut next = next_policy::<J>(alloc, policy.policy(), spare, accepted)?;
     let region = next.change(alloc, copy)?;
+    let next = policy.after(alloc, next, edit)?;
     let shown = next.try_clone()?;
     Ok((next, shown, region))
 }

@@ -5,14 +5,12 @@ ghost use Rattle.vx_decide.specs.Verdict.{verdict};
 ghost use Rattle.vx_policy.specs.Edits.{after, AreAccepted};
 ghost use Rattle.vx_region.specs.Subjects.{actor_of};
 
-use crate::areas::Areas;
 use crate::board::Board;
 use crate::front::Front;
 use crate::listed::Listed;
 use crate::posted::Posted;
 use crate::view_error::ViewError;
 use left_right::ReadHandle;
-use std::alloc::Global;
 use std::marker::Model;
 use vx_decide::Verdict;
 use vx_flag::Action;
@@ -26,7 +24,6 @@ use vx_region::Subject;
 pub struct View<J: Board> {
     reader: ReadHandle<Posted<J>>,
     front: Front<J>,
-    areas: Areas<J>,
 }
 
 impl<J: Board> Model for View<J> {
@@ -40,15 +37,10 @@ impl<J: Board> Model for View<J> {
 
 impl<J: Board> View<J> {
     // The view that has seen these edits.
-    pub(crate) fn new(alloc: Global, reader: ReadHandle<Posted<J>>, front: Front<J>) -> View<J>
+    pub(crate) fn new(reader: ReadHandle<Posted<J>>, front: Front<J>) -> View<J>
         ensures { result ≡ front }
     {
-        let areas = Areas::new(alloc, front.again());
-        View {
-            reader,
-            front,
-            areas,
-        }
+        View { reader, front }
     }
 
     /// How many edits it has seen or was told of.
@@ -66,7 +58,8 @@ impl<J: Board> View<J> {
     }
 
     /// Whether the subject may do this at the place, and the rule that says so, by the policy after
-    /// so many edits. These begin with all that the view has seen or was told of.
+    /// so many edits. These begin with all that the view has seen or was told of. It costs the
+    /// regions near the place, and takes no memory.
     pub fn explain(
         &mut self,
         subject: &Subject,
@@ -79,18 +72,14 @@ impl<J: Board> View<J> {
             × (r.1 ≡ length self.new) × AreAccepted J.first self.new) }
         ensures refused { OnErr result ((self.new ≡ self.old) × (result ≡ Err NoView)) }
     {
-        let View {
-            reader,
-            front,
-            areas,
-        } = self;
+        let View { reader, front } = self;
         let Some(posted) = reader.enter() else {
             return Err(ViewError::NoView);
         };
         if posted.front().len() < front.len() {
             return Err(ViewError::NoView);
         }
-        let verdict = areas.decide(&posted, subject, action, p);
+        let verdict = posted.decide(subject, action, p);
         *front = posted.front().longer(front);
         front.soundness();
         Ok((verdict, front.len()))
@@ -115,7 +104,7 @@ impl<J: Board> View<J> {
         }) × AreAccepted J.first self.new) }
         ensures refused { OnErr result (self.new ≡ self.old) }
     {
-        let View { reader, front, .. } = self;
+        let View { reader, front } = self;
         let Some(posted) = reader.enter() else {
             return Err(ViewError::NoView);
         };

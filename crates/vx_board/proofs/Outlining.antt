@@ -1,5 +1,5 @@
 -- What an edit leaves of the shapes of the regions.
-use Rattle.std.proofs.Common.{◌≡◌, ℕ, zero, suc, ◌+◌, ◌<◌, ◌≤◌, Bool, true, false, not, cond, if◌then◌else◌, nat_eq, List, [], ◌∷◌, ◌++◌, map, filter, length, slice_get, Some, None, Option, Result, IfOk, refl, ap, sym, ◌∙◌, subst, inl, inr, arith}
+use Rattle.std.proofs.Common.{◌≡◌, ℕ, zero, suc, ◌<◌, ◌≤◌, Bool, true, false, not, cond, if◌then◌else◌, nat_eq, List, [], ◌∷◌, ◌++◌, map, filter, length, slice_get, Some, None, Option, Result, IfOk, refl, ap, sym, ◌∙◌, subst, inl, inr, arith}
 use Rattle.std.specs.List.{remove, slice_set}
 use Rattle.std.proofs.lemmas.Bool.{cases_eq, eq-eqb, ne_eqb}
 use Rattle.std.proofs.lemmas.List.{map-append}
@@ -12,7 +12,7 @@ use Rattle.vx_geom.specs.Written.{Written, outline_asked}
 use Rattle.vx_region.specs.declared.role.Role.{Role}
 use Rattle.vx_region.specs.declared.role.Role.TheVariants.{Owner, Member}
 use Rattle.vx_region.specs.Forest.{IsAscending}
-use Rattle.vx_region.specs.Regions.{RegionData, Entry, Regions, changed, changed_at, gaining, losing, with_region, without_region, with_shape, with_priority, with_parent, with_flag, with_name, without_name}
+use Rattle.vx_region.specs.Regions.{RegionData, Entry, Regions, changed_at, gaining, losing, with_region, without_region, with_shape, with_priority, with_parent, with_flag, with_name, without_name}
 use Rattle.vx_region.specs.Words.{read_id, read_name}
 use Rattle.vx_region.proofs.Globals.{flag_at_large, flag_of_region}
 use Rattle.vx_policy.specs.Asked.{Asked, Define, Reshape, Remove, Priority, Parent, SetFlag, ClearFlag, Listed}

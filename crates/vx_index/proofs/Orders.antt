@@ -1,5 +1,5 @@
 -- Patches that are kept, moved and joined stay in order.
-use Rattle.std.proofs.Common.{◌≡◌, ℕ, ◌+◌, ◌-◌, ◌<◌, ◌≤◌, Bool, true, false, cond, List, [], ◌∷◌, ◌++◌, map, filter, refl, arith}
+use Rattle.std.proofs.Common.{◌≡◌, ℕ, ◌-◌, ◌≤◌, Bool, true, false, cond, List, [], ◌∷◌, ◌++◌, map, filter, refl, arith}
 use Rattle.std.specs.List.{AllByRecursion}
 use Rattle.vx_index.specs.declared.patch.Patch.{Patch}
 use Rattle.vx_index.specs.Patches.{AreInOrder, moved_down}

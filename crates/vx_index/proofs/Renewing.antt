@@ -1,5 +1,5 @@
 -- The patches of a chunk after a shape was put at a place, and after the shape of a place is gone.
-use Rattle.std.proofs.Common.{◌≡◌, ◌≢◌, inl, inr, ℕ, suc, ◌+◌, ◌-◌, ◌^◌, ◌<◌, ◌≤◌, Bool, true, false, ◌||◌, cond, nat_eq, nat_lt, nat_le, List, [], ◌∷◌, ◌++◌, map, filter, length, Some, refl, ap, sym, ◌∙◌, subst, arith}
+use Rattle.std.proofs.Common.{◌≡◌, ◌≢◌, inl, inr, ℕ, suc, ◌+◌, ◌-◌, ◌^◌, ◌<◌, ◌≤◌, Bool, true, false, cond, nat_eq, nat_lt, nat_le, List, [], ◌∷◌, ◌++◌, map, filter, length, Some, refl, ap, sym, ◌∙◌, subst, arith}
 use Rattle.std.specs.List.{AllByRecursion, list_any, slice_get, remove}
 use Rattle.std.proofs.lemmas.Bool.{and_parts, both_ways, cases_eq, cases_lt, eqb-true, eq-eqb, le-leb, leb-false, lt-ltb, ltb-true, or_cases, or_left, or_parts, or_right}
 use Rattle.std.proofs.lemmas.List.Edits.{length-remove}
@@ -14,7 +14,7 @@ use Rattle.vx_index.specs.declared.patch.Patch.{Patch}
 use Rattle.vx_index.specs.Patches.{is_near, are_near, AreInOrder, AreTold, IsMet, AreOf, Adds, moved_down}
 use Rattle.vx_index.specs.Shapes.{with_at}
 use Rattle.vx_index.proofs.Adding.{near_from, near_left, near_right, all_append, added_met, met_own, order_own}
-use Rattle.vx_index.proofs.Orders.{order_raise, order_filter, order_join, order_moved, all_kept, all_weaker, all_moved, all_always}
+use Rattle.vx_index.proofs.Orders.{order_raise, order_filter, order_join, order_moved, all_kept, all_weaker, all_moved}
 use Rattle.vx_index.proofs.Shapes.{at_place, elsewhere, count_with, before_gone, behind_gone}
 
 -- the place that a near patch has

@@ -1,4 +1,4 @@
-use Rattle.std.proofs.Common.{◌≡◌, ◌∷◌, [], ◌++◌, length, List, IfOk, ap, sym, ◌∙◌, subst, arith}
+use Rattle.std.proofs.Common.{◌≡◌, length, List, IfOk, ap, sym, ◌∙◌, subst, arith}
 use Rattle.vx_geom.specs.Outline.{Outline}
 use Rattle.vx_index.specs.Lands.{IsLandOf}
 use Rattle.vx_index.specs.Shapes.{shapes_of, with_at}

@@ -2,7 +2,6 @@ use Rattle.std.proofs.Common.{rules, ◌≡◌, nat_eq, ap, sym, ◌∙◌}
 use Rattle.std.specs.List.{list_any}
 use Rattle.vx_geom.specs.declared.extent.Extent.{Extent}
 use Rattle.vx_geom.specs.Extent.{meets}
-use Rattle.vx_index.specs.Chunks.{TellsOf}
 use Rattle.vx_index.specs.Shapes.{shapes_of, with_at}
 use Rattle.vx_index.specs.declared.chunk.Chunk.{Chunk}
 use Rattle.vx_index.proofs.Renewing.{put_elsewhere}

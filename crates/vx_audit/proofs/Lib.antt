@@ -1,0 +1,15 @@
+pub mod Blocked
+pub mod Counted
+pub mod Deeded
+pub mod Filtered
+pub mod Marking
+pub mod Matching
+pub mod Ordering
+pub mod Premises
+pub mod Standing
+pub mod Stepping
+pub mod Taken
+pub mod Taking
+pub mod Tracing
+pub mod Unrolled
+pub mod Walking

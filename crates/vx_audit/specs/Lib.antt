@@ -1,0 +1,6 @@
+pub mod Audits
+pub mod Counts
+pub mod Deeds
+pub mod Marks
+pub mod Records
+pub mod Walks

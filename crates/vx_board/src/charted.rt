@@ -70,8 +70,8 @@ impl Charted {
         })
     }
 
-    /// What an edit of this policy led to, with its land: this one's, made anew where the edit's
-    /// region lies.
+    /// The policy that an edit of this one led to, with its land. Only the chunks that tell of
+    /// another shape or place are made anew.
     pub fn after(&self, alloc: Global, policy: Policy, edit: &Edit) -> Result<Charted, AllocError>
         requires { policy ≡ edited self.now (asked edit.now) }
         ensures { IfOk result (λ charted. charted ≡ policy) }

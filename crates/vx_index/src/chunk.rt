@@ -180,7 +180,7 @@ impl Chunk {
         Ok(())
     }
 
-    // Adds them for the places before theirs.
+    // Adds the patches of the regions behind that place, each for the place before its own.
     fn add_moved(&self, patches: &mut Vec<Patch>, place: u32) -> Result<(), AllocError>
         ensures { OnOk result (patches.new.items ≡ patches.old.items
             ++ map moved_down (filter (λ d. nat_lt place d.place) self.now.patches.items)) }

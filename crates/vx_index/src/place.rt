@@ -3,8 +3,8 @@ ghost use Rattle.vx_region.specs.Regions.{RegionData};
 
 use vx_region::{RegionNo, RegionSet};
 
-/// The place of a region in the order of numbers, counted from 0, by its number. Each region stands
-/// one place before its number until one before it is removed, and never further back.
+/// The place of a region in the order of numbers, counted from 0, by its number; `None` where it
+/// finds none. It looks at a few regions, since numbers ascend.
 pub fn place_of(regions: &RegionSet, number: RegionNo) -> Option<u32>
     ensures { IfSome result (λ place. (region : RegionData)
         × (slice_get regions.now.entries place ≡ Some (number.0, region))) }

@@ -56,9 +56,9 @@ impl Plot {
         })
     }
 
-    /// The plot of the same columns, where that shape, which lies in those columns, stands at a
-    /// place of the regions or behind all of them. Where neither it nor the one before it lies in
-    /// the plot, the chunk is shared.
+    /// The plot of the same columns, where that shape stands at a place of the regions or behind all
+    /// of them. These are the shape's columns. Where neither it nor the shape that stood there lies
+    /// in the plot, the chunk is shared.
     pub(crate) fn put(
         &self,
         alloc: Global,

@@ -1,5 +1,5 @@
 //! The land of a policy after an edit, made of the land before it.
-ghost use Rattle.std.specs.Prelude.{◌≡◌, ◌<◌, true, length, remove, IfOk, IfSome};
+ghost use Rattle.std.specs.Prelude.{◌≡◌, ◌<◌, length, IfOk, IfSome};
 ghost use Rattle.vx_board.specs.Outlines.{keeps_shapes, DefinesOne, Reshapes, IsPlaceOf};
 ghost use Rattle.vx_index.specs.Lands.{IsLandOf};
 ghost use Rattle.vx_index.specs.Shapes.{shapes_of};

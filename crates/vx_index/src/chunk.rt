@@ -1,4 +1,4 @@
-ghost use Rattle.std.specs.Prelude.{◌≡◌, ◌+◌, ◌^◌, ◌<◌, ◌≤◌, ◌++◌, ℕ, true, nat_eq, nat_lt, nat_le, length, filter, map, remove, unsigned_abs, IfOk, IfSome, OnOk};
+ghost use Rattle.std.specs.Prelude.{◌≡◌, ◌^◌, ◌<◌, ◌≤◌, ◌++◌, true, nat_eq, nat_lt, nat_le, length, filter, map, remove, unsigned_abs, IfOk, IfSome, OnOk};
 ghost use Rattle.std.specs.List.{list_any};
 ghost use Rattle.vx_geom.specs.Extent.{is_within, meets};
 ghost use Rattle.vx_decide.specs.Candidates.{HoldCandidates};

@@ -1,8 +1,6 @@
-ghost use Rattle.std.specs.Prelude.{◌≡◌, ◌+◌, ◌^◌, ◌<◌, ◌≤◌, ◌++◌, ◌∷◌, [], true, length, remove, slice_set, IfOk, IfSome};
+ghost use Rattle.std.specs.Prelude.{◌≡◌, ◌+◌, ◌^◌, ◌<◌, ◌≤◌, ◌++◌, ◌∷◌, [], length, remove, slice_set, IfOk, IfSome};
 ghost use Rattle.vx_decide.specs.Candidates.{HoldCandidates};
 ghost use Rattle.vx_decide.specs.Verdict.{verdict};
-ghost use Rattle.vx_geom.specs.Extent.{is_within};
-ghost use Rattle.vx_index.specs.Chunks.{IsChunk};
 ghost use Rattle.vx_index.specs.Lands.{IsLandOf};
 ghost use Rattle.vx_index.specs.Shapes.{shapes_of, with_at};
 ghost use Rattle.vx_region.specs.Subjects.{actor_of};

@@ -18,7 +18,8 @@ use vx_sector::Entry;
 
 /// Where the marks of what was done differ from the record of a world that has ended, if they do. Where
 /// they don't, any deeds that have these marks, and of which the record and the players' lists say the
-/// same calls, are what the one-threaded game gives.
+/// same calls, are what the one-threaded game gives. An error says that memory was wanted: a list of the
+/// windows and a table of the players in each sector, both made before the first mark is read.
 pub fn follow(
     alloc: Global,
     chronicle: &Chronicle,
@@ -27,13 +28,12 @@ pub fn follow(
     marks: &[Mark],
 ) -> Result<Option<Difference>, AllocError>
     requires record { IsRecord (record_in chronicle.now windows.now version.now) }
-    requires few { calls_on (record_in chronicle.now windows.now version.now).chronicle.ticks
-        (record_in chronicle.now windows.now version.now).windows ≤ most_entries }
-    ensures { IfOk result (λ found. found ≡ None → (deeds : List DeedData)
-        → marks_of chronicle.now.opening.terrain.sizes deeds ≡ marks.now
-        → IsByEdits (edits_in deeds) (record_in chronicle.now windows.now version.now)
-        → IsKnownOf (record_in chronicle.now windows.now version.now) deeds
-        → IsGameOf (record_in chronicle.now windows.now version.now) deeds) }
+    requires few { let r = record_in chronicle.now windows.now version.now in
+        calls_on r.chronicle.ticks r.windows ≤ most_entries }
+    ensures { IfOk result (λ found. let r = record_in chronicle.now windows.now version.now in
+        found ≡ None → (deeds : List DeedData)
+        → marks_of r.chronicle.opening.terrain.sizes deeds ≡ marks.now
+        → IsByEdits (edits_in deeds) r → IsKnownOf r deeds → IsGameOf r deeds) }
 {
     chronicle.opening.soundness();
     let mut walk = Walk::begin(alloc, chronicle, windows, version)?;

@@ -6,6 +6,7 @@ pub enum Mark {
     Call { seat: u8, sector: Option<u8> },
     /// An edit that was accepted.
     Edit,
+    /// A tick.
     Tick,
     /// The calls from here to the next end are a block: several players made them at once, each
     /// player's in their order.

@@ -153,6 +153,7 @@ impl<'a> Walk<'a> {
         let Some((tick, ticks)) = first_tick(self.ticks) else {
             return false;
         };
+        // Read, so that the proof has a name for it.
         let _ = tick.number;
         if !are_done(&self.lefts) || version_of(ticks, self.version).edits != self.edits {
             return false;

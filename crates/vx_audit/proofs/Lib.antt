@@ -6,6 +6,7 @@ pub mod Marking
 pub mod Matching
 pub mod Ordering
 pub mod Premises
+pub mod Recording
 pub mod Standing
 pub mod Stepping
 pub mod Taken

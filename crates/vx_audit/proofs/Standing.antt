@@ -1,6 +1,6 @@
 -- Where a walk over the record stands beside a game: what is left of the record is a run from the map
 -- of the game on.
-use Rattle.std.proofs.Common.{◌≡◌, ℕ, ◌+◌, List, [], ◌∷◌, length, ap, ◌∙◌, subst, arith}
+use Rattle.std.proofs.Common.{◌≡◌, ℕ, ◌+◌, List, [], ◌∷◌, length, map, ap, ◌∙◌, subst, arith}
 use Rattle.std.specs.List.{All, sum_by}
 use Rattle.vx_geom.specs.Sizes.{Sizes}
 use Rattle.vx_cells.specs.Maps.{MapData}
@@ -10,10 +10,11 @@ use Rattle.vx_policy.specs.Asked.{Asked}
 use Rattle.vx_policy.specs.declared.version.Version.{Version}
 use Rattle.vx_sector.specs.SectorData.{SectorData, EntryData}
 use Rattle.vx_tick.specs.Ticks.{fates_on, stepped}
+use Rattle.vx_windows.specs.Sectors.{entries_of}
 use Rattle.vx_record.specs.Chronicles.{TickData, AreWindows, AreTicks, AreGrown, all_after, map_acted, map_after, version_by}
 use Rattle.vx_play.specs.Plays.{PlayData, IsWorld, calls, map_of}
 use Rattle.vx_record.specs.Archives.{calls_on}
-use Rattle.vx_audit.specs.Walks.{WalkData, version_in}
+use Rattle.vx_audit.specs.Walks.{WalkData, AreParts, version_in, windows_in}
 
 -- the ticks that are left, the first with what is left of its windows
 abbrev pub ticks_left : List TickData → List (List EntryData) → List TickData
@@ -33,6 +34,8 @@ pub record Whole : Type 0 where
   pub edits : List Asked
   pub ticks : ℕ
   pub calls : ℕ
+  pub windows : List (List EntryData)
+  pub version : Version
 
 pub record Stands (g : Whole) (play : PlayData) (w : WalkData) : Type 0 where
   pub sizes : play.sizes ≡ g.sizes
@@ -49,6 +52,8 @@ pub record Stands (g : Whole) (play : PlayData) (w : WalkData) : Type 0 where
   pub counted : w.edits ≡ length play.accepted
   pub all : play.ticks + length w.ticks ≡ g.ticks
   pub calls : calls play + calls_on (ticks_left w.ticks w.lefts) (open_left w.ticks w.lefts w.pending) ≡ g.calls
+  pub parts : AreParts (windows_in w.ticks w.pending) (map entries_of play.sectors) w.lefts
+  pub ends : (w.pending ≡ g.windows) × (w.last ≡ g.version)
 
 -- the windows that come first are windows over the map
 pub first_windows : (names : List (List ℕ)) (m : MapData) (ts : List TickData) (n : ℕ) (lefts pending : List (List EntryData)) (last : Version)

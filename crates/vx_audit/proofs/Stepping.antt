@@ -21,7 +21,7 @@ use Rattle.vx_sector.specs.declared.refusal.Refusal.TheVariants.{OutOfWorld}
 use Rattle.vx_sector.proofs.Outside.{answered_by_the_rules, after_answer}
 use Rattle.vx_tick.specs.Ticks.{fates_on, stepped}
 use Rattle.vx_tick.specs.declared.fate.Fate.{Fate}
-use Rattle.vx_windows.specs.Sectors.{cells_of}
+use Rattle.vx_windows.specs.Sectors.{cells_of, entries_of}
 use Rattle.vx_windows.proofs.Renewals.{all_bring, renewed_version}
 use Rattle.vx_windows.proofs.Sparing.{of_found}
 use Rattle.vx_record.specs.Chronicles.{TickData, AreWindows, AreTicks, AreGrown, all_after, map_acted, map_after, version_by}
@@ -29,9 +29,11 @@ use Rattle.vx_play.specs.Plays.{PlayData, answered, answered_at, sector_asked, c
 use Rattle.vx_play.specs.Games.{Command, Accepted, after_step}
 use Rattle.vx_play.proofs.Playing.{command_keeps_all, judged_as_before}
 use Rattle.vx_play.proofs.Whole.{commands_keep_worlds, ticks_keep_worlds, answered_there, map_ticked}
-use Rattle.vx_audit.specs.Deeds.{Called, Ticked, Does}
 use Rattle.vx_record.specs.Archives.{calls_on}
-use Rattle.vx_audit.specs.Walks.{WalkData, version_in, windows_in}
+use Rattle.vx_audit.specs.Deeds.{Called, Ticked, Does}
+use Rattle.vx_audit.specs.Recorded.{tick_of}
+use Rattle.vx_audit.specs.Walks.{WalkData, AreParts, version_in, windows_in}
+use Rattle.vx_audit.proofs.Recording.{part_more, parts_begun, parts_done, renewed_empty}
 use Rattle.vx_audit.proofs.Taken.{TakesCallIn, TakesCall, TakesTick}
 use Rattle.vx_audit.proofs.Standing.{Whole, Stands, ticks_left, open_left, first_windows, ticks_moved, open_moved, calls_less}
 use Rattle.vx_audit.proofs.Taking.{sector_there, windows_on, cells_on, cells_done, calls_done, one_less, one_more, part, counts_stay}
@@ -108,6 +110,12 @@ module _ (g : Whole) (play : PlayData) (w : WalkData) (st : Stands g play w) (fi
     windows_next : AreWindows g.names (version_in w.ticks w.last).policy (set cells k (cells_by s.cells call.cmd call.answer)) (set w.lefts k rest)
     windows_next = windows_on g.names (version_in w.ticks w.last).policy cells w.lefts k call rest s.cells are found in_cells
 
+    parts_next : AreParts (windows_in w.ticks w.pending) (map entries_of next.sectors) (set w.lefts k rest)
+    parts_next = subst (λ es. AreParts (windows_in w.ticks w.pending) es (set w.lefts k rest))
+        (sym (ap (map entries_of) sectors_next ∙ map-set entries_of play.sectors k (recorded s call)))
+        (part_more (windows_in w.ticks w.pending) (map entries_of play.sectors) w.lefts k s.entries call rest st.parts
+        (slice_get-map entries_of play.sectors k ∙ ap (option_map entries_of) there) found)
+
     counted : calls next ≡ calls play + 1
     counted = ap (sum_by count_of) sectors_next ∙ one_more play.sectors k s call there
 
@@ -130,6 +138,8 @@ module _ (g : Whole) (play : PlayData) (w : WalkData) (st : Stands g play w) (fi
       counted = st.counted;
       all = st.all;
       calls = omega (arith, counted, st.calls, calls_less w.ticks w.lefts (set w.lefts k rest) w.pending less);
+      parts = parts_next;
+      ends = st.ends;
     }
 
   -- the sector is there
@@ -181,6 +191,8 @@ edited g play w edit st = record {
   counted = omega (arith, st.counted, length-append play.accepted (edit ∷ []));
   all = st.all;
   calls = st.calls;
+  parts = st.parts;
+  ends = st.ends;
 }
 
 -- the ticks and the windows after one tick are whole
@@ -241,6 +253,14 @@ module _ (g : Whole) (play : PlayData) (later : List Asked) (split : play.accept
   last_is : last ≡ version_by g.first g.edits last.edits (play.ticks + 1 + length ts + 1)
   last_is = subst (λ n. last ≡ version_by g.first g.edits last.edits n) (omega arith) st.last
 
+  ticks_next : AreTicks g.names (map_of (ticked play)) (play.ticks + 1 + 1) (ticks_left ts (windows_in ts pending))
+  ticks_next = subst (AreTicks g.names (map_of (ticked play)) (play.ticks + 1 + 1)) (sym (ticks_whole ts pending)) ticks_are
+
+  pending_next : AreWindows g.names last.policy (map_after (map_of (ticked play)) (ticks_left ts (windows_in ts pending))).sectors
+      (open_left ts (windows_in ts pending) pending)
+  pending_next = subst (λ (x : List TickData). AreWindows g.names last.policy (map_after (map_of (ticked play)) x).sectors (open_left ts (windows_in ts pending) pending)) (sym (ticks_whole ts pending))
+      (subst (AreWindows g.names last.policy (map_after (map_of (ticked play)) ts).sectors) (sym (open_whole ts pending)) pending_are)
+
   pub after_tick : Stands g (ticked play) (record { lefts = windows_in ts pending; ticks = ts; pending = pending; last = last; edits = edits })
   after_tick = record {
     sizes = st.sizes;
@@ -249,9 +269,8 @@ module _ (g : Whole) (play : PlayData) (later : List Asked) (split : play.accept
     version = version_next g g.names play later (map_of (ticked play)) ts last t.version.edits st.first split ticks_are st.grown.2 last_is (counted ∙ st.counted);
     judged = all_bring (next_version play) (λ s. Unit {0}) (λ s. s.version ≡ next_version play)
         (λ s cells known. renewed_version (next_version play) s cells) play.sectors (next_map play).sectors (λ k d within. tt);
-    ticks = subst (AreTicks g.names (map_of (ticked play)) (play.ticks + 1 + 1)) (sym (ticks_whole ts pending)) ticks_are;
-    pending = subst (λ (x : List TickData). AreWindows g.names last.policy (map_after (map_of (ticked play)) x).sectors (open_left ts (windows_in ts pending) pending)) (sym (ticks_whole ts pending))
-        (subst (AreWindows g.names last.policy (map_after (map_of (ticked play)) ts).sectors) (sym (open_whole ts pending)) pending_are);
+    ticks = ticks_next;
+    pending = pending_next;
     low = t.version.edits;
     grown = st.grown.2;
     last = last_is;
@@ -260,18 +279,27 @@ module _ (g : Whole) (play : PlayData) (later : List Asked) (split : play.accept
     calls = ap (λ n. n + calls_on (ticks_left ts (windows_in ts pending)) (open_left ts (windows_in ts pending) pending)) (counts_stay (next_version play) play.sectors (next_map play).sectors)
         ∙ (λ i. calls play + calls_on (ticks_whole ts pending i) (open_whole ts pending i))
         ∙ omega (arith, st.calls, none);
+    parts = parts_begun g.names (version_in ts last).policy (ticked play).sectors (windows_in ts pending)
+        (all_bring (next_version play) (λ s. Unit {0}) (λ s. s.entries ≡ [])
+        (λ s cells known. renewed_empty (next_version play) s cells) play.sectors (next_map play).sectors (λ k d within. tt))
+        (first_windows g.names (map_of (ticked play)) ts (play.ticks + 1 + 1) (windows_in ts pending) pending last ticks_next pending_next);
+    ends = st.ends;
   }
 
 -- any tick
 pub passed : (g : Whole) (play : PlayData) (later : List Asked) (w : WalkData) (fates : List (Pos × Fate)) (new : WalkData) → Stands g play w
     → play.accepted ++ later ≡ g.edits → TakesTick w fates new
-    → Does play (Ticked fates) (ticked play) × Stands g (ticked play) new
+    → Does play (Ticked fates) (ticked play) × (w.ticks ≡ tick_of play fates ∷ new.ticks) × Stands g (ticked play) new
 passed g play later w fates new st split takes =
     let here : Stands g play (record w { ticks = takes.tick ∷ takes.ticks }) =
     subst (λ ts. Stands g play (record w { ticks = ts })) takes.there st in
     let closed = cells_done (map cells_of play.sectors) w.lefts takes.closed in
-    let none = calls_done w.lefts takes.closed in (
+    let none = calls_done w.lefts takes.closed in
+    let windows = parts_done takes.tick.windows (map entries_of play.sectors) w.lefts here.parts takes.closed in
+    let tick : takes.tick ≡ tick_of play fates =
+    λ i. record { number = here.ticks.0.number i; version = sym here.version i; windows = windows i; fates = takes.told i } in (
       record { told = sym takes.told ∙ fates_given g play later split w.lefts takes.tick takes.ticks w.pending w.last w.edits here closed none takes.counted; after = refl },
+      takes.there ∙ (λ i. tick i ∷ (sym takes.after i).ticks),
       subst (Stands g (ticked play)) (sym takes.after)
           (after_tick g play later split w.lefts takes.tick takes.ticks w.pending w.last w.edits here closed none takes.counted),
     )

@@ -2,5 +2,6 @@ pub mod Audits
 pub mod Counts
 pub mod Deeds
 pub mod Marks
+pub mod Recorded
 pub mod Records
 pub mod Walks

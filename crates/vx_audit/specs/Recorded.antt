@@ -1,5 +1,5 @@
 -- What a game puts on record while deeds are done in it.
-use Rattle.std.specs.Prelude.{◌≡◌, ℕ, ◌+◌, ◌++◌, List, [], ◌∷◌, map}
+use Rattle.std.specs.Prelude.{◌≡◌, ◌+◌, ◌++◌, List, [], ◌∷◌, map}
 use Rattle.vx_geom.specs.declared.pos.Pos.{Pos}
 use Rattle.vx_tick.specs.declared.fate.Fate.{Fate}
 use Rattle.vx_windows.specs.Sectors.{entries_of}

@@ -68,11 +68,12 @@ pub renewed_empty : (version : Version) (s : SectorData) (cells : SectorCells) �
 unfolding renewed
 renewed_empty version s cells = refl
 
--- a game that records ticks is one, and every game records some
+-- deeds of which ticks are recorded are played
 pub played_of : (play : PlayData) (deeds : List DeedData) (ticks : List TickData) (last : PlayData) → IsRecorded play deeds ticks last → IsPlayed play deeds last
 played_of play [] ticks last is = is.1
 played_of play (deed ∷ deeds) ticks last is = (is.0, is.2, played_of is.0 deeds is.1 last is.4)
 
+-- of deeds that are played a list of ticks is recorded, which may be empty
 pub recorded_of : (play : PlayData) (deeds : List DeedData) (last : PlayData) → IsPlayed play deeds last
     → (ticks : List TickData) × IsRecorded play deeds ticks last
 recorded_of play [] last is = ([], (refl, is))

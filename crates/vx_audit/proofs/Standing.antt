@@ -1,5 +1,5 @@
 -- Where a walk over the record stands beside a game: what is left of the record is a run from the map
--- of the game on.
+-- of the game on, and what the game has recorded in its windows comes before it.
 use Rattle.std.proofs.Common.{◌≡◌, ℕ, ◌+◌, List, [], ◌∷◌, length, map, ap, ◌∙◌, subst, arith}
 use Rattle.std.specs.List.{All, sum_by}
 use Rattle.vx_geom.specs.Sizes.{Sizes}

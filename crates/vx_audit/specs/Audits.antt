@@ -21,8 +21,8 @@ record_in chronicle windows version = record {
 }
 
 -- the deeds are a game in the world that opened so: what was told of each is what the game gives, one
--- after another; and the record is the one of that game, its ticks, its open windows and their
--- version, with as many ticks and recorded calls
+-- after another; and the record is what that game records: its ticks, the open windows and their
+-- version; it has as many ticks and recorded calls
 pub record IsGameOf (r : RecordData) (deeds : List DeedData) : Type 0 where
   pub last : PlayData
   pub played : IsPlayed

@@ -1,0 +1,4 @@
+pub mod Compact
+pub mod Lines
+pub mod Plainness
+pub mod Spelling

@@ -20,7 +20,8 @@ use Rattle.vx_script.specs.declared.fault.Fault.{Fault}
 use Rattle.vx_script.specs.declared.fault.Fault.TheVariants.{HistoryFull, Syntax, TooManyPlayers}
 use Rattle.vx_script.specs.FirstFault.{IsFirstFault, FirstFault}
 use Rattle.vx_script.specs.Told.{Told, only, faulted, prepend}
-use Rattle.vx_script.specs.Transcript.{Opening, read_of, or_syntax, answer_text, line_text, is_history, command_told, judged_told, edit_told, tick_told, body_told, body_run, begun, begun_on, first_line, header_after, header_told, header_end, is_peopled, done_text, tick_text, header_run, no_opening, transcript}
+use Rattle.vx_json.specs.Texts.{answer_text, line_text}
+use Rattle.vx_script.specs.Transcript.{Opening, read_of, or_syntax, is_history, command_told, judged_told, edit_told, tick_told, body_told, body_run, begun, begun_on, first_line, header_after, header_told, header_end, is_peopled, done_text, tick_text, header_run, no_opening, transcript}
 
 abbrev fault_of : Told → Option Fault
 fault_of told = told.fault

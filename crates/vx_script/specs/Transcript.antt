@@ -1,15 +1,12 @@
 -- What a script writes, line by line.
-use Rattle.std.specs.Prelude.{ℕ, ◌+◌, Bool, true, false, not, ◌&&◌, ◌==◌, nat_lt, nat_le, codes, decimal, if◌then◌else◌, List, [], ◌∷◌, ◌++◌, length, Option, Some, None, option_map, is_some, Result, Ok, Err}
-use Rattle.std.specs.Fmt.{signed_decimal}
+use Rattle.std.specs.Prelude.{ℕ, ◌+◌, Bool, true, false, not, ◌&&◌, ◌==◌, nat_lt, nat_le, codes, decimal, if◌then◌else◌, List, [], ◌∷◌, ◌++◌, length, Option, Some, None, option_map, is_some, Result, Err}
 use Rattle.std.specs.Option.{option_and_then}
 use Rattle.vx_block.specs.declared.part.Part.{Part}
 use Rattle.vx_block.specs.Part.{part_cell}
 use Rattle.vx_geom.specs.declared.pos.Pos.{Pos}
 use Rattle.vx_geom.specs.Sizes.{Sizes}
 use Rattle.vx_region.specs.Regions.{Regions}
-use Rattle.vx_decide.specs.Texts.{rule_text}
 use Rattle.vx_tick.specs.declared.fate.Fate.{Fate}
-use Rattle.vx_tick.specs.declared.fate.Fate.TheVariants.{Moved, Denied, Beaten}
 use Rattle.vx_policy.specs.Asked.{Asked}
 use Rattle.vx_policy.specs.Edits.{number_given}
 use Rattle.vx_policy.specs.Refusals.{refusal}
@@ -18,7 +15,6 @@ use Rattle.vx_policy.specs.declared.edit_refusal.EditRefusal.{EditRefusal}
 use Rattle.vx_board.specs.Accepted.{most_edits}
 use Rattle.vx_board.specs.Texts.{edit_text}
 use Rattle.vx_sector.specs.SectorData.{SectorData, SeatData}
-use Rattle.vx_sector.specs.Texts.{reply_text, refusal_text}
 use Rattle.vx_sector.specs.declared.cmd.Cmd.{Cmd}
 use Rattle.vx_sector.specs.declared.reply.Reply.{Reply}
 use Rattle.vx_sector.specs.declared.refusal.Refusal.{Refusal}
@@ -29,6 +25,7 @@ use Rattle.vx_cells.specs.Maps.{MapData}
 use Rattle.vx_cells.specs.Wholes.{bare, with_cell_on}
 use Rattle.vx_play.specs.Plays.{PlayData, is_named, opened, seat_named, answered, calls, policy_of, next_fates, ticked}
 use Rattle.vx_windows.specs.Limits.{most_players, most_ticks}
+use Rattle.vx_json.specs.Texts.{line_text, answer_text, fate_text}
 use Rattle.vx_script.specs.Told.{Told, only, faulted, prepend}
 use Rattle.vx_script.specs.declared.fault.Fault.TheVariants.{HistoryFull, Syntax, TooManyPlayers}
 
@@ -88,15 +85,6 @@ begun_on rs o n body (Some terrain) =
 unfoldable pub begun : Regions → Opening → ℕ → (PlayData → Told) → Told
 begun rs o n body = begun_on rs o n body o.terrain
 
--- an answer as it is written
-abbrev pub answer_text : Result Reply Refusal → List ℕ
-answer_text (Ok reply) = reply_text reply
-answer_text (Err refusal) = refusal_text refusal
-
--- a text, and the end of its line
-abbrev pub line_text : List ℕ → List ℕ
-line_text text = text ++ 10 ∷ []
-
 -- the last line
 abbrev pub done_text : PlayData → List ℕ
 done_text play =
@@ -137,18 +125,6 @@ edit_told play e go =
     if nat_le most_edits (length play.accepted)
     then faulted HistoryFull
     else judged_told play e go (refusal (policy_of play) e)
-
--- a position as it is written
-abbrev pub pos_text : Pos → List ℕ
-pos_text p =
-    signed_decimal p.x ++ codes " " ++ signed_decimal p.y ++ codes " " ++ signed_decimal p.z
-
--- what became of a piston's move as it is written, with the position of the piston
-abbrev pub fate_text : Pos → Fate → List ℕ
-fate_text p Moved = codes "moved " ++ pos_text p
-fate_text p (Denied cell rule) =
-    codes "denied " ++ pos_text p ++ codes " at " ++ pos_text cell ++ codes " " ++ rule_text rule
-fate_text p (Beaten by) = codes "beaten " ++ pos_text p ++ codes " by " ++ pos_text by
 
 -- fates as they are written, a line for each
 abbrev pub fates_text : List (Pos × Fate) → List ℕ

@@ -2,19 +2,19 @@
 ghost use Rattle.std.specs.Prelude.{◌≡◌, ◌++◌, codes, decimal, OnOk, IfErr, option_map};
 ghost use Rattle.std.specs.Io.KnownBytes.{Appends};
 ghost use Rattle.vx_grammar.specs.ScriptLines.{said};
+ghost use Rattle.vx_json.specs.Texts.{fate_text, line_text};
 ghost use Rattle.vx_play.specs.Plays.{seat_named};
 ghost use Rattle.vx_policy.specs.Asked.{asked};
 ghost use Rattle.vx_script.specs.Told.{IsOfReply, Replies, Stops};
-ghost use Rattle.vx_script.specs.Transcript.{body_told, command_told, done_text, edit_told, fate_text, fates_text, line_text, or_syntax, tick_told};
+ghost use Rattle.vx_script.specs.Transcript.{body_told, command_told, done_text, edit_told, fates_text, or_syntax, tick_told};
 
-use crate::fate_line::FateLine;
 use crate::fault::Fault;
-use crate::place::Place;
 use std::alloc::Global;
 use std::io::Write;
 use vx_board::{DeskError, Naming};
 use vx_geom::Pos;
 use vx_grammar::Line;
+use vx_json::{FateLine, Place};
 use vx_play::{Play, TickError};
 use vx_policy::Edit;
 use vx_region::Name;

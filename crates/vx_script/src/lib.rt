@@ -2,11 +2,9 @@
 #![tactic(auto)]
 
 mod body;
-mod fate_line;
 mod fault;
 mod header;
 pub mod laws;
-mod place;
 mod reading;
 mod regions;
 mod running;

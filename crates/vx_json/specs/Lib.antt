@@ -1,4 +1,5 @@
 pub mod Commands
+pub mod Laws
 pub mod Objects
 pub mod Plain
 pub mod Records

@@ -3,6 +3,7 @@
 
 mod command_words;
 mod fate_line;
+pub mod laws;
 mod objects;
 mod place;
 mod record_error;

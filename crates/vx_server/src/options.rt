@@ -27,7 +27,7 @@ writes these three
   done ticks 0 calls 2";
 
 /// What the server takes on its command line.
-pub fn command(alloc: Global) -> Result<Command<'static>, AllocError> {
+pub fn command<'a>(alloc: Global) -> Result<Command<'a>, AllocError> {
     let regions = Arg::new(alloc, REGIONS)
         .long(REGIONS)
         .value_name("FILE")

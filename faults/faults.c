@@ -4,6 +4,7 @@
 //
 //   memory            malloc, calloc, realloc and their like answer that there is no memory
 //   read, write       standard input can't be read, standard output can't be written
+//   file-read         a file that was opened can't be read
 //   no-write          nothing is written, and no error told
 //   short-read, ..    one byte is read or written
 //   stopped-read, ..  a signal came first, and nothing was read or written
@@ -60,9 +61,11 @@ void *memalign(size align, size n) { return OR_NULL(__libc_memalign(align, n)); 
 int posix_memalign(void **to, size align, size n) { return (*to = OR_NULL(__libc_memalign(align, n))) ? 0 : NO_MEMORY; }
 
 long read(int from, void *bytes, size n) {
-  if (from == 0 && chosen("read")) return refused(INPUT_OUTPUT);
-  if (from == 0 && chosen("stopped-read")) return refused(INTERRUPTED);
-  return syscall(READ, from, bytes, n > 1 && from == 0 && (is_short || chosen("short-read")) ? 1 : n);
+  int input = from == 0, file = from > 2;
+  if ((input && chosen("read")) || (file && chosen("file-read"))) return refused(INPUT_OUTPUT);
+  if ((input && chosen("stopped-read")) || (file && chosen("stopped-file-read"))) return refused(INTERRUPTED);
+  int one = (input && (is_short || chosen("short-read"))) || (file && chosen("short-file-read"));
+  return syscall(READ, from, bytes, n > 1 && one ? 1 : n);
 }
 
 long write(int to, const void *bytes, size n) {

@@ -15,6 +15,9 @@ use vx_script::{Fault, read_regions, run};
 /// How many bytes of replies are kept before they are written.
 const OUTPUT_BYTES: usize = 65_536;
 
+/// What is said of a command line of which a word is no text.
+const NO_TEXT: &str = "invalid UTF-8 was detected in one or more arguments";
+
 fn main(rt: HostRuntime) -> ExitCode {
     match serve(&rt) {
         Ok(status) => ExitCode::from(status),
@@ -29,7 +32,11 @@ fn main(rt: HostRuntime) -> ExitCode {
 // Does what the command line asks for, and answers the status. The command line is judged first,
 // then the regions file, then the script.
 fn serve(rt: &HostRuntime) -> Result<u8, Fault> {
-    let words = env::args(rt).map_err(|_| Fault::NoMemory)?;
+    let words = match env::args(rt) {
+        Ok(words) => words,
+        Err(error) if error.kind() == io::ErrorKind::InvalidData => return refuse_bytes(rt),
+        Err(_) => return Err(Fault::NoMemory),
+    };
     let words: Vec<String> = words.collect(rt.alloc())?;
     match command(rt.alloc())?.try_get_matches_from(words.as_slice()) {
         Ok(matches) => {
@@ -37,12 +44,24 @@ fn serve(rt: &HostRuntime) -> Result<u8, Fault> {
             play(rt, policy)?;
             Ok(0)
         }
-        Err(error) if error.kind() == ErrorKind::OutOfMemory => Err(Fault::NoMemory),
-        Err(error) => {
-            error.print(rt).map_err(|error| not_written(error.kind()))?;
-            Ok(if error.use_stderr() { 1 } else { 0 })
-        }
+        Err(error) => tell(rt, &error),
     }
+}
+
+// Refuses a command line of which a word is no text.
+fn refuse_bytes(rt: &HostRuntime) -> Result<u8, Fault> {
+    let mut command = command(rt.alloc())?;
+    let error = command.error(ErrorKind::InvalidValue, NO_TEXT)?;
+    tell(rt, &error)
+}
+
+// Prints what the parser says, and answers the status: 0 for help, 1 for a refusal.
+fn tell(rt: &HostRuntime, error: &clap::Error) -> Result<u8, Fault> {
+    if error.kind() == ErrorKind::OutOfMemory {
+        return Err(Fault::NoMemory);
+    }
+    error.print(rt).map_err(|error| not_written(error.kind()))?;
+    Ok(if error.use_stderr() { 1 } else { 0 })
 }
 
 // The policy of a regions file, if there is one, else one without regions.

@@ -1,4 +1,5 @@
 pub mod Adding
+pub mod Along
 pub mod Edges
 pub mod Gathered
 pub mod Orders

@@ -1,6 +1,8 @@
 -- Patches that are kept, moved and joined stay in order.
-use Rattle.std.proofs.Common.{◌≡◌, ℕ, ◌-◌, ◌≤◌, Bool, true, false, cond, List, [], ◌∷◌, ◌++◌, map, filter, refl, arith}
-use Rattle.std.specs.List.{AllByRecursion}
+use Rattle.std.proofs.Common.{◌≡◌, ℕ, zero, suc, ◌-◌, ◌<◌, ◌≤◌, Bool, true, false, cond, List, [], ◌∷◌, ◌++◌, map, filter, length, Some, refl, ap, arith}
+use Rattle.std.specs.List.{All, AllByRecursion, slice_get}
+use Rattle.std.proofs.lemmas.List.Elements.{All-from_recursion}
+use Rattle.std.proofs.lemmas.Option.{slice_get_within}
 use Rattle.vx_index.specs.declared.patch.Patch.{Patch}
 use Rattle.vx_index.specs.Patches.{AreInOrder, moved_down}
 
@@ -47,6 +49,24 @@ all_kept f P Q tells (d ∷ ds) all = by (f d) refl (all_kept f P Q tells ds all
 pub all_weaker : (P Q : Patch → Type 0) → ((d : Patch) → P d → Q d) → (patches : List Patch) → AllByRecursion P patches → AllByRecursion Q patches
 all_weaker P Q tells [] all = tt
 all_weaker P Q tells (d ∷ ds) all = (tells d all.0, all_weaker P Q tells ds all.1)
+
+-- the last of the patches is of no earlier place than any
+pub last_most : (n : ℕ) (patches : List Patch) (i : ℕ) (last : Patch) → AreInOrder n patches → suc i ≡ length patches → slice_get patches i ≡ Some last
+    → AllByRecursion (λ d. d.place ≤ last.place) patches
+last_most n [] i last up count at = tt
+last_most n (d ∷ []) zero last up count at = let same : d ≡ last = cc in (omega (arith, ap (λ (x : Patch). x.place) same), tt)
+last_most n (d ∷ []) (suc i) last up count at = absurd (omega (arith, count))
+last_most n (d ∷ (e ∷ es)) zero last up count at = absurd (omega (arith, count))
+last_most n (d ∷ (e ∷ es)) (suc i) last up count at =
+    let rest = last_most d.place (e ∷ es) i last up.1 (omega (arith, count)) at in
+    (omega (arith, up.1.0, rest.0), rest)
+
+-- so all stand before the place behind that of the last
+pub ends_before : (patches : List Patch) (last : Patch) (end : ℕ) → AreInOrder 0 patches → slice_get patches (length patches - 1) ≡ Some last → last.place < end
+    → All (λ d. d.place < end) patches
+ends_before patches last end up at past = All-from_recursion (λ (d : Patch). d.place < end) patches
+    (all_weaker (λ d. d.place ≤ last.place) (λ d. d.place < end) (λ d low. omega (arith, low, past)) patches
+    (last_most 0 patches (length patches - 1) last up (omega (arith, slice_get_within patches (length patches - 1) last at)) at))
 
 -- and of those that are moved down
 pub all_moved : (P Q : Patch → Type 0) → ((d : Patch) → P d → Q (moved_down d)) → (patches : List Patch) → AllByRecursion P patches

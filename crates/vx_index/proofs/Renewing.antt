@@ -1,9 +1,10 @@
 -- The patches of a chunk after a shape was put at a place, and after the shape of a place is gone.
-use Rattle.std.proofs.Common.{◌≡◌, ◌≢◌, inl, inr, ℕ, suc, ◌+◌, ◌-◌, ◌^◌, ◌<◌, ◌≤◌, Bool, true, false, cond, nat_eq, nat_lt, nat_le, List, [], ◌∷◌, ◌++◌, map, filter, length, Some, refl, ap, sym, ◌∙◌, subst, arith}
-use Rattle.std.specs.List.{AllByRecursion, list_any, slice_get, remove}
-use Rattle.std.proofs.lemmas.Bool.{and_parts, both_ways, cases_eq, cases_lt, eqb-true, eq-eqb, le-leb, leb-false, lt-ltb, ltb-true, or_cases, or_left, or_parts, or_right}
+use Rattle.std.proofs.Common.{◌≡◌, ◌≢◌, inl, inr, ℕ, suc, ◌+◌, ◌-◌, ◌^◌, ◌<◌, ◌≤◌, Bool, true, false, cond, nat_eq, nat_lt, List, [], ◌∷◌, ◌++◌, map, filter, length, get_or, Some, refl, ap, sym, ◌∙◌, subst, arith}
+use Rattle.std.specs.List.{All, AllByRecursion, slice_get, remove}
+use Rattle.std.proofs.lemmas.Bool.{and_parts, both_ways, cases_eq, cases_lt, eqb-true, lt-ltb, ltb-true, or_cases, or_left, or_parts, or_right}
 use Rattle.std.proofs.lemmas.List.Edits.{length-remove}
-use Rattle.std.proofs.lemmas.Option.{slice_get_within}
+use Rattle.std.proofs.lemmas.List.Elements.{recursion_from_All}
+use Rattle.std.proofs.lemmas.Option.{slice_get-get_or, slice_get_within}
 use Rattle.vx_geom.specs.declared.extent.Extent.{Extent}
 use Rattle.vx_geom.specs.declared.pos.Pos.{Pos}
 use Rattle.vx_geom.specs.Extent.{is_within, extent_of, meets}
@@ -13,6 +14,8 @@ use Rattle.vx_geom.proofs.Enclosing.{shapes_lie_within}
 use Rattle.vx_index.specs.declared.patch.Patch.{Patch}
 use Rattle.vx_index.specs.Patches.{is_near, are_near, AreInOrder, AreTold, IsMet, AreOf, Adds, moved_down}
 use Rattle.vx_index.specs.Shapes.{with_at}
+use Rattle.vx_index.specs.Touching.{AreTouched, touches}
+use Rattle.vx_index.specs.declared.touched.Touched.{Touched}
 use Rattle.vx_index.proofs.Adding.{near_from, near_left, near_right, all_append, added_met, met_own, order_own}
 use Rattle.vx_index.proofs.Orders.{order_raise, order_filter, order_join, order_moved, all_kept, all_weaker, all_moved}
 use Rattle.vx_index.proofs.Shapes.{at_place, elsewhere, count_with, before_gone, behind_gone}
@@ -55,21 +58,13 @@ near_moved i q (d ∷ ds) near = elim (or_cases (is_near (suc i) q d) (are_near 
   | inr later ↦ or_right (is_near i q (moved_down d)) (are_near (map moved_down ds) i q) (near_moved i q ds later)
 ]
 
--- patches of which none passes a test are of no place that passes it
-none_near : (f : Patch → Bool) (i : ℕ) (q : Pos) → ((d : Patch) → d.place ≡ i → f d ≡ true) → (patches : List Patch)
-    → list_any f patches ≡ false → are_near patches i q ≡ true → ⊥
-none_near f i q has [] none near = both_ways false refl near
-none_near f i q has (d ∷ ds) none near =
-    let fails = or_parts (f d) (list_any f ds) none in
-    elim (or_cases (is_near i q d) (are_near ds i q) near) [
-      | inl this ↦ both_ways (f d) fails.0 (has d (near_place i q d this))
-      | inr later ↦ none_near f i q has ds fails.1 later
-    ]
-
--- each patch fails a test that none passes
-all_fail : (f : Patch → Bool) (patches : List Patch) → list_any f patches ≡ false → AllByRecursion (λ d. f d ≡ false) patches
-all_fail f [] none = tt
-all_fail f (d ∷ ds) none = let fails = or_parts (f d) (list_any f ds) none in (fails.0, all_fail f ds fails.1)
+-- a patch that is near is of a place that all patches stand before
+near_below : (n i : ℕ) (q : Pos) (patches : List Patch) → AllByRecursion (λ d. d.place < n) patches → are_near patches i q ≡ true → i < n
+near_below n i q [] low near = absurd (both_ways false refl near)
+near_below n i q (d ∷ ds) low near = elim (or_cases (is_near i q d) (are_near ds i q) near) [
+  | inl this ↦ omega (arith, near_place i q d this, low.0)
+  | inr later ↦ near_below n i q ds low.1 later
+]
 
 -- two facts on all patches
 all_both : (P Q : Patch → Type 0) (patches : List Patch) → AllByRecursion P patches → AllByRecursion Q patches → AllByRecursion (λ d. P d × Q d) patches
@@ -155,9 +150,9 @@ module _ (shapes : List Outline) (columns : Extent) (p : ℕ) (o : Outline) (wit
       ]
 
   -- where the shape lies elsewhere, and so did the one before, nothing changes
-  pub put_elsewhere : list_any (λ d. nat_eq d.place p) old ≡ false → meets (extent_of o) columns ≡ false
+  pub put_elsewhere : (touched : Touched) → AreTouched shapes p o touched → touches touched columns ≡ false
       → AreOf (with_at shapes p o) columns (length (with_at shapes p o)) old
-  put_elsewhere none apart = record {
+  put_elsewhere touched are apart = record {
     few = few;
     ordered = of.ordered;
     before = all_weaker (λ d. d.place < length shapes) (λ d. d.place < length (with_at shapes p o))
@@ -167,13 +162,26 @@ module _ (shapes : List Outline) (columns : Extent) (p : ℕ) (o : Outline) (wit
           let both : Some d ≡ Some o = sym at ∙ ap (slice_get (with_at shapes p o)) place ∙ at_place shapes p o within in
           let same : d ≡ o = cc in
           let lies : is_in o q ≡ true = subst (λ x. is_in x q ≡ true) same inside in
-          absurd (both_ways (meets (extent_of o) columns) apart (extents_meet (extent_of o) columns q (shapes_lie_within o q lies) here))
+          absurd (both_ways (meets (extent_of o) columns) after (extents_meet (extent_of o) columns q (shapes_lie_within o q lies) here))
       | inr other ↦ told_elsewhere j d q other at here inside
     ];
-    met = all_weaker (λ d. (nat_eq d.place p ≡ false) × IsMet shapes columns d.place) (λ d. IsMet (with_at shapes p o) columns d.place)
-        (λ d both. met_other d (λ same. both_ways (nat_eq d.place p) both.0 (eq-eqb d.place p same)) both.1) old
-        (all_both (λ d. nat_eq d.place p ≡ false) (λ d. IsMet shapes columns d.place) old (all_fail (λ d. nat_eq d.place p) old none) of.met);
+    met = all_weaker (λ d. (d.place < length shapes) × IsMet shapes columns d.place) (λ d. IsMet (with_at shapes p o) columns d.place)
+        (λ d both. met_other d (λ same. no_patch d same both.0 both.1) both.1) old
+        (all_both (λ d. d.place < length shapes) (λ d. IsMet shapes columns d.place) old of.before of.met);
   }
+    where
+      parts : (meets touched.before columns ≡ false) × (meets touched.after columns ≡ false)
+      parts = or_parts (meets touched.before columns) (meets touched.after columns) apart
+
+      after : meets (extent_of o) columns ≡ false
+      after = ap (λ e. meets e columns) (sym are.after) ∙ parts.1
+
+      -- no patch is of the place, since the shape there does not meet the columns
+      no_patch : (d : Patch) → d.place ≡ p → d.place < length shapes → IsMet shapes columns d.place → ⊥
+      no_patch d same low met =
+          let there : slice_get shapes d.place ≡ Some (get_or shapes d.place o) = slice_get-get_or shapes d.place o low in
+          let before = are.before (get_or shapes d.place o) (ap (slice_get shapes) (sym same) ∙ there) in
+          both_ways (meets touched.before columns) parts.0 (ap (λ e. meets e columns) before ∙ met (get_or shapes d.place o) there)
 
 module _ (shapes : List Outline) (columns : Extent) (p : ℕ) (within : p < length shapes) (old : List Patch) (of : AreOf shapes columns (length shapes) old) where
   -- there is one shape less
@@ -250,19 +258,19 @@ module _ (shapes : List Outline) (columns : Extent) (p : ℕ) (within : p < leng
       ]
 
   -- where all patches are of earlier places, nothing changes
-  pub gone_elsewhere : list_any (λ d. nat_le p d.place) old ≡ false → AreOf (remove shapes p) columns (length (remove shapes p)) old
-  gone_elsewhere none = record {
+  pub gone_elsewhere : (end : ℕ) → All (λ d. d.place < end) old → end ≤ p → AreOf (remove shapes p) columns (length (remove shapes p)) old
+  gone_elsewhere end ends past = record {
     few = omega (arith, of.few, count_gone);
     ordered = of.ordered;
     before = all_weaker (λ d. d.place < p) (λ d. d.place < length (remove shapes p)) (λ d low. omega (arith, low, within, count_gone)) old earlier;
     told = λ j d q below at here inside. elim (cases_lt j p) [
       | inl before ↦ told_before j d q before at here inside
-      | inr later ↦ absurd (none_near (λ x. nat_le p x.place) (suc j) q (λ x place. le-leb p x.place (omega (arith, place, later))) old none
-          (told_behind j d q later at here inside))
+      | inr later ↦ absurd (omega (arith, later, near_below p (suc j) q old earlier (told_behind j d q later at here inside)))
     ];
     met = all_weaker (λ d. (d.place < p) × IsMet shapes columns d.place) (λ d. IsMet (remove shapes p) columns d.place)
         (λ d both. met_before d both.0 both.1) old (all_both (λ d. d.place < p) (λ d. IsMet shapes columns d.place) old earlier of.met);
   }
     where
       earlier : AllByRecursion (λ d. d.place < p) old
-      earlier = all_weaker (λ d. nat_le p d.place ≡ false) (λ d. d.place < p) (λ d fails. leb-false p d.place fails) old (all_fail (λ d. nat_le p d.place) old none)
+      earlier = all_weaker (λ d. d.place < end) (λ d. d.place < p) (λ d low. omega (arith, low, past)) old
+          (recursion_from_All (λ (d : Patch). d.place < end) old ends)

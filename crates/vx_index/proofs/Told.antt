@@ -7,8 +7,7 @@ use Rattle.std.proofs.lemmas.Result.{IfOk-weaker}
 use Rattle.std.proofs.lemmas.Option.{get_or_from_slice_get, slice_get_within, slice_get_read}
 use Rattle.vx_geom.specs.declared.pos.Pos.{Pos}
 use Rattle.vx_geom.specs.Extent.{is_within}
-use Rattle.vx_geom.specs.Outline.{Outline}
-use Rattle.vx_index.specs.Chunks.{IsChunk, IsChunkOf, TellsOf}
+use Rattle.vx_index.specs.Chunks.{IsChunk, IsChunkOf}
 use Rattle.vx_index.specs.declared.chunk.Chunk.{Chunk}
 use Rattle.vx_region.specs.Regions.{Regions}
 
@@ -36,8 +35,6 @@ pub told_by : {E : Type 0} (rs : Regions) (given : Result Chunk E) (chunk : Chun
 told_by rs (Ok made) chunk tells is = let same : made ≡ chunk = cc in subst (IsChunk rs) same tells
 told_by rs (Err e) chunk tells is = cc
 
--- a copy of a chunk tells what the chunk tells
-pub shared_tells : {E : Type 0} (shapes : List Outline) (chunk : Chunk) (given : Result Chunk E) → IfOk given (λ copy. copy ≡ chunk) → TellsOf shapes chunk
-    → IfOk given (TellsOf shapes)
-shared_tells shapes chunk given copies tells =
-    IfOk-weaker given (λ copy. copy ≡ chunk) (TellsOf shapes) (λ copy same. subst (TellsOf shapes) (sym same) tells) copies
+-- what holds of a value holds of a copy
+pub copy_holds : {X E : Type 0} (P : X → Type 0) (x : X) (given : Result X E) → IfOk given (λ copy. copy ≡ x) → P x → IfOk given P
+copy_holds P x given copies holds = IfOk-weaker given (λ copy. copy ≡ x) P (λ copy same. subst P (sym same) holds) copies

@@ -1,9 +1,9 @@
-ghost use Rattle.std.specs.Prelude.{◌≡◌, ◌^◌, ◌<◌, ◌≤◌, ◌++◌, true, nat_eq, nat_lt, nat_le, length, filter, map, remove, unsigned_abs, IfOk, IfSome, OnOk};
-ghost use Rattle.std.specs.List.{list_any};
-ghost use Rattle.vx_geom.specs.Extent.{is_within, meets};
+ghost use Rattle.std.specs.Prelude.{◌≡◌, ◌+◌, ◌^◌, ◌<◌, ◌≤◌, ◌++◌, true, nat_lt, length, filter, map, remove, unsigned_abs, IfOk, IfSome, OnOk};
+ghost use Rattle.vx_geom.specs.Extent.{is_within};
 ghost use Rattle.vx_decide.specs.Candidates.{HoldCandidates};
 ghost use Rattle.vx_index.specs.Chunks.{IsChunk, TellsOf};
-ghost use Rattle.vx_index.specs.Patches.{square, moved_down};
+ghost use Rattle.vx_index.specs.Patches.{AreInOrder, square, moved_down};
+ghost use Rattle.vx_index.specs.Plots.{EndsBefore};
 ghost use Rattle.vx_index.specs.Shapes.{shapes_of, with_at};
 ghost use Rattle.vx_index.specs.Squares.{IsSquare};
 
@@ -74,25 +74,23 @@ impl Chunk {
         Some(here)
     }
 
-    /// Whether a column is one of the chunk's and one of these.
-    pub(crate) fn meets(&self, columns: &Extent) -> bool
-        ensures { result ≡ meets columns.now self.now.columns }
+    /// The chunk's columns.
+    pub(crate) fn columns(&self) -> &Extent
+        ensures { result.now ≡ self.now.columns }
     {
-        columns.meets(&self.columns)
+        &self.columns
     }
 
-    /// Whether the region at that place lies in the chunk.
-    pub(crate) fn has(&self, place: u32) -> bool
-        ensures { result ≡ list_any (λ d. nat_eq d.place place) self.now.patches.items }
+    /// A place that all regions stand before that lie in the chunk: the next behind the last of
+    /// them, 0 where there is none. It looks at the last patch alone.
+    pub(crate) fn end(&self) -> u64
+        requires { AreInOrder 0 self.now.patches.items }
+        ensures { EndsBefore result self.now }
     {
-        self.patches.iter().any(|patch| patch.place == place)
-    }
-
-    /// Whether a region at that place or behind it lies in the chunk.
-    pub(crate) fn has_from(&self, place: u32) -> bool
-        ensures { result ≡ list_any (λ d. nat_le place d.place) self.now.patches.items }
-    {
-        self.patches.iter().any(|patch| place <= patch.place)
+        match self.patches.last() {
+            Some(patch) => behind(patch.place),
+            None => 0,
+        }
     }
 
     /// The chunk of the same columns, where that shape stands at a place of the regions or behind
@@ -195,4 +193,11 @@ impl Chunk {
         }
         Ok(())
     }
+}
+
+// The place behind that one.
+fn behind(place: u32) -> u64
+    ensures { result ≡ place + 1 }
+{
+    u64::from(place) + 1
 }

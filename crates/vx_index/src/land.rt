@@ -1,14 +1,15 @@
 ghost use Rattle.std.specs.Prelude.{◌≡◌, ◌+◌, ◌^◌, ◌<◌, ◌≤◌, ◌++◌, ◌∷◌, [], length, remove, slice_set, IfOk, IfSome};
 ghost use Rattle.vx_decide.specs.Candidates.{HoldCandidates};
 ghost use Rattle.vx_decide.specs.Verdict.{verdict};
-ghost use Rattle.vx_index.specs.Lands.{IsLandOf};
+ghost use Rattle.vx_index.specs.Lands.{IsLandOf, joined};
 ghost use Rattle.vx_index.specs.Shapes.{shapes_of, with_at};
 ghost use Rattle.vx_region.specs.Subjects.{actor_of};
 
-use crate::chunk::{Chunk, MAX_HERE};
+use crate::chunk::MAX_HERE;
 use crate::deciding::decided;
 use crate::patches::SIDE;
-use crate::plot::Plot;
+use crate::row::{ACROSS, Row};
+use crate::touched::Touched;
 use arrayvec::ArrayVec;
 use std::alloc::{AllocError, Global};
 use std::marker::Model;
@@ -18,31 +19,29 @@ use vx_flag::Action;
 use vx_geom::{Pos, Shape};
 use vx_region::{RegionSet, Subject};
 
-/// The widest world has so many chunks from west to east, and from north to south.
-const ACROSS: u32 = 16;
-
 /// Where regions lie in the widest world, chunk by chunk. It depends on their shapes alone. Copies
-/// share it, and a land that differs by one region shares the chunks that tell the same. Contracts
-/// see it as its chunks.
+/// share it, and a land that differs by one region shares the rows and the chunks that tell the
+/// same. Contracts see it as its chunks.
 pub struct Land {
-    // Row by row, each from the west.
-    plots: Arc<Vec<Plot>>,
+    // From the north.
+    rows: Arc<Vec<Row>>,
 }
 
 impl Model for Land {
     ghost use Rattle.std.specs.Prelude.{List};
     ghost use Rattle.std.specs.Arc.{arc_value};
+    ghost use Rattle.vx_index.specs.Lands.{joined};
     ghost use Rattle.vx_index.specs.declared.chunk.Chunk.{Chunk};
 
     ghost Value = { List Chunk };
 
-    ghost view = { λ a. (arc_value a.plots).items };
+    ghost view = { λ a. joined (arc_value a.rows).items };
 }
 
 // Written out, so that what is above this crate need not prove how its parts are let go.
 impl Drop for Land {
     fn drop(self) {
-        let Land { plots: _plots } = self;
+        let Land { rows: _rows } = self;
     }
 }
 
@@ -51,22 +50,19 @@ impl Land {
     pub fn of(alloc: Global, regions: &RegionSet) -> Result<Land, AllocError>
         ensures { IfOk result (IsLandOf (shapes_of regions.now)) }
     {
-        let mut plots = Vec::new(alloc);
+        let mut rows = Vec::with_capacity(alloc, ACROSS as usize)?;
         for row in 0..ACROSS {
-            for column in 0..ACROSS {
-                let chunk = Chunk::new(alloc, regions, SIDE * column, SIDE * row)?;
-                plots.push(Plot::new(alloc, chunk)?)?;
-            }
+            rows.push(Row::of(alloc, regions, SIDE * row)?)?;
         }
-        Land::made(alloc, plots)
+        Land::made(alloc, rows)
     }
 
-    // The land of these plots.
-    fn made(alloc: Global, plots: Vec<Plot>) -> Result<Land, AllocError>
-        ensures { IfOk result (λ land. land ≡ plots.items) }
+    // The land of these rows.
+    fn made(alloc: Global, rows: Vec<Row>) -> Result<Land, AllocError>
+        ensures { IfOk result (λ land. land ≡ joined rows.items) }
     {
         Ok(Land {
-            plots: Arc::new(alloc, plots)?,
+            rows: Arc::new(alloc, rows)?,
         })
     }
 
@@ -75,7 +71,7 @@ impl Land {
         ensures { IfOk result (λ copy. copy ≡ self.now) }
     {
         Ok(Land {
-            plots: Arc::try_clone(&self.plots)?,
+            rows: Arc::try_clone(&self.rows)?,
         })
     }
 
@@ -124,12 +120,12 @@ impl Land {
         requires few { length (with_at (shapes_of regions.now) place shape.now) < 2 ^ 32 }
         ensures { IfOk result (IsLandOf (with_at (shapes_of regions.now) place shape.now)) }
     {
-        let columns = shape.extent();
-        let mut plots = Vec::with_capacity(alloc, self.plots.len())?;
-        for index in 0..self.plots.len() {
-            plots.push(self.plots[index].put(alloc, regions, place, shape, &columns)?)?;
+        let touched = Touched::of(regions, place, shape);
+        let mut rows = Vec::with_capacity(alloc, self.rows.len())?;
+        for index in 0..self.rows.len() {
+            rows.push(self.rows[index].put(alloc, regions, place, shape, &touched)?)?;
         }
-        Land::made(alloc, plots)
+        Land::made(alloc, rows)
     }
 
     /// The land of these regions without the one at that place. This one stays as it is. Only the
@@ -144,11 +140,11 @@ impl Land {
         requires within { place < length regions.now.entries }
         ensures { IfOk result (IsLandOf (remove (shapes_of regions.now) place)) }
     {
-        let mut plots = Vec::with_capacity(alloc, self.plots.len())?;
-        for index in 0..self.plots.len() {
-            plots.push(self.plots[index].without(alloc, regions, place)?)?;
+        let mut rows = Vec::with_capacity(alloc, self.rows.len())?;
+        for index in 0..self.rows.len() {
+            rows.push(self.rows[index].without(alloc, regions, place)?)?;
         }
-        Land::made(alloc, plots)
+        Land::made(alloc, rows)
     }
 
     /// Whether the subject may do this at the place, and the rule that says so, by these regions. It
@@ -166,7 +162,8 @@ impl Land {
         requires { IsLandOf (shapes_of regions.now) self.now }
         ensures { IfSome result (λ here. HoldCandidates regions.now p here.items) }
     {
-        let chunk = self.plots.get(index_of(p)?)?.chunk();
+        let (row, column) = indices_of(p)?;
+        let chunk = self.rows.get(row)?.chunk(column)?;
         if !chunk.holds(p) {
             return None;
         }
@@ -174,12 +171,10 @@ impl Land {
     }
 }
 
-// The index of the chunk that holds the position, where that lies in the widest world.
-fn index_of(p: Pos) -> Option<usize> {
+// The indices of the row and of the chunk in it that hold the position, where that lies in the
+// widest world.
+fn indices_of(p: Pos) -> Option<(usize, usize)> {
     let column = u32::try_from(p.x).ok()? / SIDE;
     let row = u32::try_from(p.z).ok()? / SIDE;
-    if ACROSS <= column || ACROSS <= row {
-        return None;
-    }
-    Some((row * ACROSS + column) as usize)
+    Some((row as usize, column as usize))
 }

@@ -13,6 +13,8 @@ mod patch;
 mod patches;
 mod place;
 mod plot;
+mod row;
+mod touched;
 
 pub use cache::Cache;
 pub use cached::Cached;

@@ -1,17 +1,16 @@
-use Rattle.std.proofs.Common.{rules, ◌≡◌, nat_le, ap, sym, ◌∙◌}
-use Rattle.std.specs.List.{list_any, remove}
+use Rattle.std.proofs.Common.{arith}
+use Rattle.std.specs.List.{remove}
+use Rattle.vx_index.specs.Chunks.{TellsOf}
 use Rattle.vx_index.specs.Shapes.{shapes_of}
-use Rattle.vx_index.specs.declared.chunk.Chunk.{Chunk}
 use Rattle.vx_index.proofs.Renewing.{gone_elsewhere}
-use Rattle.vx_index.proofs.Told.{shared_tells}
+use Rattle.vx_index.proofs.Told.{copy_holds}
 use Rattle.vx_index.proofs.plot.Plot.without.Goals as goal
 
 -- no region from the place on lies there
-pub returns-then-not-has_from : goal.returns-then-not-has_from
-returns-then-not-has_from c =
+pub returns-then-end-from-clause-of : goal.returns-then-end-from-clause-of
+returns-then-end-from-clause-of c =
     let shapes = shapes_of c.args.regions.now in
     let here = c.args.self.now in
-    let same : c.deref.result.now ≡ here = search rules in
-    shared_tells (remove shapes c.args.place) here c.try_clone.result c.try_clone.ensures
+    copy_holds (TellsOf (remove shapes c.args.place)) here c.try_clone.result c.try_clone.ensures
     (gone_elsewhere shapes here.columns c.args.place c.requires.within here.patches.items c.requires.of
-    (ap (λ (chunk : Chunk). list_any (λ d. nat_le c.args.place d.place) chunk.patches.items) (sym same) ∙ sym c.has_from.ensures ∙ c.if-not-has_from.true))
+    c.end.result c.end.ensures (omega (arith, c.if-end-from.true, c.from.ensures)))

@@ -1,0 +1,155 @@
+ghost use Rattle.std.specs.Prelude.{◌≡◌, ◌^◌, ◌<◌, ◌≤◌, length, remove, Contains, IfOk, IfSome};
+ghost use Rattle.std.specs.List.{All};
+ghost use Rattle.vx_index.specs.Chunks.{IsChunk, TellsOf};
+ghost use Rattle.vx_index.specs.Plots.{EndsBefore, LiesAlong};
+ghost use Rattle.vx_index.specs.Shapes.{shapes_of, with_at};
+ghost use Rattle.vx_index.specs.Touching.{AreTouched};
+
+use crate::chunk::Chunk;
+use crate::patches::{SIDE, square};
+use crate::plot::Plot;
+use crate::touched::Touched;
+use std::alloc::{AllocError, Global};
+use std::marker::Model;
+use std::sync::Arc;
+use vx_geom::{Extent, Shape};
+use vx_region::RegionSet;
+
+/// The widest world has so many chunks from west to east, and from north to south.
+pub(crate) const ACROSS: u32 = 16;
+
+/// The chunks of a land from the west to the east, at one distance from the north. Copies share
+/// them. Contracts see it as its chunks.
+#[derive(Drop)]
+pub(crate) struct Row {
+    // They lie as far from the north as those of each chunk.
+    columns: Extent,
+    // All regions that lie in the row stand before this place.
+    end: u64,
+    plots: Arc<Vec<Plot>>,
+}
+
+impl Model for Row {
+    ghost use Rattle.std.specs.Prelude.{List};
+    ghost use Rattle.std.specs.List.{All};
+    ghost use Rattle.std.specs.Arc.{arc_value};
+    ghost use Rattle.vx_index.specs.Plots.{EndsBefore, LiesAlong};
+    ghost use Rattle.vx_index.specs.declared.chunk.Chunk.{Chunk};
+
+    ghost Value = { List Chunk };
+
+    ghost view = { λ a. (arc_value a.plots).items };
+
+    ghost invariant = { λ a. All (LiesAlong a.columns) (arc_value a.plots).items
+        × All (EndsBefore a.end) (arc_value a.plots).items };
+}
+
+impl Row {
+    /// The row of these regions that begins so far from the north. It costs a look at each region
+    /// for each chunk.
+    pub(crate) fn of(alloc: Global, regions: &RegionSet, north: u32) -> Result<Row, AllocError>
+        requires north { north ≤ 256 }
+        ensures { IfOk result (All (IsChunk regions.now)) }
+    {
+        let columns = square(0, north);
+        let mut plots = Vec::new(alloc);
+        for column in 0..ACROSS {
+            let chunk = Chunk::new(alloc, regions, SIDE * column, north)?;
+            plots.push(Plot::new(alloc, chunk)?)?;
+        }
+        Row::made(alloc, columns, plots)
+    }
+
+    // The row of these plots, which lie as far from the north as the columns.
+    fn made(alloc: Global, columns: Extent, plots: Vec<Plot>) -> Result<Row, AllocError>
+        requires { All (LiesAlong columns) plots.items }
+        ensures { IfOk result (λ row. row ≡ plots.items) }
+    {
+        let end = end_of(&plots);
+        Ok(Row {
+            columns,
+            end,
+            plots: Arc::new(alloc, plots)?,
+        })
+    }
+
+    /// A copy, which shares all chunks.
+    pub(crate) fn try_clone(&self) -> Result<Row, AllocError>
+        ensures { IfOk result (λ copy. copy ≡ self.now) }
+    {
+        Ok(Row {
+            columns: self.columns,
+            end: self.end,
+            plots: Arc::try_clone(&self.plots)?,
+        })
+    }
+
+    /// The chunk of that index from the west, if the row has so many.
+    pub(crate) fn chunk(&self, index: usize) -> Option<&Chunk>
+        ensures { IfSome result (λ chunk. Contains self.now chunk.now) }
+    {
+        Some(self.plots.get(index)?.chunk())
+    }
+
+    /// The row where that shape stands at a place of the regions or behind all of them. All chunks
+    /// are shared where neither it nor the shape that stood there lies in the row, else those in
+    /// which neither lies.
+    pub(crate) fn put(
+        &self,
+        alloc: Global,
+        regions: &RegionSet,
+        place: u32,
+        shape: &Shape,
+        touched: &Touched,
+    ) -> Result<Row, AllocError>
+        requires of { All (IsChunk regions.now) self.now }
+        requires within { place ≤ length (shapes_of regions.now) }
+        requires few { length (with_at (shapes_of regions.now) place shape.now) < 2 ^ 32 }
+        requires touched { AreTouched (shapes_of regions.now) place shape.now touched.now }
+        ensures { IfOk result (All (TellsOf (with_at (shapes_of regions.now) place shape.now))) }
+    {
+        if !touched.touches_row(&self.columns) {
+            return self.try_clone();
+        }
+        let columns = self.columns;
+        let mut plots = Vec::with_capacity(alloc, self.plots.len())?;
+        for index in 0..self.plots.len() {
+            plots.push(self.plots[index].put(alloc, regions, place, shape, touched)?)?;
+        }
+        Row::made(alloc, columns, plots)
+    }
+
+    /// The row without the region at that place. All chunks are shared where neither it nor any
+    /// behind it lies in the row, else those in which none of them lies.
+    pub(crate) fn without(
+        &self,
+        alloc: Global,
+        regions: &RegionSet,
+        place: u32,
+    ) -> Result<Row, AllocError>
+        requires of { All (IsChunk regions.now) self.now }
+        requires within { place < length (shapes_of regions.now) }
+        ensures { IfOk result (All (TellsOf (remove (shapes_of regions.now) place))) }
+    {
+        if self.end <= u64::from(place) {
+            return self.try_clone();
+        }
+        let columns = self.columns;
+        let mut plots = Vec::with_capacity(alloc, self.plots.len())?;
+        for index in 0..self.plots.len() {
+            plots.push(self.plots[index].without(alloc, regions, place)?)?;
+        }
+        Row::made(alloc, columns, plots)
+    }
+}
+
+// A place that all regions stand before that lie in one of the plots.
+fn end_of(plots: &[Plot]) -> u64
+    ensures { All (EndsBefore result) plots.now }
+{
+    let mut end = 0;
+    for plot in plots {
+        end = end.max(plot.end());
+    }
+    end
+}

@@ -76,7 +76,7 @@ impl Land {
     }
 
     /// The land of these regions and of one with this shape behind them. This one stays as it is.
-    /// Only the chunks in which the shape lies take memory of their own.
+    /// Only the chunks in which the shape lies, and their rows, take memory of their own.
     pub fn with(
         &self,
         alloc: Global,
@@ -91,7 +91,8 @@ impl Land {
     }
 
     /// The land of these regions where the one at that place has another shape. This one stays as
-    /// it is. Only the chunks in which one of the two shapes lies take memory of their own.
+    /// it is. Only the chunks in which one of the two shapes lies, and their rows, take memory of
+    /// their own.
     pub fn with_shape(
         &self,
         alloc: Global,
@@ -129,7 +130,7 @@ impl Land {
     }
 
     /// The land of these regions without the one at that place. This one stays as it is. Only the
-    /// chunks in which that region or one behind it lies take memory of their own.
+    /// chunks in which that region or one behind it lies, and their rows, take memory of their own.
     pub fn without(
         &self,
         alloc: Global,

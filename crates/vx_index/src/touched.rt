@@ -14,7 +14,7 @@ pub(crate) struct Touched {
 }
 
 impl Touched {
-    /// The columns of the region at that place, and of this shape, which is put there or behind all.
+    /// The columns of the region at that place, and of this shape, put there or behind all.
     pub(crate) fn of(regions: &RegionSet, place: u32, shape: &Shape) -> Touched
         ensures { AreTouched (shapes_of regions.now) place shape.now result }
     {

@@ -73,6 +73,24 @@ impl Opening {
         })
     }
 
+    /// A world with this terrain, for the players of these names, of which there may be 16. Two seats
+    /// may have one name. It takes no memory.
+    pub fn of(terrain: Whole, names: Vec<Name>, policy: Policy) -> Result<Opening, OpeningError>
+        ensures ok { IfOk result (λ opening. opening
+            ≡ record { terrain = terrain; names = texts names.items; policy = policy }) }
+        ensures many { OnErr result (most_players < vec_len names) }
+        ensures err { IfErr result (λ error. error ≡ TooManyPlayers) }
+    {
+        if MAX_PLAYERS < names.len() {
+            return Err(OpeningError::TooManyPlayers);
+        }
+        Ok(Opening {
+            terrain,
+            names,
+            policy,
+        })
+    }
+
     /// Puts a part at a position of the terrain, in place of what was there; refused outside the
     /// world and for want of memory, which a chest takes.
     pub fn set(&mut self, p: Pos, part: Part) -> Result<(), Refusal>

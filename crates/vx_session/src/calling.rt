@@ -1,0 +1,74 @@
+//! What is asked of the world and the desk, and what their answers say.
+ghost use Rattle.std.specs.Prelude.{◌≡◌, ◌≢◌, false, None, Err, IfOk, IfSome, OnErr};
+ghost use Rattle.vx_geom.specs.Sizes.{sector_of};
+ghost use Rattle.vx_sector.specs.Commands.{place_of};
+ghost use Rattle.vx_sector.specs.Windows.{is_recorded};
+ghost use Rattle.vx_session.specs.Traces.{IsCalled};
+ghost use Rattle.vx_session.specs.Sessions.{edits_to};
+
+use crate::fronts::is_last;
+use crate::session_error::SessionError;
+use std::sync::Wait;
+use vx_board::{DeskError, Listed, Refused};
+use vx_geom::Bounds;
+use vx_keeper::Places;
+use vx_policy::EditRefusal;
+use vx_sector::{Cmd, Refusal, Reply};
+use vx_step::NoGate;
+use vx_world::{Pass, Seats, World};
+
+/// Carries out a command with the pass, in the world with these bounds, and tells the answer. Where
+/// there is no room or no memory for the record, the lists of the pass stay as they are.
+pub(crate) fn called<A: Places, B: Seats>(
+    bounds: &Bounds,
+    world: &World<A, B>,
+    rt: &impl Wait,
+    pass: &mut Pass<A, B>,
+    cmd: Cmd,
+) -> Result<Result<Reply, Refusal>, SessionError>
+    requires { world.now.bounds ≡ bounds.now }
+    ensures called { IfOk result (λ answer.
+        IsCalled (sector_of bounds.now (place_of cmd)) pass.old.lists
+        (record { cmd = cmd; answer = answer }) pass.new.lists) }
+    ensures refused { OnErr result (pass.new.lists ≡ pass.old.lists) }
+    ensures seat { pass.new.seat ≡ pass.old.seat }
+{
+    bounds.soundness();
+    let answer = world.submit(rt, pass, cmd, &NoGate);
+    if let Some(error) = shortage(&answer) {
+        return Err(error);
+    }
+    Ok(answer)
+}
+
+// What was short, where the command was refused for want of room or memory.
+fn shortage(answer: &Result<Reply, Refusal>) -> Option<SessionError>
+    ensures short { IfSome result (λ _. is_recorded answer.now ≡ false) }
+    ensures enough { result ≡ None → (answer.now ≢ Err Refusal.HistoryFull)
+        × (answer.now ≢ Err Refusal.NoMemory) }
+{
+    match answer {
+        Err(Refusal::HistoryFull) => Some(SessionError::HistoryFull),
+        Err(Refusal::NoMemory) => Some(SessionError::NoMemory),
+        _ => None,
+    }
+}
+
+/// The cause for which the rules refuse the edit. It is an error where the edit was refused for want
+/// of room or memory, or on other edits than those up to the last one.
+pub(crate) fn cause_of<A: Places>(
+    last: &Option<Listed<A>>,
+    refused: &Refused<A>,
+) -> Result<EditRefusal, SessionError>
+    ensures { IfOk result (λ cause. (refused.now.front ≡ edits_to last.now)
+        × (refused.now.error ≡ DeskError.Refused cause)) }
+{
+    if !is_last(last, &refused.front) {
+        return Err(SessionError::elsewhere());
+    }
+    match refused.error {
+        DeskError::Refused(cause) => Ok(cause),
+        DeskError::HistoryFull => Err(SessionError::HistoryFull),
+        DeskError::NoMemory => Err(SessionError::NoMemory),
+    }
+}

@@ -1,6 +1,8 @@
-use Rattle.std.specs.Prelude.{◌≡◌, ℕ, ℤ, List, [], ◌∷◌, Option, Some, None}
+use Rattle.std.specs.Prelude.{◌≡◌, ℕ, ℤ, bytes_eq, codes, if◌then◌else◌, List, [], ◌∷◌, Option, Some, None}
 use Rattle.vx_block.specs.declared.part.Part.{Part}
 use Rattle.vx_block.specs.Part.{part_of}
+use Rattle.vx_flag.specs.declared.action.Action.{Action}
+use Rattle.vx_flag.specs.declared.action.Action.TheVariants.{Placing, Breaking, Turning, Reaching}
 use Rattle.vx_geom.specs.declared.pos.Pos.{Pos}
 use Rattle.vx_region.specs.Words.{read_name}
 use Rattle.vx_base.specs.Then.{◌>>=◌}
@@ -61,6 +63,22 @@ part_at words = do
   word ← next_of words
   part ← part_of word.0
   Some (part, word.1)
+
+-- what a player may be asked about, by the word of the flag that speaks of it
+unfoldable pub action_of : List ℕ → Option Action
+action_of word =
+    if bytes_eq word (codes "block-place") then Some Placing
+    else if bytes_eq word (codes "block-break") then Some Breaking
+    else if bytes_eq word (codes "use") then Some Turning
+    else if bytes_eq word (codes "chest-access") then Some Reaching
+    else None
+
+-- an action by its word
+unfoldable pub action_at : Rest → Option (Action × Rest)
+action_at words = do
+  word ← next_of words
+  action ← action_of word.0
+  Some (action, word.1)
 
 -- a player's name
 unfoldable pub name_at : Rest → Option (List ℕ × Rest)

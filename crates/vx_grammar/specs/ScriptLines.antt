@@ -1,6 +1,7 @@
 use Rattle.std.specs.Prelude.{ℕ, Bool, false, ◌&&◌, ◌==◌, not, bytes_eq, codes, if◌then◌else◌, List, [], ◌∷◌, Option, Some, None}
 use Rattle.std.specs.List.{list_all}
 use Rattle.vx_block.specs.declared.part.Part.{Part}
+use Rattle.vx_flag.specs.declared.action.Action.{Action}
 use Rattle.vx_geom.specs.declared.pos.Pos.{Pos}
 use Rattle.vx_geom.specs.Sizes.{Sizes}
 use Rattle.vx_region.specs.Words.{is_amid}
@@ -9,13 +10,13 @@ use Rattle.vx_sector.specs.declared.cmd.Cmd.{Cmd}
 use Rattle.vx_sector.specs.declared.cmd.Cmd.TheVariants.{Look, Place, Break, Turn, OpenChest, Put, Take}
 use Rattle.vx_grammar.specs.EditLines.{edit_of}
 use Rattle.vx_grammar.specs.Words.{words_of}
-use Rattle.vx_grammar.specs.Readings.{Rest, next_of, at_end, byte_at, item_at, position_at, part_at, name_at}
+use Rattle.vx_grammar.specs.Readings.{Rest, next_of, action_at, at_end, byte_at, item_at, position_at, part_at, name_at}
 use Rattle.vx_base.specs.Then.{◌>>=◌}
 use Rattle.vx_grammar.specs.declared.line.Line.{Line}
 use Rattle.vx_grammar.specs.declared.line.Line.TheVariants as line
 
 -- what a line says: nothing, the size of the world, a player, a cell of the opening, a player's
--- command, an edit, or a tick
+-- command, an edit, a tick, or the question whether a player may do this at a position
 pub data Said : Type 0 where
   Nothing : Said
   World : Sizes → Said
@@ -24,6 +25,7 @@ pub data Said : Type 0 where
   Act : List ℕ → Cmd → Said
   Region : Asked → Said
   Tick : Said
+  Explain : List ℕ → Action → Pos → Said
 
 -- what a line that was read says
 abbrev pub said : Line → Said
@@ -34,6 +36,7 @@ said (line.Set p part) = Set p part
 said (line.As name cmd) = Act name.text.bytes cmd
 said (line.Region edit) = Region (asked edit)
 said line.Tick = Tick
+said (line.Explain name action p) = Explain name.text.bytes action p
 
 -- the sizes of a world: 1 to 8 sectors each way, of 1 or 2 chunks each way
 abbrev pub sizes_of : ℕ → ℕ → ℕ → Option Sizes
@@ -147,6 +150,14 @@ region_line words = do
 unfoldable pub tick_line : Rest → Option Said
 tick_line words = at_end words Tick
 
+-- `explain NAME ACTION X Y Z`
+unfoldable pub explain_line : Rest → Option Said
+explain_line words = do
+  name ← name_at words
+  action ← action_at name.1
+  p ← position_at action.1
+  at_end p.1 (Explain name.0 action.0 p.0)
+
 -- a line by its first word
 unfoldable pub line_by : List ℕ → Rest → Option Said
 line_by first words =
@@ -156,6 +167,7 @@ line_by first words =
     else if bytes_eq first (codes "set") then set_line words
     else if bytes_eq first (codes "player") then player_line words
     else if bytes_eq first (codes "world") then world_line words
+    else if bytes_eq first (codes "explain") then explain_line words
     else None
 
 -- a line by its words; a line without words says nothing

@@ -1,9 +1,10 @@
 ghost use Rattle.std.specs.Prelude.{◌≡◌, option_map};
-ghost use Rattle.vx_grammar.specs.Readings.{Reads, at_end, byte_at, item_at, coordinate_at, position_at, part_at, name_at};
+ghost use Rattle.vx_grammar.specs.Readings.{Reads, action_at, action_of, at_end, byte_at, item_at, coordinate_at, position_at, part_at, name_at};
 
 use crate::number::{read_i32, read_u8, read_u16};
 use crate::words::Words;
 use vx_block::Part;
+use vx_flag::Action;
 use vx_geom::Pos;
 use vx_region::Name;
 
@@ -40,6 +41,27 @@ pub fn part(words: &mut Words) -> Option<Part>
     ensures { Reads result words.new (part_at words.old) }
 {
     Part::read(words.next()?)
+}
+
+/// Reads an action of a player, by the word of its flag.
+#[tactic(auto, unfolding(crate::specs::Readings::action_at))]
+pub fn action(words: &mut Words) -> Option<Action>
+    ensures { Reads result words.new (action_at words.old) }
+{
+    action_of(words.next()?)
+}
+
+#[tactic(auto, unfolding(crate::specs::Readings::action_of))]
+fn action_of(word: &str) -> Option<Action>
+    ensures { result ≡ action_of word.now }
+{
+    match word {
+        "block-place" => Some(Action::Placing),
+        "block-break" => Some(Action::Breaking),
+        "use" => Some(Action::Turning),
+        "chest-access" => Some(Action::Reaching),
+        _ => None,
+    }
 }
 
 /// Reads a player's name.

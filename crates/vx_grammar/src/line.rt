@@ -1,4 +1,5 @@
 use vx_block::Part;
+use vx_flag::Action;
 use vx_geom::{Bounds, Pos};
 use vx_policy::Edit;
 use vx_region::Name;
@@ -21,4 +22,6 @@ pub enum Line {
     Region(Edit),
     /// The end of a window.
     Tick,
+    /// Whether the player of that name may do this at the position.
+    Explain(Name, Action, Pos),
 }

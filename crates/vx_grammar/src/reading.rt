@@ -1,9 +1,9 @@
 ghost use Rattle.std.specs.Prelude.{◌≡◌, ◌==◌, option_map};
 ghost use Rattle.std.specs.List.{list_all};
-ghost use Rattle.vx_grammar.specs.ScriptLines.{said, is_printable, is_comment, world_line, player_line, set_line, placed_part, look_command, place_command, break_command, turn_command, open_command, put_command, take_command, command_of, as_line, region_line, tick_line, line_by, line_in, line_of, sizes_of};
+ghost use Rattle.vx_grammar.specs.ScriptLines.{said, is_printable, is_comment, world_line, player_line, set_line, placed_part, look_command, place_command, break_command, turn_command, open_command, put_command, take_command, command_of, as_line, region_line, tick_line, explain_line, line_by, line_in, line_of, sizes_of};
 ghost use Rattle.vx_base.specs.Unread.{Gives};
 
-use crate::arguments::{at_end, byte, item, name, part, position};
+use crate::arguments::{action, at_end, byte, item, name, part, position};
 use crate::edit_reading::read_edit;
 use crate::line::Line;
 use crate::words::Words;
@@ -67,6 +67,7 @@ fn line_by(alloc: Global, first: &str, words: &mut Words) -> Result<Line, Unread
         "set" => set_line(words).ok_or(Unread::Faulty),
         "player" => player_line(words).ok_or(Unread::Faulty),
         "world" => world_line(words).ok_or(Unread::Faulty),
+        "explain" => explain_line(words).ok_or(Unread::Faulty),
         _ => Err(Unread::Faulty),
     }
 }
@@ -84,6 +85,16 @@ fn tick_line(words: &mut Words) -> Option<Line>
     ensures { option_map said result ≡ tick_line words.old }
 {
     at_end(words, Line::Tick)
+}
+
+#[tactic(auto, unfolding(crate::specs::ScriptLines::explain_line))]
+fn explain_line(words: &mut Words) -> Option<Line>
+    ensures { option_map said result ≡ explain_line words.old }
+{
+    let name = name(words)?;
+    let action = action(words)?;
+    let p = position(words)?;
+    at_end(words, Line::Explain(name, action, p))
 }
 
 #[tactic(auto, unfolding(crate::specs::ScriptLines::world_line))]

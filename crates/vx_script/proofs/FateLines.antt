@@ -4,7 +4,7 @@ use Rattle.std.proofs.lemmas.List.{take_more}
 use Rattle.vx_geom.specs.declared.pos.Pos.{Pos}
 use Rattle.vx_tick.specs.declared.fate.Fate.{Fate}
 use Rattle.vx_json.specs.Texts.{fate_text, line_text}
-use Rattle.vx_script.specs.Transcript.{fates_text}
+use Rattle.vx_script.specs.Replies.{fates_text}
 
 abbrev line_of : Pos × Fate → List ℕ
 line_of told = line_text (fate_text told.0 told.1)

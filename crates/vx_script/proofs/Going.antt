@@ -1,11 +1,9 @@
 -- A fact of what was left to read and is left now, as one more line is read.
-use Rattle.std.proofs.Common.{◌≡◌, ℕ, ◌<◌, List, [], ◌∷◌, Option, Some, None, Result, Err, OnOk, IfSome, ◌++◌, length, ap, sym, ◌∙◌, subst, append-nil}
+use Rattle.std.proofs.Common.{◌≡◌, ℕ, ◌<◌, List, [], ◌∷◌, Option, Some, None, IfSome, ◌++◌, length, ap, ◌∙◌, subst}
 use Rattle.std.specs.Io.KnownBytes.{Keeps, Appends, IsAtEnd, prepend_known}
-use Rattle.std.proofs.KnownBytes.{Appends-trans}
-use Rattle.vx_script.specs.declared.fault.Fault.{Fault}
 use Rattle.vx_script.specs.Known.{Goes}
-use Rattle.vx_script.specs.Told.{Told, IsOwn, Tells, Faults, only, faulted, prepend}
 use Rattle.vx_lines.specs.Lines.{lines_of, TakesLine, IsNextLong}
+use Rattle.vx_lines.specs.Reading.{Reading, pending, no_line}
 
 module _ (start before : Option (List ℕ)) (Fact : List ℕ → List ℕ → Type 0) where
   -- a line is read, and the fact is now one of what is left after it
@@ -67,6 +65,11 @@ module _ (start before : Option (List ℕ)) (Fact : List ℕ → List ℕ → Ty
       by (Some x) None f = absurd f
       by (Some x) (Some y) f = step x y f
 
+-- nothing was read yet
+pub goes_self : (known : Option (List ℕ)) (Fact : List ℕ → List ℕ → Type 0) → ((bytes : List ℕ) → Fact bytes bytes) → Goes known known Fact
+goes_self None Fact fact = tt
+goes_self (Some bytes) Fact fact = fact bytes
+
 -- a fact of what is known, by another
 pub if_known : {X : Type 0} (known : Option X) (Fact Last : X → Type 0) → IfSome known Fact → ((x : X) → Fact x → Last x) → IfSome known Last
 if_known None Fact Last fact step = tt
@@ -91,31 +94,22 @@ long_known most None rest front kept long = tt
 long_known most (Some bytes) None front kept long = absurd kept
 long_known most (Some bytes) (Some more) front kept long = subst (IsNextLong most) kept (long more)
 
--- a call that went well tells what the bytes tell, where they are known
-pub tells_known : {X : Type 0} (known old new : Option (List ℕ)) (result : Result X Fault) (told : List ℕ → Told)
-    → OnOk result (IfSome known (λ bytes. Appends old new (told bytes).text × ((told bytes).fault ≡ None))) → IfSome known (λ bytes. Tells old new result (told bytes))
-tells_known None old new result told fact = tt
-tells_known (Some bytes) old new result told fact = fact
+-- two facts of what is known
+pub both_known : {X : Type 0} (known : Option X) (One Other Last : X → Type 0) → IfSome known One → IfSome known Other → ((x : X) → One x → Other x → Last x) → IfSome known Last
+both_known None One Other Last one other step = tt
+both_known (Some x) One Other Last one other step = step x one other
 
--- a call that answered a fault tells it, where the bytes are known
-pub faults_known : {X : Type 0} (known old new : Option (List ℕ)) (result : Result X Fault) (told : List ℕ → Told)
-    → ((fault : Fault) → result ≡ Err fault → IsOwn fault → IfSome known (λ bytes. Appends old new (told bytes).text × ((told bytes).fault ≡ Some fault)))
-    → IfSome known (λ bytes. Faults old new result (told bytes))
-faults_known None old new result told fact = tt
-faults_known (Some bytes) old new result told fact = fact
+-- a fact of all bytes is one of the script, where nothing was read yet
+pub from_start : (lines : Reading) (known : Option (List ℕ)) (Fact : List ℕ → Type 0) → lines ≡ no_line → IfSome (prepend_known (pending lines) known) Fact → IfSome known Fact
+from_start lines known Fact unread fact = by known (subst (λ (l : Reading). IfSome (prepend_known (pending l) known) Fact) unread fact)
+  where
+    by : (known : Option (List ℕ)) → IfSome (prepend_known [] known) Fact → IfSome known Fact
+    by None fact = tt
+    by (Some script) fact = fact
 
--- what was told before a fault is what was written
-pub stopped : (old new : Option (List ℕ)) (text : List ℕ) (told : Told) (fault : Fault) → told ≡ prepend text (faulted fault) → Appends old new text
-    → Appends old new told.text × (told.fault ≡ Some fault)
-stopped old new text told fault is written = (subst (Appends old new) (sym (ap (λ t. t.text) is ∙ append-nil text)) written, ap (λ t. t.fault) is)
-
--- what was told to the end is what was written
-pub ended : (old new : Option (List ℕ)) (text last : List ℕ) (told : Told) → told ≡ prepend text (only last) → Appends old new (text ++ last)
-    → Appends old new told.text × (told.fault ≡ None)
-ended old new text last told is written = (subst (Appends old new) (sym (ap (λ t. t.text) is)) written, ap (λ t. t.fault) is)
-
--- what was told after a text was told is told in all
-pub told_after : (a b c : Option (List ℕ)) (text : List ℕ) (told rest : Told) (fault : Option Fault) → told ≡ prepend text rest → Appends a b text
-    → Appends b c rest.text × (rest.fault ≡ fault) → Appends a c told.text × (told.fault ≡ fault)
-told_after a b c text told rest fault is first then =
-    (subst (Appends a c) (sym (ap (λ t. t.text) is)) (Appends-trans a b c text rest.text first then.0), ap (λ t. t.fault) is ∙ then.1)
+-- what holds where the bytes that are left are known, holds where those before them were
+pub still_known : (start after : Option (List ℕ)) (front : List ℕ) (Fact : List ℕ → List ℕ → Type 0) (Last : Type 0) → Goes start after Fact → IfSome (prepend_known front after) (λ rest. Last)
+    → IfSome start (λ bytes. Last)
+still_known None after front Fact Last goes last = tt
+still_known (Some bytes) None front Fact Last goes last = absurd goes
+still_known (Some bytes) (Some rest) front Fact Last goes last = last

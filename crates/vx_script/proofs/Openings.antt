@@ -3,14 +3,14 @@ use Rattle.std.proofs.Common.{◌≡◌, ℕ, Bool, true, false, [], ◌∷◌, 
 use Rattle.std.specs.Option.{option_and_then, MatchOption}
 use Rattle.std.proofs.lemmas.Bool.{and_parts, leb-true}
 use Rattle.vx_geom.specs.Sizes.{AreSizes}
-use Rattle.vx_grammar.specs.ScriptLines.{Nothing, World, Player, Set, Act, Region, Tick}
+use Rattle.vx_grammar.specs.ScriptLines.{Nothing, World, Player, Set, Act, Region, Tick, Explain}
 use Rattle.vx_block.specs.Part.{part_cell}
 use Rattle.vx_cells.specs.Maps.{MapData}
 use Rattle.vx_cells.specs.Wholes.{bare, with_cell_on, IsMap}
 use Rattle.vx_cells.proofs.Setting.{air_is_map, cell_keeps_map}
 use Rattle.vx_play.specs.Plays.{is_named}
 use Rattle.vx_region.specs.Words.{is_amid}
-use Rattle.vx_script.specs.Transcript.{with_size, with_cell_set, header_after}
+use Rattle.vx_script.specs.Headers.{with_size, with_cell_set, header_after}
 use Rattle.vx_script.specs.Openings.{IsOpening, SizesAreSound, HeadersKeepTerrain}
 
 -- the sizes that a line can say
@@ -56,3 +56,4 @@ headers_keep_terrain (Set p part) o next sizes terrain made = by o.terrain terra
 headers_keep_terrain (Act name cmd) o next sizes terrain made = cc
 headers_keep_terrain (Region e) o next sizes terrain made = cc
 headers_keep_terrain Tick o next sizes terrain made = cc
+headers_keep_terrain (Explain name action p) o next sizes terrain made = cc

@@ -1,16 +1,22 @@
-use Rattle.std.specs.Prelude.{ℕ, List, IfSome}
+use Rattle.std.specs.Prelude.{◌≡◌, ℕ, Bool, List, IfSome, Option}
 use Rattle.vx_region.specs.Regions.{Regions}
+use Rattle.vx_script.specs.FirstFault.{script_fault}
+use Rattle.vx_script.specs.Transcript.{MayTell}
 use Rattle.vx_script.specs.declared.fault.Fault.{Fault}
-use Rattle.vx_script.specs.declared.fault.Fault.TheVariants.{HistoryFull, TooManyPlayers, Syntax}
-use Rattle.vx_script.specs.Transcript.{transcript}
+use Rattle.vx_script.specs.declared.fault.Fault.TheVariants.{TooManyPlayers, Syntax}
 
--- a script can bring three faults: a full record, too many players, and a faulty line
+-- a script can bring two faults: too many players, and a faulty line
 abbrev pub IsOfScript : Fault → Type 0
-IsOfScript HistoryFull = Unit {0}
 IsOfScript TooManyPlayers = Unit {0}
 IsOfScript (Syntax k) = Unit {0}
 IsOfScript fault = ⊥
 
--- the fault that a transcript tells, if it tells one, is one of these
+-- the fault of a script, if it has one, is one of these
 abbrev pub ScriptFaults : Type 0
-ScriptFaults = (rs : Regions) (script : List ℕ) → IfSome (transcript rs script).fault IsOfScript
+ScriptFaults = (rs : Regions) (script : List ℕ) → IfSome (script_fault rs script) IsOfScript
+
+-- a script writes one text
+abbrev pub ScriptsWriteOneText : Type 0
+ScriptsWriteOneText = (rs : Regions) (json : Bool) (script one other : List ℕ)
+    (fault again : Option Fault) → MayTell rs json script one fault
+    → MayTell rs json script other again → one ≡ other

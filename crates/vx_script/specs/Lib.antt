@@ -1,8 +1,10 @@
+pub mod Faults
 pub mod FirstFault
+pub mod Headers
 pub mod Known
 pub mod Laws
 pub mod Openings
-pub mod Played
+pub mod Replies
+pub mod Sessions
 pub mod Statuses
-pub mod Told
 pub mod Transcript

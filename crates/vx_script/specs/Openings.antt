@@ -3,7 +3,7 @@ use Rattle.std.specs.Option.{MatchOption}
 use Rattle.vx_geom.specs.Sizes.{Sizes, AreSizes}
 use Rattle.vx_grammar.specs.ScriptLines.{Said, World, sizes_of}
 use Rattle.vx_cells.specs.Wholes.{IsMap}
-use Rattle.vx_script.specs.Transcript.{Opening, header_after}
+use Rattle.vx_script.specs.Headers.{Opening, header_after}
 
 -- an opening has each sector of its size in its place, once the size was said
 abbrev pub IsOpening : Opening → Type 0

@@ -1,114 +1,197 @@
 //! The lines of the body of a script, and the replies to them.
-ghost use Rattle.std.specs.Prelude.{◌≡◌, ◌++◌, codes, decimal, OnOk, IfErr, option_map};
-ghost use Rattle.std.specs.Io.KnownBytes.{Appends};
-ghost use Rattle.vx_grammar.specs.ScriptLines.{said};
-ghost use Rattle.vx_json.specs.Texts.{fate_text, line_text};
-ghost use Rattle.vx_play.specs.Plays.{seat_named};
+ghost use Rattle.std.specs.Prelude.{◌≡◌, ◌++◌, ◌∷◌, [], codes, decimal, false, length, Some, OnOk, IfOk, IfErr, option_map};
+ghost use Rattle.std.specs.Io.KnownBytes.{Keeps, Appends};
+ghost use Rattle.vx_grammar.specs.ScriptLines.{said, Act, Region, Tick, Explain};
+ghost use Rattle.vx_json.specs.Texts.{answer_text, fate_text, line_text};
 ghost use Rattle.vx_policy.specs.Asked.{asked};
-ghost use Rattle.vx_script.specs.Told.{IsOfReply, Replies, Stops};
-ghost use Rattle.vx_script.specs.Transcript.{body_told, command_told, done_text, edit_told, fates_text, or_syntax, tick_told};
+ghost use Rattle.vx_play.specs.Plays.{is_named};
+ghost use Rattle.vx_session.specs.Sessions.{names_of};
+ghost use Rattle.vx_script.specs.Faults.{IsOwn, IsOfRun};
+ghost use Rattle.vx_script.specs.Replies.{edit_answer_text, explained_text, fates_text, may_stand};
+ghost use Rattle.vx_script.specs.Sessions.{HasDone};
 
 use crate::fault::Fault;
 use std::alloc::Global;
 use std::io::Write;
-use vx_board::{DeskError, Naming};
+use std::sync::Wait;
+use std::thread::Threads;
+use vx_board::{Desk, Edited};
+use vx_decide::Verdict;
+use vx_flag::Action;
 use vx_geom::Pos;
 use vx_grammar::Line;
 use vx_json::{FateLine, Place};
-use vx_play::{Play, TickError};
-use vx_policy::Edit;
-use vx_region::Name;
-use vx_sector::{Cmd, Refusal};
+use vx_keeper::Places;
+use vx_play::number_of;
+use vx_policy::{Edit, EditRefusal};
+use vx_region::{Name, Subject};
+use vx_sector::{Cmd, Refusal, Reply};
+use vx_session::Session;
 use vx_tick::Fate;
+use vx_world::Seats;
 
-/// Takes a line of the body and writes the reply to it.
-#[tactic(auto, unfolding(crate::specs::Transcript::body_told))]
-pub fn take_line<J: Naming, W: Write>(
-    play: &mut Play<J>,
+/// Takes the line of that number, which stands in the body, and writes the reply to it.
+pub fn take_line<A: Places, B: Seats, T: Threads + Wait + Sync, W: Write>(
+    rt: &T,
     alloc: Global,
+    desk: &Desk<A, &T>,
+    session: &mut Session<A, B>,
     line: Option<Line>,
     number: u32,
     writer: &mut W,
 ) -> Result<(), Fault>
-    ensures ok { Replies (W.contents writer.old) (W.contents writer.new) result
-        (body_told play.old number (option_map said line)) play.new }
-    ensures err { Stops (W.contents writer.old) (W.contents writer.new) result
-        (body_told play.old number (option_map said line)) }
-    ensures fault { IfErr result IsOfReply }
+    ensures done { OnOk result (HasDone A.first session.old session.new
+        (option_map said line ∷ []) (W.contents writer.old) (W.contents writer.new)) }
+    ensures stopped { (fault : Fault) → result ≡ Err fault → IsOwn fault
+        → (fault ≡ Fault.Syntax number)
+        × (may_stand (names_of session.old) (option_map said line) ≡ false)
+        × (session.new ≡ session.old) × Keeps (W.contents writer.old) (W.contents writer.new) }
+    ensures faulty { may_stand (names_of session.old) (option_map said line) ≡ false
+        → result ≡ Err (Fault.Syntax number) }
+    ensures fault { IfErr result IsOfRun }
 {
     match line {
         Some(Line::Skipped) => Ok(()),
-        Some(Line::As(name, cmd)) => command(play, &name, cmd, number, writer),
-        Some(Line::Region(asked)) => edit(play, alloc, asked, writer),
-        Some(Line::Tick) => tick(play, alloc, writer),
+        Some(Line::As(name, cmd)) => command(rt, session, &name, cmd, number, writer),
+        Some(Line::Region(asked)) => edit(rt, alloc, desk, session, asked, writer),
+        Some(Line::Tick) => tick(rt, alloc, session, writer),
+        Some(Line::Explain(name, action, p)) => {
+            explain(desk, session, name, action, p, number, writer)
+        }
         _ => Err(Fault::Syntax(number)),
     }
 }
 
 // Carries out a command of a player, and writes the answer.
-fn command<J: Naming, W: Write>(
-    play: &mut Play<J>,
+fn command<A: Places, B: Seats, T: Threads + Wait + Sync, W: Write>(
+    rt: &T,
+    session: &mut Session<A, B>,
     name: &Name,
     cmd: Cmd,
     number: u32,
     writer: &mut W,
 ) -> Result<(), Fault>
-    ensures ok { Replies (W.contents writer.old) (W.contents writer.new) result
-        (λ go. or_syntax number (seat_named play.old name.now.text.bytes)
-        (command_told play.old cmd go)) play.new }
-    ensures err { Stops (W.contents writer.old) (W.contents writer.new) result
-        (λ go. or_syntax number (seat_named play.old name.now.text.bytes)
-        (command_told play.old cmd go)) }
-    ensures fault { IfErr result IsOfReply }
+    ensures done { OnOk result (HasDone A.first session.old session.new
+        (Some (Act name.now.text.bytes cmd) ∷ [])
+        (W.contents writer.old) (W.contents writer.new)) }
+    ensures stopped { (fault : Fault) → result ≡ Err fault → IsOwn fault
+        → (fault ≡ Fault.Syntax number)
+        × (may_stand (names_of session.old) (Some (Act name.now.text.bytes cmd)) ≡ false)
+        × (session.new ≡ session.old) × Keeps (W.contents writer.old) (W.contents writer.new) }
+    ensures faulty { may_stand (names_of session.old) (Some (Act name.now.text.bytes cmd)) ≡ false
+        → result ≡ Err (Fault.Syntax number) }
+    ensures fault { IfErr result IsOfRun }
 {
-    let Some(seat) = play.seat(name) else {
+    let Some(seat) = number_of(session.opening().names(), name) else {
         return Err(Fault::Syntax(number));
     };
-    match play.act(seat, cmd) {
-        Err(Refusal::NoMemory) => Err(Fault::NoMemory),
-        Err(Refusal::HistoryFull) => Err(Fault::HistoryFull),
+    let answer = session.command(rt, seat, cmd)?;
+    write_answer(answer, writer)
+}
+
+fn write_answer<W: Write>(answer: Result<Reply, Refusal>, writer: &mut W) -> Result<(), Fault>
+    ensures ok { OnOk result (Appends (W.contents writer.old) (W.contents writer.new)
+        (line_text (answer_text answer))) }
+    ensures err { IfErr result (λ fault. fault ≡ Fault.WriteFailed) }
+{
+    match answer {
         Ok(reply) => writeln!(writer, "{reply}").map_err(|_| Fault::WriteFailed),
         Err(refusal) => writeln!(writer, "{refusal}").map_err(|_| Fault::WriteFailed),
     }
 }
 
-// Applies an edit, and writes how many are accepted with it, or why it is refused.
-#[tactic(auto, unfolding(crate::specs::Transcript::edit_told))]
-fn edit<J: Naming, W: Write>(
-    play: &mut Play<J>,
+// Edits the policy, and writes how many edits are accepted with it, or why it is refused.
+fn edit<A: Places, B: Seats, T: Threads + Wait + Sync, W: Write>(
+    rt: &T,
     alloc: Global,
+    desk: &Desk<A, &T>,
+    session: &mut Session<A, B>,
     edit: Edit,
     writer: &mut W,
 ) -> Result<(), Fault>
-    ensures ok { Replies (W.contents writer.old) (W.contents writer.new) result
-        (edit_told play.old (asked edit)) play.new }
-    ensures err { Stops (W.contents writer.old) (W.contents writer.new) result
-        (edit_told play.old (asked edit)) }
-    ensures fault { IfErr result IsOfReply }
+    ensures done { OnOk result (HasDone A.first session.old session.new
+        (Some (Region (asked edit)) ∷ []) (W.contents writer.old) (W.contents writer.new)) }
+    ensures own { (fault : Fault) → result ≡ Err fault → IsOwn fault → ⊥ }
+    ensures fault { IfErr result IsOfRun }
 {
-    match play.edit(alloc, edit) {
+    let answer = session.edit(rt, alloc, desk, edit)?;
+    write_edit(answer, writer)
+}
+
+fn write_edit<W: Write>(answer: Result<Edited, EditRefusal>, writer: &mut W) -> Result<(), Fault>
+    ensures ok { OnOk result (Appends (W.contents writer.old) (W.contents writer.new)
+        (line_text (edit_answer_text answer))) }
+    ensures err { IfErr result (λ fault. fault ≡ Fault.WriteFailed) }
+{
+    match answer {
         Ok(edited) => writeln!(writer, "{edited}").map_err(|_| Fault::WriteFailed),
-        Err(DeskError::Refused(refusal)) => {
-            writeln!(writer, "{refusal}").map_err(|_| Fault::WriteFailed)
-        }
-        Err(DeskError::HistoryFull) => Err(Fault::HistoryFull),
-        Err(DeskError::NoMemory) => Err(Fault::NoMemory),
+        Err(refusal) => writeln!(writer, "{refusal}").map_err(|_| Fault::WriteFailed),
     }
 }
 
 // Makes a tick, and writes its number and the fates of the moves that pistons asked for.
-#[tactic(auto, unfolding(crate::specs::Transcript::tick_told))]
-fn tick<J: Naming, W: Write>(play: &mut Play<J>, alloc: Global, writer: &mut W) -> Result<(), Fault>
-    ensures ok { Replies (W.contents writer.old) (W.contents writer.new) result
-        (tick_told play.old) play.new }
-    ensures err { Stops (W.contents writer.old) (W.contents writer.new) result
-        (tick_told play.old) }
-    ensures fault { IfErr result IsOfReply }
+fn tick<A: Places, B: Seats, T: Threads + Wait + Sync, W: Write>(
+    rt: &T,
+    alloc: Global,
+    session: &mut Session<A, B>,
+    writer: &mut W,
+) -> Result<(), Fault>
+    ensures done { OnOk result (HasDone A.first session.old session.new
+        (Some Tick ∷ []) (W.contents writer.old) (W.contents writer.new)) }
+    ensures own { (fault : Fault) → result ≡ Err fault → IsOwn fault → ⊥ }
+    ensures fault { IfErr result IsOfRun }
 {
-    match play.tick(alloc) {
-        Ok(done) => tell(play.ticks(), done.fates.as_slice(), writer),
-        Err(TickError::HistoryFull) => Err(Fault::HistoryFull),
-        Err(TickError::NoMemory) => Err(Fault::NoMemory),
+    let fates = session.tick(rt, alloc)?;
+    tell(session.ticks(), &fates, writer)
+}
+
+// Answers whether a player may do this at a position, and by which rule.
+fn explain<A: Places, B: Seats, T: Threads + Wait + Sync, W: Write>(
+    desk: &Desk<A, &T>,
+    session: &mut Session<A, B>,
+    name: Name,
+    action: Action,
+    p: Pos,
+    number: u32,
+    writer: &mut W,
+) -> Result<(), Fault>
+    ensures done { OnOk result (HasDone A.first session.old session.new
+        (Some (Explain name.text.bytes action p) ∷ [])
+        (W.contents writer.old) (W.contents writer.new)) }
+    ensures stopped { (fault : Fault) → result ≡ Err fault → IsOwn fault
+        → (fault ≡ Fault.Syntax number)
+        × (may_stand (names_of session.old) (Some (Explain name.text.bytes action p)) ≡ false)
+        × (session.new ≡ session.old) × Keeps (W.contents writer.old) (W.contents writer.new) }
+    ensures faulty { may_stand (names_of session.old) (Some (Explain name.text.bytes action p)) ≡ false
+        → result ≡ Err (Fault.Syntax number) }
+    ensures fault { IfErr result IsOfRun }
+{
+    if !has_player(session, &name) {
+        return Err(Fault::Syntax(number));
+    }
+    let (verdict, count) = session.explain(desk, &Subject::Player(name), action, p)?;
+    write_verdict(verdict, count, writer)
+}
+
+// Whether there is a player of that name.
+fn has_player<A: Places, B: Seats>(session: &Session<A, B>, name: &Name) -> bool
+    ensures { result ≡ is_named (names_of session.now) name.now.text.bytes }
+{
+    number_of(session.opening().names(), name).is_some()
+}
+
+fn write_verdict<W: Write>(verdict: Verdict, count: u64, writer: &mut W) -> Result<(), Fault>
+    ensures ok { OnOk result (Appends (W.contents writer.old) (W.contents writer.new)
+        (line_text (explained_text verdict count))) }
+    ensures err { IfErr result (λ fault. fault ≡ Fault.WriteFailed) }
+{
+    match verdict {
+        Verdict::Permit(rule) => writeln!(writer, "permit {rule} edits {count}").map_err(
+            |_| Fault::WriteFailed,
+        ),
+        Verdict::Deny(rule) => writeln!(writer, "deny {rule} edits {count}").map_err(
+            |_| Fault::WriteFailed,
+        ),
     }
 }
 
@@ -142,15 +225,4 @@ fn write_fate<W: Write>(p: Pos, fate: Fate, writer: &mut W) -> Result<(), Fault>
     let piston = Place { pos: p };
     let line = FateLine { piston, fate };
     writeln!(writer, "{line}").map_err(|_| Fault::WriteFailed)
-}
-
-/// Writes the last line.
-pub fn finish<J: Naming, W: Write>(play: &Play<J>, writer: &mut W) -> Result<(), Fault>
-    ensures ok { OnOk result
-        (Appends (W.contents writer.old) (W.contents writer.new) (done_text play.now)) }
-    ensures err { IfErr result (λ fault. fault ≡ Fault.WriteFailed) }
-{
-    let ticks = play.ticks();
-    let calls = play.calls();
-    writeln!(writer, "done ticks {ticks} calls {calls}").map_err(|_| Fault::WriteFailed)
 }

@@ -4,7 +4,9 @@ ghost use Rattle.vx_script.specs.Statuses.{status_of};
 use std::alloc::AllocError;
 use thiserror::Error;
 use vx_file::FileError;
+use vx_json::RecordError;
 use vx_lines::ReadFailed;
+use vx_session::SessionError;
 
 /// Why a run ended before its script did. docs/FORMATS.md has the table of numbers, words and
 /// statuses.
@@ -17,6 +19,19 @@ pub enum Fault {
     NoMemory,
     #[error("fault 29 players")]
     TooManyPlayers,
+    /// The sector of that number differs from what the keeper of the world has of it.
+    #[error("fault 30 sector {0}")]
+    Torn(u32),
+    /// A player's list of calls is missing.
+    #[error("fault 31 pass")]
+    PassMissing,
+    /// What was replied differs from the record: the seat and the sector of the first call that does,
+    /// or 0 and 0 where it is no call.
+    #[error("fault 32 seat {0} sector {1}")]
+    ListsDiffer(u8, u32),
+    /// A view of the policy was not got, or told no policy.
+    #[error("fault 33 view")]
+    NoView,
     /// The line of this number, counted from 1, is none of the lines that may stand there.
     #[error("fault 40 line {0}")]
     Syntax(u32),
@@ -38,6 +53,10 @@ impl Fault {
             Fault::NoMemory => 2,
             Fault::HistoryFull
             | Fault::TooManyPlayers
+            | Fault::Torn(_)
+            | Fault::PassMissing
+            | Fault::ListsDiffer(_, _)
+            | Fault::NoView
             | Fault::Syntax(_)
             | Fault::BadRegionFile
             | Fault::ReadFailed
@@ -77,6 +96,38 @@ impl From<FileError> for Fault {
             FileError::TooLong => Fault::BadRegionFile,
             FileError::ReadFailed => Fault::ReadFailed,
             FileError::NoMemory => Fault::NoMemory,
+        }
+    }
+}
+
+impl From<SessionError> for Fault {
+    ghost use Rattle.std.specs.Prelude.{◌≡◌};
+    ghost use Rattle.vx_script.specs.Faults.{by_session};
+
+    ghost from_gives = { λ error e. e ≡ by_session error };
+
+    fn from(error: SessionError) -> Fault {
+        match error {
+            SessionError::HistoryFull => Fault::HistoryFull,
+            SessionError::NoMemory => Fault::NoMemory,
+            SessionError::Torn(sector) => Fault::Torn(sector),
+            SessionError::PassMissing => Fault::PassMissing,
+            SessionError::Differs { seat, sector } => Fault::ListsDiffer(seat, sector),
+            SessionError::NoView => Fault::NoView,
+        }
+    }
+}
+
+impl From<RecordError> for Fault {
+    ghost use Rattle.std.specs.Prelude.{◌≡◌};
+    ghost use Rattle.vx_script.specs.Faults.{by_record};
+
+    ghost from_gives = { λ error e. e ≡ by_record error };
+
+    fn from(error: RecordError) -> Fault {
+        match error {
+            RecordError::NoMemory => Fault::NoMemory,
+            RecordError::WriteFailed => Fault::WriteFailed,
         }
     }
 }

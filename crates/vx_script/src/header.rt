@@ -1,17 +1,16 @@
-ghost use Rattle.std.specs.Prelude.{◌≡◌, true, false, None, Ok, IfOk};
+ghost use Rattle.std.specs.Prelude.{◌≡◌, true, false, None, Ok, Err, IfOk};
 
 use crate::fault::Fault;
 use std::alloc::{AllocError, Global};
 use std::marker::Model;
 use vx_block::Part;
-use vx_board::Naming;
 use vx_cells::Whole;
 use vx_geom::{Bounds, Pos};
 use vx_grammar::Line;
-use vx_play::{Play, number_of};
+use vx_play::number_of;
 use vx_policy::Policy;
+use vx_record::{Opening, OpeningError};
 use vx_region::Name;
-use vx_windows::MAX_PLAYERS;
 
 /// The header of a script: the world as it opens, as far as it was read.
 #[derive(Drop)]
@@ -22,7 +21,7 @@ pub struct Header {
 
 impl Model for Header {
     ghost use Rattle.vx_region.specs.Texts.{texts};
-    ghost use Rattle.vx_script.specs.Transcript.{Opening};
+    ghost use Rattle.vx_script.specs.Headers.{Opening};
 
     ghost Value = { Opening };
 
@@ -30,12 +29,13 @@ impl Model for Header {
 }
 
 impl Header {
-    ghost use Rattle.std.specs.Prelude.{Some, Err, IfSome, IfErr, option_map};
+    ghost use Rattle.std.specs.Prelude.{Some, IfSome, IfErr, option_map};
     ghost use Rattle.vx_grammar.specs.ScriptLines.{said};
-    ghost use Rattle.vx_play.specs.Plays.{PlayData, is_named};
-    ghost use Rattle.vx_region.specs.Regions.{Regions};
-    ghost use Rattle.vx_script.specs.Told.{Told, IsOwn, IsOfOpening, faulted};
-    ghost use Rattle.vx_script.specs.Transcript.{Opening, header_told, no_opening, header_after, with_size, with_player, with_cell_set, begun, is_peopled};
+    ghost use Rattle.vx_grammar.specs.ScriptLines.{Said};
+    ghost use Rattle.vx_play.specs.Plays.{is_named};
+    ghost use Rattle.vx_script.specs.Faults.{IsOwn, IsOfRun};
+    ghost use Rattle.vx_script.specs.Headers as headers;
+    ghost use Rattle.vx_script.specs.Headers.{HeaderEnd, Faulty, header_line, no_opening, header_after, with_size, with_player, with_cell_set, begun, is_peopled};
 
     /// Nothing read yet.
     pub fn new(alloc: Global) -> Header
@@ -49,7 +49,7 @@ impl Header {
 
     /// Takes the next line of a script in its header. Answers the line where it is one of the body
     /// that may stand there; then the world is to be made.
-    #[tactic(auto, unfolding(crate::specs::Transcript::header_told))]
+    #[tactic(auto, unfolding(crate::specs::Headers::header_line))]
     pub fn take_line(
         &mut self,
         alloc: Global,
@@ -57,17 +57,16 @@ impl Header {
         number: u32,
     ) -> Result<Option<Line>, Fault>
         ensures next { result ≡ Ok None
-            → (rs : Regions) (go : Opening → Told) (body : PlayData → Told)
-            → header_told rs self.old number (option_map said line) go body ≡ go self.new }
-        ensures first { IfOk result (λ first. IfSome first (λ command. (self.new ≡ self.old)
-            × (option_map said line ≡ Some (said command))
-            × ((rs : Regions) (go : Opening → Told) (body : PlayData → Told)
-            → header_told rs self.old number (option_map said line) go body
-            ≡ begun rs self.old number body))) }
+            → (go : headers.Opening → HeaderEnd) (first : Said → HeaderEnd)
+            → header_line self.old number (option_map said line) go first ≡ go self.new }
+        ensures first { IfOk result (λ begin. IfSome begin (λ line_of_body. (self.new ≡ self.old)
+            × ((go : headers.Opening → HeaderEnd) (first : Said → HeaderEnd)
+            → header_line self.old number (option_map said line) go first
+            ≡ first (said line_of_body)))) }
         ensures err { (fault : Fault) → result ≡ Err fault → IsOwn fault
-            → (rs : Regions) (go : Opening → Told) (body : PlayData → Told)
-            → header_told rs self.old number (option_map said line) go body ≡ faulted fault }
-        ensures fault { IfErr result IsOfOpening }
+            → (go : headers.Opening → HeaderEnd) (first : Said → HeaderEnd)
+            → header_line self.old number (option_map said line) go first ≡ Faulty fault }
+        ensures fault { IfErr result IsOfRun }
     {
         match line {
             None => Err(Fault::Syntax(number)),
@@ -89,6 +88,12 @@ impl Header {
                 }
                 Ok(Some(Line::Tick))
             }
+            Some(Line::Explain(name, action, p)) => {
+                if !self.has_player(&name) {
+                    return Err(Fault::Syntax(number));
+                }
+                Ok(Some(Line::Explain(name, action, p)))
+            }
             Some(line) => {
                 if !self.take(alloc, &line)? {
                     return Err(Fault::Syntax(number));
@@ -99,7 +104,7 @@ impl Header {
     }
 
     // Takes a line of the header; `Ok(false)` where it may not stand there.
-    #[tactic(auto, unfolding(crate::specs::Transcript::header_after))]
+    #[tactic(auto, unfolding(crate::specs::Headers::header_after))]
     fn take(&mut self, alloc: Global, line: &Line) -> Result<bool, AllocError>
         ensures taken { result ≡ Ok true → header_after self.old (said line.now) ≡ Some self.new }
         ensures refused { result ≡ Ok false → header_after self.old (said line.now) ≡ None }
@@ -109,7 +114,7 @@ impl Header {
             Line::World(bounds) => self.take_size(alloc, *bounds),
             Line::Player(name) => self.take_player(name),
             Line::Set(p, part) => self.take_part(*p, *part),
-            Line::As(_, _) | Line::Region(_) | Line::Tick => Ok(false),
+            Line::As(_, _) | Line::Region(_) | Line::Tick | Line::Explain(_, _, _) => Ok(false),
         }
     }
 
@@ -127,29 +132,22 @@ impl Header {
         self.terrain.is_some() && !self.names.is_empty()
     }
 
-    /// Makes the world, at the line of that number.
-    #[tactic(auto, unfolding(crate::specs::Transcript::begun))]
-    pub fn begin<J: Naming>(
-        self,
-        alloc: Global,
-        policy: Policy,
-        number: u32,
-    ) -> Result<Play<J>, Fault>
-        requires { policy ≡ J.first }
-        ensures ok { IfOk result (λ play. (body : PlayData → Told)
-            → begun J.first self number body ≡ body play) }
-        ensures err { (fault : Fault) → result ≡ Err fault → IsOwn fault
-            → (body : PlayData → Told) → begun J.first self number body ≡ faulted fault }
-        ensures fault { IfErr result IsOfOpening }
+    /// How the world opens under this policy, at the line of that number.
+    #[tactic(auto, unfolding(crate::specs::Headers::begun))]
+    pub fn into_opening(self, policy: Policy, number: u32) -> Result<Opening, Fault>
+        ensures ok { IfOk result (λ opening. begun policy self number ≡ Ok opening) }
+        ensures err { IfErr result (λ fault. begun policy self number ≡ Err fault) }
+        ensures fault { IfErr result IsOfRun }
     {
         let Header { terrain, names } = self;
         let Some(terrain) = terrain else {
             return Err(Fault::Syntax(number));
         };
-        if MAX_PLAYERS < names.len() {
-            return Err(Fault::TooManyPlayers);
+        match Opening::of(terrain, names, policy) {
+            Ok(opening) => Ok(opening),
+            Err(OpeningError::TooManyPlayers) => Err(Fault::TooManyPlayers),
+            Err(OpeningError::NoMemory) => Err(Fault::NoMemory),
         }
-        Play::open(alloc, terrain, names, policy).map_err(|_| Fault::NoMemory)
     }
 
     fn take_size(&mut self, alloc: Global, bounds: Bounds) -> Result<bool, AllocError>
@@ -176,7 +174,7 @@ impl Header {
         Ok(true)
     }
 
-    #[tactic(auto, unfolding(crate::specs::Transcript::with_cell_set))]
+    #[tactic(auto, unfolding(crate::specs::Headers::with_cell_set))]
     fn take_part(&mut self, p: Pos, part: Part) -> Result<bool, AllocError>
         ensures taken { result ≡ Ok true → with_cell_set self.old p part ≡ Some self.new }
         ensures refused { result ≡ Ok false → with_cell_set self.old p part ≡ None }

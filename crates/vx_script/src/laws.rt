@@ -1,26 +1,29 @@
-ghost use Rattle.vx_script.specs.FirstFault.{FirstFault};
-ghost use Rattle.vx_script.specs.Laws.{ScriptFaults};
+ghost use Rattle.vx_script.specs.FirstFault.{FaultsAreOfTheScript, FirstFault};
+ghost use Rattle.vx_script.specs.Laws.{ScriptFaults, ScriptsWriteOneText};
 ghost use Rattle.vx_script.specs.Openings.{SizesAreSound, HeadersKeepTerrain};
-ghost use Rattle.vx_script.specs.Played.{ScriptsAreGames};
+
+/// Whether a script faults, and how, its lines alone decide.
+pub fn faults_are_of_the_script()
+    ensures { FaultsAreOfTheScript }
+{}
 
 /// A script faults at its first faulty line, which it has, whatever follows that line.
 pub fn first_fault()
     ensures { FirstFault }
 {}
 
-/// A script brings no other fault than a full record, too many players and a faulty line.
+/// A script has no other fault than too many players and a faulty line.
 pub fn script_faults()
     ensures { ScriptFaults }
+{}
+
+/// A script writes one text: what is played and replied follows from its lines.
+pub fn scripts_write_one_text()
+    ensures { ScriptsWriteOneText }
 {}
 
 /// Whatever a header says, its world has each sector in its place.
 pub fn headers_stay_whole()
     ensures sizes { SizesAreSound }
     ensures header { HeadersKeepTerrain }
-{}
-
-/// A script without fault writes nothing, or what it writes ends in the last line of a game, whose
-/// steps are those of the lines of its body.
-pub fn scripts_are_games()
-    ensures { ScriptsAreGames }
 {}

@@ -2,9 +2,11 @@
 #![tactic(auto)]
 
 mod body;
+mod ending;
 mod fault;
 mod header;
 pub mod laws;
+mod playing;
 mod reading;
 mod regions;
 mod running;

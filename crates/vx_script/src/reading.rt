@@ -7,8 +7,8 @@ ghost use Rattle.vx_lines.specs.Reading.{pending};
 ghost use Rattle.vx_lines.specs.declared.input.TheConstants.{MAX_SCRIPT_BYTES};
 ghost use Rattle.vx_lines.specs.declared.lines.TheConstants.{MAX_LINE_BYTES};
 ghost use Rattle.vx_script.specs.Known.{KeepsSize, IsWithin};
-ghost use Rattle.vx_script.specs.Told.{IsOwn, IsOfRun};
-ghost use Rattle.vx_script.specs.Transcript.{read_of};
+ghost use Rattle.vx_script.specs.Faults.{IsOwn, IsOfRun};
+ghost use Rattle.vx_script.specs.Headers.{read_of};
 
 use crate::fault::Fault;
 use std::alloc::Global;
@@ -59,7 +59,7 @@ pub fn next_line<R: Read, W: Write>(
 }
 
 /// What a line says; nothing where it is too long, or none of the lines of a script.
-#[tactic(auto, unfolding(crate::specs::Transcript::read_of))]
+#[tactic(auto, unfolding(crate::specs::Headers::read_of))]
 pub fn read_of(alloc: Global, line: &[u8]) -> Result<Option<Line>, Fault>
     ensures ok { IfOk result (λ read. option_map said read ≡ read_of line.now) }
     ensures err { IfErr result (λ fault. fault ≡ Fault.NoMemory) }

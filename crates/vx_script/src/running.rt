@@ -1,62 +1,75 @@
-ghost use Rattle.std.specs.Prelude.{◌≡◌, ◌≢◌, ◌+◌, ◌≤◌, ℕ, length, Ok, Err, None, IfSome, IfOk, IfErr, OnOk};
+ghost use Rattle.std.specs.Prelude.{◌≡◌, ◌≢◌, ◌+◌, ◌<◌, ◌≤◌, length, Ok, Err, None, Some, IfSome, IfOk, IfErr, OnOk, option_map};
 ghost use Rattle.std.specs.Io.KnownBytes.{Keeps, prepend_known};
 ghost use Rattle.vx_grammar.specs.ScriptLines.{said};
-ghost use Rattle.vx_lines.specs.Lines.{lines_of};
 ghost use Rattle.vx_lines.specs.Reading.{pending};
 ghost use Rattle.vx_lines.specs.declared.input.TheConstants.{MAX_SCRIPT_BYTES};
-ghost use Rattle.vx_region.specs.Regions.{Regions};
+ghost use Rattle.vx_script.specs.Faults.{IsOwn, IsOfRun};
+ghost use Rattle.vx_script.specs.Headers.{Faulty, Bare, Begins, header_end, says_of};
 ghost use Rattle.vx_script.specs.Known.{Goes, KeepsSize, IsWithin};
-ghost use Rattle.vx_script.specs.Told.{IsOwn, IsOfRun, IsOfReply, Tells, Faults, faulted};
-ghost use Rattle.vx_script.specs.Transcript.{body_run, header_end, header_run, run_from, transcript};
+ghost use Rattle.vx_script.specs.Transcript.{Wrote, WroteBare, WroteWorld, body_lines};
 
-use crate::body::{finish, take_line};
 use crate::fault::Fault;
 use crate::header::Header;
+use crate::playing::play;
 use crate::reading::{next_line, read_of};
 use std::alloc::Global;
 use std::io::{Read, Write};
 use std::marker::Brand;
-use vx_board::Naming;
+use std::sync::Wait;
+use std::thread::Threads;
+use vx_board::Opened;
 use vx_grammar::Line;
 use vx_lines::Lines;
-use vx_play::Play;
 use vx_policy::Policy;
+use vx_world::Blanks;
 
-/// Runs a script: reads it to its end and writes the reply to each of its lines as it is read, then
-/// the last line. A fault ends the run; what was replied before it has been written out. A script
-/// of more than 16,777,216 bytes always ends in a fault, and none ends in that of a regions file.
-pub fn run<R: Read, W: Write>(
+/// Runs a script on a world that threads share, whose ticks are worked by 1 to 8 threads: reads it to
+/// its end and writes the reply to each of its lines as it is read, then the last line, and, where it
+/// is asked for, the record as lines of JSON. A fault ends the run; what was replied before it has been
+/// written out. Before the last line, and before the fault of a faulty line, the record is settled, and
+/// what was replied is compared with it; where they differ that is the fault. A script of more than
+/// 16,777,216 bytes always ends in a fault, and none ends in that of a regions file.
+pub fn run<T: Threads + Wait + Sync, R: Read, W: Write>(
+    rt: &T,
     alloc: Global,
     reader: &mut R,
     writer: &mut W,
     policy: Policy,
+    workers: usize,
+    json: bool,
 ) -> Result<(), Fault>
-    ensures ok { IfSome (R.remaining reader.old) (λ script.
-        Tells (W.contents writer.old) (W.contents writer.new) result (transcript policy script)) }
-    ensures err { IfSome (R.remaining reader.old) (λ script.
-        Faults (W.contents writer.old) (W.contents writer.new) result (transcript policy script)) }
+    requires workers { (0 < workers) × (workers ≤ 8) }
+    ensures ok { OnOk result (IfSome (R.remaining reader.old) (λ script.
+        Wrote policy json script None (W.contents writer.old) (W.contents writer.new))) }
+    ensures err { (fault : Fault) → result ≡ Err fault → IsOwn fault
+        → IfSome (R.remaining reader.old) (λ script.
+        Wrote policy json script (Some fault) (W.contents writer.old) (W.contents writer.new)) }
     ensures within { OnOk result (IfSome (R.remaining reader.old)
         (λ script. length script ≤ MAX_SCRIPT_BYTES)) }
     ensures file { result ≢ Err Fault.BadRegionFile }
 {
-    let played = run_script::<Brand, R, W>(alloc, reader, writer, policy);
+    let played = run_script(rt, alloc, reader, writer, policy, workers, json);
     let flushed = writer.flush();
     played?;
     flushed.map_err(|_| Fault::WriteFailed)
 }
 
-#[tactic(auto, unfolding(crate::specs::Transcript::transcript))]
-fn run_script<J: Naming, R: Read, W: Write>(
+#[tactic(auto, unfolding(crate::specs::Transcript::MayTell))]
+fn run_script<T: Threads + Wait + Sync, R: Read, W: Write>(
+    rt: &T,
     alloc: Global,
     reader: &mut R,
     writer: &mut W,
     policy: Policy,
+    workers: usize,
+    json: bool,
 ) -> Result<(), Fault>
-    requires { policy ≡ J.first }
-    ensures ok { IfSome (R.remaining reader.old) (λ script.
-        Tells (W.contents writer.old) (W.contents writer.new) result (transcript J.first script)) }
-    ensures err { IfSome (R.remaining reader.old) (λ script.
-        Faults (W.contents writer.old) (W.contents writer.new) result (transcript J.first script)) }
+    requires workers { (0 < workers) × (workers ≤ 8) }
+    ensures ok { OnOk result (IfSome (R.remaining reader.old) (λ script.
+        Wrote policy json script None (W.contents writer.old) (W.contents writer.new))) }
+    ensures err { (fault : Fault) → result ≡ Err fault → IsOwn fault
+        → IfSome (R.remaining reader.old) (λ script.
+        Wrote policy json script (Some fault) (W.contents writer.old) (W.contents writer.new)) }
     ensures within { OnOk result (IfSome (R.remaining reader.old)
         (λ script. length script ≤ MAX_SCRIPT_BYTES)) }
     ensures fault { IfErr result IsOfRun }
@@ -64,11 +77,101 @@ fn run_script<J: Naming, R: Read, W: Write>(
     let mut lines = Lines::new(alloc)?;
     let mut header = Header::new(alloc);
     match read_header(alloc, &mut header, &mut lines, reader, writer)? {
-        None => end_header::<J, W>(alloc, header, policy, lines.number() + 1, writer),
-        Some(first) => run_body::<J, R, W>(
-            alloc, header, policy, first, &mut lines, reader, writer,
+        None => end_header(
+            rt, alloc, header, policy, &mut lines, reader, writer, workers, json,
         ),
+        Some(first) => {
+            let number = lines.number();
+            begin(
+                rt,
+                alloc,
+                header,
+                policy,
+                Some(first),
+                number,
+                &mut lines,
+                reader,
+                writer,
+                workers,
+                json,
+            )
+        }
     }
+}
+
+// Ends a script that has no body: with a world and a player in it, the world is made.
+fn end_header<T: Threads + Wait + Sync, R: Read, W: Write>(
+    rt: &T,
+    alloc: Global,
+    header: Header,
+    policy: Policy,
+    lines: &mut Lines,
+    reader: &mut R,
+    writer: &mut W,
+    workers: usize,
+    json: bool,
+) -> Result<(), Fault>
+    requires workers { (0 < workers) × (workers ≤ 8) }
+    ensures ok { OnOk result (IfSome (prepend_known (pending lines.old) (R.remaining reader.old))
+        (λ rest. WroteBare policy json header (lines.old.number + 1) None
+        (W.contents writer.old) (W.contents writer.new))) }
+    ensures err { (fault : Fault) → result ≡ Err fault → IsOwn fault
+        → IfSome (prepend_known (pending lines.old) (R.remaining reader.old))
+        (λ rest. WroteBare policy json header (lines.old.number + 1) (Some fault)
+        (W.contents writer.old) (W.contents writer.new)) }
+    ensures fault { IfErr result IsOfRun }
+{
+    if !header.is_peopled() {
+        return Ok(());
+    }
+    let number = lines.number() + 1;
+    begin(
+        rt, alloc, header, policy, None, number, lines, reader, writer, workers, json,
+    )
+}
+
+// Makes the world at the line of that number, and plays the body, if there is one.
+fn begin<T: Threads + Wait + Sync, R: Read, W: Write>(
+    rt: &T,
+    alloc: Global,
+    header: Header,
+    policy: Policy,
+    first: Option<Line>,
+    number: u32,
+    lines: &mut Lines,
+    reader: &mut R,
+    writer: &mut W,
+    workers: usize,
+    json: bool,
+) -> Result<(), Fault>
+    requires workers { (0 < workers) × (workers ≤ 8) }
+    requires number { IfSome first (λ _. number ≡ lines.old.number) }
+    ensures ok { OnOk result (IfSome (prepend_known (pending lines.old) (R.remaining reader.old))
+        (λ rest. WroteWorld policy json header number (body_lines (option_map said first) rest) None
+        (W.contents writer.old) (W.contents writer.new))) }
+    ensures err { (fault : Fault) → result ≡ Err fault → IsOwn fault
+        → IfSome (prepend_known (pending lines.old) (R.remaining reader.old))
+        (λ rest. WroteWorld policy json header number (body_lines (option_map said first) rest)
+        (Some fault) (W.contents writer.old) (W.contents writer.new)) }
+    ensures within { OnOk result (IfSome first (λ _. IsWithin lines.old (R.remaining reader.old))) }
+    ensures fault { IfErr result IsOfRun }
+{
+    let opening = header.into_opening(policy, number)?;
+    let blanks = Blanks::new(&opening);
+    play::<Brand, Brand, T, R, W>(
+        rt,
+        alloc,
+        opening,
+        blanks,
+        Opened::new(),
+        first,
+        number,
+        lines,
+        reader,
+        writer,
+        workers,
+        json,
+    )
 }
 
 // Reads the header, and answers the first line of the body, if there is one.
@@ -81,21 +184,18 @@ fn read_header<R: Read, W: Write>(
 ) -> Result<Option<Line>, Fault>
     ensures ended { result ≡ Ok None
         → IfSome (prepend_known (pending lines.old) (R.remaining reader.old))
-        (λ bytes. (rs : Regions)
-        → header_run rs header.old (lines.old.number + 1) (lines_of bytes)
-        ≡ header_end rs header.new (lines.new.number + 1)) }
-    ensures first { IfOk result (λ first. IfSome first (λ command. Goes
+        (λ bytes. header_end header.old (lines.old.number + 1) (says_of bytes)
+        ≡ Bare header.new (lines.new.number + 1)) }
+    ensures first { IfOk result (λ first. IfSome first (λ line. Goes
         (prepend_known (pending lines.old) (R.remaining reader.old))
         (prepend_known (pending lines.new) (R.remaining reader.new))
-        (λ bytes rest. (rs : Regions)
-        → header_run rs header.old (lines.old.number + 1) (lines_of bytes)
-        ≡ run_from rs header.new lines.new.number (said command) (lines_of rest)))) }
+        (λ bytes rest. header_end header.old (lines.old.number + 1) (says_of bytes)
+        ≡ Begins header.new lines.new.number (said line) (says_of rest)))) }
     ensures written { IfOk result (λ _. Keeps (W.contents writer.old) (W.contents writer.new)) }
     ensures err { (fault : Fault) → result ≡ Err fault → IsOwn fault
         → Keeps (W.contents writer.old) (W.contents writer.new)
         × IfSome (prepend_known (pending lines.old) (R.remaining reader.old))
-        (λ bytes. (rs : Regions)
-        → header_run rs header.old (lines.old.number + 1) (lines_of bytes) ≡ faulted fault) }
+        (λ bytes. header_end header.old (lines.old.number + 1) (says_of bytes) ≡ Faulty fault) }
     ensures size { IfOk result (λ _.
         KeepsSize lines.old (R.remaining reader.old) lines.new (R.remaining reader.new)) }
     ensures within { result ≡ Ok None → IsWithin lines.old (R.remaining reader.old) }
@@ -109,76 +209,4 @@ fn read_header<R: Read, W: Write>(
         }
     }
     Ok(None)
-}
-
-// Ends a script that has no body: with a world and a player in it, the world is made.
-#[tactic(auto, unfolding(crate::specs::Transcript::header_end))]
-fn end_header<J: Naming, W: Write>(
-    alloc: Global,
-    header: Header,
-    policy: Policy,
-    number: u32,
-    writer: &mut W,
-) -> Result<(), Fault>
-    requires { policy ≡ J.first }
-    ensures ok { Tells (W.contents writer.old) (W.contents writer.new) result
-        (header_end J.first header number) }
-    ensures err { Faults (W.contents writer.old) (W.contents writer.new) result
-        (header_end J.first header number) }
-    ensures fault { IfErr result IsOfReply }
-{
-    if !header.is_peopled() {
-        return Ok(());
-    }
-    let play = header.begin::<J>(alloc, policy, number)?;
-    finish(&play, writer)
-}
-
-// Makes the world at the first line of the body, takes that line, and then the rest of the body.
-fn run_body<J: Naming, R: Read, W: Write>(
-    alloc: Global,
-    header: Header,
-    policy: Policy,
-    first: Line,
-    lines: &mut Lines,
-    reader: &mut R,
-    writer: &mut W,
-) -> Result<(), Fault>
-    requires { policy ≡ J.first }
-    ensures ok { IfSome (prepend_known (pending lines.old) (R.remaining reader.old)) (λ rest.
-        Tells (W.contents writer.old) (W.contents writer.new) result
-        (run_from J.first header lines.old.number (said first) (lines_of rest))) }
-    ensures err { IfSome (prepend_known (pending lines.old) (R.remaining reader.old)) (λ rest.
-        Faults (W.contents writer.old) (W.contents writer.new) result
-        (run_from J.first header lines.old.number (said first) (lines_of rest))) }
-    ensures within { OnOk result (IsWithin lines.old (R.remaining reader.old)) }
-    ensures fault { IfErr result IsOfRun }
-{
-    let mut play = header.begin::<J>(alloc, policy, lines.number())?;
-    take_line(&mut play, alloc, Some(first), lines.number(), writer)?;
-    read_body(alloc, &mut play, lines, reader, writer)
-}
-
-// Reads the lines of the body and writes the replies to them, then the last line.
-fn read_body<J: Naming, R: Read, W: Write>(
-    alloc: Global,
-    play: &mut Play<J>,
-    lines: &mut Lines,
-    reader: &mut R,
-    writer: &mut W,
-) -> Result<(), Fault>
-    ensures ok { IfSome (prepend_known (pending lines.old) (R.remaining reader.old)) (λ bytes.
-        Tells (W.contents writer.old) (W.contents writer.new) result
-        (body_run play.old (lines.old.number + 1) (lines_of bytes))) }
-    ensures err { IfSome (prepend_known (pending lines.old) (R.remaining reader.old)) (λ bytes.
-        Faults (W.contents writer.old) (W.contents writer.new) result
-        (body_run play.old (lines.old.number + 1) (lines_of bytes))) }
-    ensures within { OnOk result (IsWithin lines.old (R.remaining reader.old)) }
-    ensures fault { IfErr result IsOfRun }
-{
-    'body_lines: while next_line(lines, reader, writer)? {
-        let line = read_of(alloc, lines.line())?;
-        take_line(play, alloc, line, lines.number(), writer)?;
-    }
-    finish(play, writer)
 }

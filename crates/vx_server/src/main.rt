@@ -4,10 +4,14 @@
 
 mod options;
 
+ghost use Rattle.std.specs.Prelude.{◌<◌, ◌≤◌};
+
 use clap::error::ErrorKind;
-use options::{REGIONS, command};
+use options::{JSON, MAX_WORKERS, REGIONS, WORKERS, command};
 use std::io::BufWriter;
 use std::process::ExitCode;
+use std::sync::Wait;
+use std::thread::Threads;
 use std::{env, fs, io};
 use vx_policy::Policy;
 use vx_script::{Fault, read_regions, run};
@@ -19,7 +23,7 @@ const OUTPUT_BYTES: usize = 65_536;
 const NO_TEXT: &str = "invalid UTF-8 was detected in one or more arguments";
 
 fn main(rt: HostRuntime) -> ExitCode {
-    match serve(&rt) {
+    match serve(&rt, &rt) {
         Ok(status) => ExitCode::from(status),
         Err(fault) => {
             // Where standard error takes no words, the status still tells.
@@ -31,7 +35,7 @@ fn main(rt: HostRuntime) -> ExitCode {
 
 // Does what the command line asks for, and answers the status. The command line is judged first,
 // then the regions file, then the script.
-fn serve(rt: &HostRuntime) -> Result<u8, Fault> {
+fn serve<T: Threads + Wait + Sync>(rt: &HostRuntime, threads: &T) -> Result<u8, Fault> {
     let words = match env::args(rt) {
         Ok(words) => words,
         Err(error) if error.kind() == io::ErrorKind::InvalidData => return refuse_bytes(rt),
@@ -41,7 +45,15 @@ fn serve(rt: &HostRuntime) -> Result<u8, Fault> {
     match command(rt.alloc())?.try_get_matches_from(words.as_slice()) {
         Ok(matches) => {
             let policy = first_policy(rt, matches.get_str(REGIONS))?;
-            play(rt, policy)?;
+            // The parser lets 1 to 8 through, so the bounds change nothing.
+            let workers = matches.get_one::<u8>(WORKERS).unwrap_or(1);
+            play(
+                rt,
+                threads,
+                policy,
+                workers.clamp(1, MAX_WORKERS),
+                matches.get_flag(JSON),
+            )?;
             Ok(0)
         }
         Err(error) => tell(rt, &error),
@@ -91,11 +103,28 @@ fn not_written(kind: io::ErrorKind) -> Fault {
     }
 }
 
-// Plays the script on standard input under this policy.
-fn play(rt: &HostRuntime, policy: Policy) -> Result<(), Fault> {
+// Plays the script on standard input under this policy, with so many workers, and with the record
+// where it is asked for.
+fn play<T: Threads + Wait + Sync>(
+    rt: &HostRuntime,
+    threads: &T,
+    policy: Policy,
+    workers: u8,
+    json: bool,
+) -> Result<(), Fault>
+    requires { (0 < workers) × (workers ≤ 8) }
+{
     let mut input = rt.stdin();
     let mut output = BufWriter::with_capacity(rt.alloc(), OUTPUT_BYTES, io::writer(rt)).map_err(
         |_| Fault::NoMemory,
     )?;
-    run(rt.alloc(), &mut input, &mut output, policy)
+    run(
+        threads,
+        rt.alloc(),
+        &mut input,
+        &mut output,
+        policy,
+        workers as usize,
+        json,
+    )
 }

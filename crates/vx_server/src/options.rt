@@ -1,19 +1,35 @@
 //! The command line of the server.
-use clap::{Arg, Command};
+use clap::{Arg, ArgAction, Command, value_parser};
 use std::alloc::{AllocError, Global};
 
 /// The option whose value is the path of a regions file.
 pub const REGIONS: &str = "regions";
 
+/// The option whose value is how many threads work each tick.
+pub const WORKERS: &str = "workers";
+
+/// The option that asks for the record of all calls.
+pub const JSON: &str = "json";
+
+/// So many threads may work a tick at most.
+pub const MAX_WORKERS: u8 = 8;
+
 const ABOUT: &str = "\
 Plays the script that comes on standard input, in a world of blocks whose land is protected by
 regions, and writes the reply to each of its lines to standard output.";
 
-const USAGE: &str = "vx_server [--regions FILE] < SCRIPT";
+const USAGE: &str = "vx_server [--regions FILE] [--workers N] [--json] < SCRIPT";
 
 const REGIONS_HELP: &str = "\
 A regions file in TOML: the policy that stands as the script begins; without it there
 are no regions";
+
+const WORKERS_HELP: &str = "\
+How many threads work each tick, from 1 to 8; 1 if it is not given";
+
+const JSON_HELP: &str = "\
+After the last reply, writes the record: a line of JSON for each call and for each move
+that a piston asked for";
 
 const EXAMPLE: &str = "\
 Status 0: the script was played to its end. Status 1: a fault in it, in the regions file or on the
@@ -32,9 +48,20 @@ pub fn command<'a>(alloc: Global) -> Result<Command<'a>, AllocError> {
         .long(REGIONS)
         .value_name("FILE")
         .help(REGIONS_HELP);
+    let workers = Arg::new(alloc, WORKERS)
+        .long(WORKERS)
+        .value_name("N")
+        .value_parser(value_parser!(u8).range(1..=i64::from(MAX_WORKERS)))
+        .help(WORKERS_HELP);
+    let json = Arg::new(alloc, JSON)
+        .long(JSON)
+        .action(ArgAction::SetTrue)
+        .help(JSON_HELP);
     Command::new(alloc, "vx_server")
         .about(ABOUT)
         .override_usage(USAGE)
         .after_help(EXAMPLE)
-        .arg(regions)
+        .arg(regions)?
+        .arg(workers)?
+        .arg(json)
 }

@@ -1,6 +1,6 @@
 use Rattle.std.proofs.Common.{take}
 use Rattle.std.specs.Io.KnownBytes.{Appends}
-use Rattle.vx_script.specs.Transcript.{fates_text}
+use Rattle.vx_script.specs.Replies.{fates_text}
 use Rattle.vx_script.proofs.body.write_fates.Given as goal
 
 -- the fates so far are written

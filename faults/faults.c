@@ -17,7 +17,7 @@ extern long strtol(const char *, char **, int);
 extern long syscall(long, ...);
 extern void *__libc_malloc(size), *__libc_calloc(size, size), *__libc_realloc(void *, size), *__libc_memalign(size, size);
 
-enum { READ = 0, WRITE = 1, OPEN = 2, CLOSE = 3, INTERRUPTED = 4, INPUT_OUTPUT = 5, NO_MEMORY = 12, INVALID = 22 };
+enum { READ = 0, WRITE = 1, OPEN = 2, CLOSE = 3, EXIT = 231, INTERRUPTED = 4, INPUT_OUTPUT = 5, NO_MEMORY = 12, INVALID = 22 };
 
 static const char *kind = "", *mark = 0;
 static long turn = -1, first = 0, count = 0;
@@ -41,11 +41,17 @@ __attribute__((destructor)) static void end(void) {
   syscall(CLOSE, to);
 }
 
+// A program with threads ends here, and no destructor is called.
+void _exit(int status) {
+  end();
+  for (;;) syscall(EXIT, status);
+}
+
 // Whether this call is one of that kind, and its turn.
 static int chosen(const char *call) {
   if (strcmp(kind, call)) return 0;
-  count++;
-  int is = turn == 0 || turn == count || count <= first;
+  long now = __atomic_add_fetch(&count, 1, __ATOMIC_RELAXED);
+  int is = turn == 0 || turn == now || now <= first;
   if (is && mark) syscall(CLOSE, syscall(OPEN, mark, 0101, 0600));
   return is;
 }

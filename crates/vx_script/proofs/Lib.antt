@@ -1,10 +1,11 @@
 pub mod Doing
-pub mod Written
 pub mod FateLines
 pub mod FirstFaults
 pub mod Going
 pub mod Lines
 pub mod OneText
 pub mod Openings
+pub mod Played
 pub mod Runs
 pub mod ScriptFaults
+pub mod Written

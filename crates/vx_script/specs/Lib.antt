@@ -4,6 +4,7 @@ pub mod Headers
 pub mod Known
 pub mod Laws
 pub mod Openings
+pub mod Played
 pub mod Replies
 pub mod Sessions
 pub mod Statuses

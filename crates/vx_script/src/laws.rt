@@ -1,6 +1,7 @@
 ghost use Rattle.vx_script.specs.FirstFault.{FaultsAreOfTheScript, FirstFault};
 ghost use Rattle.vx_script.specs.Laws.{ScriptFaults, ScriptsWriteOneText};
 ghost use Rattle.vx_script.specs.Openings.{SizesAreSound, HeadersKeepTerrain};
+ghost use Rattle.vx_script.specs.Played.{ScriptsAreGames};
 
 /// Whether a script faults, and how, its lines alone decide.
 pub fn faults_are_of_the_script()
@@ -20,6 +21,11 @@ pub fn script_faults()
 /// A script writes one text: what is played and replied follows from its lines.
 pub fn scripts_write_one_text()
     ensures { ScriptsWriteOneText }
+{}
+
+/// A body without fault plays a game whose steps its lines are: what holds of games, holds of scripts.
+pub fn scripts_are_games()
+    ensures { ScriptsAreGames }
 {}
 
 /// Whatever a header says, its world has each sector in its place.

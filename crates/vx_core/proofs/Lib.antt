@@ -1,1 +1,5 @@
+pub mod Filling
+pub mod Fitting
+pub mod Leading
+pub mod Reaching
 pub mod Soundness

@@ -256,7 +256,7 @@ always : (o : OpeningData) (m : MachineData) (events : List Happening) → Holds
 always o m [] h = h
 always o m (event ∷ events) h = always o (after_event m event) events (still_holds o m event h)
 
-holds : (o : OpeningData) (events : List Happening) → IsMap o.terrain → Holds o (run o events).play (run o events).ticks
+pub holds : (o : OpeningData) (events : List Happening) → IsMap o.terrain → Holds o (run o events).play (run o events).ticks
 holds o events whole = always o (begun o) events (begins o whole)
 
 pub changes_nothing : ChangesNothing

@@ -2,14 +2,18 @@
 use Rattle.std.specs.Prelude.{◌≡◌, ◌+◌, ◌≤◌, false, List, [], ◌∷◌, length, map}
 use Rattle.std.specs.List.{All}
 use Rattle.vx_cells.specs.Wholes.{IsMap}
+use Rattle.vx_policy.specs.Asked.{Asked}
 use Rattle.vx_policy.specs.Edits.{AreAccepted}
 use Rattle.vx_policy.specs.declared.version.Version.{Version}
 use Rattle.vx_sector.specs.SectorData.{SectorData}
 use Rattle.vx_windows.specs.Sectors.{entries_of, cells_of, first_version}
-use Rattle.vx_record.specs.Chronicles.{TickData, AreWindows, AreGrown, IsRun, map_after, all_after, version_by}
+use Rattle.vx_record.specs.Chronicles.{TickData, ChronicleData, AreWindows, AreGrown, IsRun, map_after, all_after, version_by}
 use Rattle.vx_core.specs.Events.{Happening}
 use Rattle.vx_core.specs.Machines.{MachineData, is_enabled, after_event, chronicle_of, run}
+use Rattle.vx_core.specs.Outcomes.{OutcomeData, IsReachable, HasRoom, outcome}
 use Rattle.vx_record.specs.Openings.{OpeningData}
+use Rattle.vx_core.specs.declared.stage.Stage.{Stage}
+use Rattle.vx_core.specs.declared.stage.Stage.TheVariants.{Home}
 
 -- an event that may not happen changes nothing
 abbrev pub ChangesNothing : Type 0
@@ -55,3 +59,26 @@ pub record AreOpen (o : OpeningData) (m : MachineData) : Type 0 where
 abbrev pub WindowsAreOpen : Type 0
 WindowsAreOpen = (o : OpeningData) (events : List Happening)
     → IsMap o.terrain → AreOpen o (run o events)
+
+-- all sectors are at home
+abbrev pub AreHome : List Stage → Type 0
+AreHome stages = All (λ stage. stage ≡ Home) stages
+
+-- what stands after every list of events, the rules give, and there is room for it
+abbrev pub OutcomesAreByTheRules : Type 0
+OutcomesAreByTheRules = (o : OpeningData) (events : List Happening)
+    → IsMap o.terrain → IsReachable o (outcome (run o events))
+
+-- and such an outcome stands after some list of events, with all sectors at home
+abbrev pub ByTheRulesIsReached : Type 0
+ByTheRulesIsReached = (o : OpeningData) (r : OutcomeData) → IsMap o.terrain → IsReachable o r
+    → (events : List Happening) × (outcome (run o events) ≡ r) × AreHome (run o events).stages
+
+-- every run whose versions grow by accepted edits is the chronicle of some list of events, of which
+-- these are the edits
+abbrev pub RunsAreReached : Type 0
+RunsAreReached = (c : ChronicleData) (edits : List Asked)
+    → IsMap c.opening.terrain → IsRun c → AreAccepted c.opening.policy edits
+    → AreGrown c.opening.policy edits 0 c.ticks (length edits) → HasRoom c.ticks edits []
+    → (events : List Happening) × (chronicle_of c.opening events ≡ c)
+    × ((run c.opening events).play.accepted ≡ edits)

@@ -1,3 +1,4 @@
 pub mod Events
 pub mod Laws
 pub mod Machines
+pub mod Outcomes

@@ -11,7 +11,7 @@ mod stage;
 
 pub use core_state::Core;
 pub use event::Event;
-pub use laws::every_order_is_a_run;
+pub use laws::{every_order_is_a_run, every_run_is_reached};
 pub use running::run_core;
 pub use stage::Stage;
 pub use vx_record::{Chronicle, Opening, OpeningError, Tick, changes_have_leave};

@@ -26,9 +26,12 @@ use vx_power::{Leveled, all_levels};
 use vx_tick::{Found, Plan, at_rest, finished};
 use vx_wake::{Settling, Waking, unsettled};
 
+// A further thread pays where it has so many moves to judge.
+const MOVES_EACH: usize = 64;
+
 /// The same as `plan_woken`, its sectors worked by 1 to 8 threads, as `step_parts` shares them out.
-/// Where nothing is told, no sector is worked. The phase of cells has no piece here, since nothing
-/// is copied.
+/// Where nothing is told, no sector is worked, and where little is, one thread does all, since others
+/// would cost more than they save. The phase of cells has no piece here, since nothing is copied.
 pub fn plan_parts<R: Threads + Sync, G: Gate + Sync>(
     rt: &R,
     alloc: Global,
@@ -76,7 +79,7 @@ fn woken<R: Threads + Sync, G: Gate + Sync>(
         return Ok(done);
     }
     match unsettled(alloc, map, waking, written)? {
-        Some(places) => plan_among(workers, alloc, map, version, &places),
+        Some(places) => plan_among(&workers.at_most(1), alloc, map, version, &places),
         None => plan_all(workers, alloc, map, version),
     }
 }
@@ -151,6 +154,7 @@ fn ended<R: Threads + Sync, G: Gate + Sync, L: Leveled>(
     ensures { IfOk result (λ done. IsPlanned version.now.policy map.now done) }
 {
     let moves = found.moves.as_slice();
-    let fates = fates_in_parts(workers, alloc, map.bounds(), version, moves)?;
+    let judging = workers.at_most(1 + moves.len() / MOVES_EACH);
+    let fates = fates_in_parts(&judging, alloc, map.bounds(), version, moves)?;
     finished(alloc, map, levels, found, fates)
 }

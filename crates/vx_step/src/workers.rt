@@ -25,6 +25,15 @@ impl<'a, R: Threads + Sync, G: Gate + Sync> Workers<'a, R, G> {
         Workers { rt, count, gate }
     }
 
+    /// At most so many of them, and at least one.
+    pub fn at_most(&self, count: usize) -> Workers<'a, R, G> {
+        Workers {
+            rt: self.rt,
+            count: self.count.min(count).max(1),
+            gate: self.gate,
+        }
+    }
+
     /// The pieces of all sectors.
     pub fn all<W: Work + Sync>(&self, alloc: Global, work: &W) -> Result<Vec<W::Out>, AllocError>
     where

@@ -116,9 +116,27 @@ pub fn two_workers<
     passes: &mut [Pass<A, B>],
 ) -> Result<(), Fail> {
     let ann = passes.first_mut().ok_or("no pass")?;
-    assert!(rt; is_placed(rt, world, ann, dust_at(5), &NoGate));
+    // So much that several workers are taken.
+    for z in 0..9 {
+        assert!(rt; is_laid(rt, world, ann, z));
+    }
     meet(rt, alloc, world, keeper);
     Ok(())
+}
+
+// Lays dust along a row of the world.
+fn is_laid<A: Places, B: Seats, R: Wait>(
+    rt: &R,
+    world: &World<A, B>,
+    ann: &mut Pass<A, B>,
+    z: i32,
+) -> bool {
+    let mut laid = true;
+    for x in 0..32 {
+        let dust = Cmd::Place(Pos::new(x, 1, z), Part::Dust);
+        laid &= is_placed(rt, world, ann, dust, &NoGate);
+    }
+    laid
 }
 
 fn meet<A: Places, B: Seats, R: Threads + Wait + Abort + Sync>(
@@ -131,8 +149,4 @@ fn meet<A: Places, B: Seats, R: Threads + Wait + Abort + Sync>(
     assert!(rt; world.tick(rt, alloc, keeper, 2, &gate).is_ok());
     assert!(rt; gate.missed.load(Ordering::SeqCst) == 0);
     assert!(rt; gate.opened.load(Ordering::SeqCst) == 1);
-}
-
-fn dust_at(x: i32) -> Cmd {
-    Cmd::Place(Pos::new(x, 1, 5), Part::Dust)
 }

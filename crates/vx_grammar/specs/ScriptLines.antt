@@ -16,7 +16,8 @@ use Rattle.vx_grammar.specs.declared.line.Line.{Line}
 use Rattle.vx_grammar.specs.declared.line.Line.TheVariants as line
 
 -- what a line says: nothing, the size of the world, a player, a cell of the opening, a player's
--- command, an edit, a tick, or the question whether a player may do this at a position
+-- command, an edit, a tick, the question whether a player may do this at a position, or the beginning
+-- or the end of a block
 pub data Said : Type 0 where
   Nothing : Said
   World : Sizes → Said
@@ -26,6 +27,8 @@ pub data Said : Type 0 where
   Region : Asked → Said
   Tick : Said
   Explain : List ℕ → Action → Pos → Said
+  Together : Said
+  End : Said
 
 -- what a line that was read says
 abbrev pub said : Line → Said
@@ -37,6 +40,8 @@ said (line.As name cmd) = Act name.text.bytes cmd
 said (line.Region edit) = Region (asked edit)
 said line.Tick = Tick
 said (line.Explain name action p) = Explain name.text.bytes action p
+said line.Together = Together
+said line.End = End
 
 -- the sizes of a world: 1 to 8 sectors each way, of 1 or 2 chunks each way
 abbrev pub sizes_of : ℕ → ℕ → ℕ → Option Sizes
@@ -158,6 +163,14 @@ explain_line words = do
   p ← position_at action.1
   at_end p.1 (Explain name.0 action.0 p.0)
 
+-- `together`
+unfoldable pub together_line : Rest → Option Said
+together_line words = at_end words Together
+
+-- `end`
+unfoldable pub end_line : Rest → Option Said
+end_line words = at_end words End
+
 -- a line by its first word
 unfoldable pub line_by : List ℕ → Rest → Option Said
 line_by first words =
@@ -168,6 +181,8 @@ line_by first words =
     else if bytes_eq first (codes "player") then player_line words
     else if bytes_eq first (codes "world") then world_line words
     else if bytes_eq first (codes "explain") then explain_line words
+    else if bytes_eq first (codes "together") then together_line words
+    else if bytes_eq first (codes "end") then end_line words
     else None
 
 -- a line by its words; a line without words says nothing

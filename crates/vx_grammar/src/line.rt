@@ -24,4 +24,8 @@ pub enum Line {
     Tick,
     /// Whether the player of that name may do this at the position.
     Explain(Name, Action, Pos),
+    /// The beginning of a block: the commands up to its end are made at once.
+    Together,
+    /// The end of a block.
+    End,
 }

@@ -1,6 +1,6 @@
 ghost use Rattle.std.specs.Prelude.{◌≡◌, ◌==◌, option_map};
 ghost use Rattle.std.specs.List.{list_all};
-ghost use Rattle.vx_grammar.specs.ScriptLines.{said, is_printable, is_comment, world_line, player_line, set_line, placed_part, look_command, place_command, break_command, turn_command, open_command, put_command, take_command, command_of, as_line, region_line, tick_line, explain_line, line_by, line_in, line_of, sizes_of};
+ghost use Rattle.vx_grammar.specs.ScriptLines.{said, is_printable, is_comment, world_line, player_line, set_line, placed_part, look_command, place_command, break_command, turn_command, open_command, put_command, take_command, command_of, as_line, region_line, tick_line, explain_line, together_line, end_line, line_by, line_in, line_of, sizes_of};
 ghost use Rattle.vx_base.specs.Unread.{Gives};
 
 use crate::arguments::{action, at_end, byte, item, name, part, position};
@@ -68,6 +68,8 @@ fn line_by(alloc: Global, first: &str, words: &mut Words) -> Result<Line, Unread
         "player" => player_line(words).ok_or(Unread::Faulty),
         "world" => world_line(words).ok_or(Unread::Faulty),
         "explain" => explain_line(words).ok_or(Unread::Faulty),
+        "together" => together_line(words).ok_or(Unread::Faulty),
+        "end" => end_line(words).ok_or(Unread::Faulty),
         _ => Err(Unread::Faulty),
     }
 }
@@ -95,6 +97,20 @@ fn explain_line(words: &mut Words) -> Option<Line>
     let action = action(words)?;
     let p = position(words)?;
     at_end(words, Line::Explain(name, action, p))
+}
+
+#[tactic(auto, unfolding(crate::specs::ScriptLines::together_line))]
+fn together_line(words: &mut Words) -> Option<Line>
+    ensures { option_map said result ≡ together_line words.old }
+{
+    at_end(words, Line::Together)
+}
+
+#[tactic(auto, unfolding(crate::specs::ScriptLines::end_line))]
+fn end_line(words: &mut Words) -> Option<Line>
+    ensures { option_map said result ≡ end_line words.old }
+{
+    at_end(words, Line::End)
 }
 
 #[tactic(auto, unfolding(crate::specs::ScriptLines::world_line))]

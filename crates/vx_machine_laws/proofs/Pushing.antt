@@ -1,7 +1,7 @@
 -- What a piston moves, by what stands before it.
-use Rattle.std.proofs.Common.{◌≡◌, ℕ, zero, suc, ◌<◌, ◌≤◌, Bool, true, false, ◌⊎◌, inl, inr, List, [], ◌∷◌, ◌++◌, Option, Some, None, option_map, if◌then◌else◌, refl, sym, ap, ◌∙◌, subst, arith}
+use Rattle.std.proofs.Common.{◌≡◌, ℕ, zero, suc, ◌<◌, ◌≤◌, Bool, true, false, not, ◌⊎◌, inl, inr, List, [], ◌∷◌, ◌++◌, Option, Some, None, option_map, if◌then◌else◌, refl, sym, ap, ◌∙◌, subst, arith}
 use Rattle.std.specs.Option.{IfSome}
-use Rattle.std.proofs.lemmas.Bool.{cases_Bool, false≢true}
+use Rattle.std.proofs.lemmas.Bool.{cases_Bool, not-true, false≢true}
 use Rattle.vx_block.specs.declared.cell.Cell.{Cell}
 use Rattle.vx_block.specs.declared.cell.Cell.TheVariants.{Air, Piston}
 use Rattle.vx_block.specs.declared.mobility.Mobility.{Mobility}
@@ -15,10 +15,10 @@ use Rattle.vx_geom.specs.Neighbor.{neighbor}
 use Rattle.vx_geom.specs.Sizes.{is_inside}
 use Rattle.vx_power.specs.Signals.{is_active}
 use Rattle.vx_piston.specs.Laws.{steps}
-use Rattle.vx_piston.specs.Moves.{Moving, row, row_at, pulled, pushing, drawing, move_of, candidate}
+use Rattle.vx_piston.specs.Moves.{Moving, row, row_at, pulled, pushing, drawing, move_of, candidate, restless_as, is_restless}
 use Rattle.vx_piston.proofs.Ends.{drawn_alone, piston_inside}
 use Rattle.vx_piston.proofs.Rows.{no_row, row_inside, row_outside}
-use Rattle.vx_machine_laws.specs.Pistons.{IsPiston, Does, RowMoves, in_line, IsOpen, IsShut, OpenRowsArePushed, ShutRowsStay, LongRowsStay, IsDraw, UnpoweredDraw, SettledStay, OthersStay, MovesArePistons}
+use Rattle.vx_machine_laws.specs.Pistons.{IsPiston, Does, RowMoves, in_line, IsOpen, IsShut, OpenRowsArePushed, ShutRowsStay, LongRowsStay, IsDraw, UnpoweredDraw, SettledStay, OthersStay, MovesArePistons, RestlessAreThese}
 
 module _ (m : MapData) where
   -- what moves lies inside the world
@@ -243,3 +243,27 @@ module _ (m : MapData) (level : Pos → ℕ) (p : Pos) where
 
 pub moves_are_pistons : MovesArePistons
 moves_are_pistons m level p move is = subst (λ o. IfSome o (OfPiston m level p)) is (whose m level p)
+
+-- which are restless
+module _ (w : Pos → Cell) (level : Pos → ℕ) (p : Pos) where
+  abbrev IsRestless : Cell → Type 0
+  IsRestless c = (front : Dir) × (sticky : Bool) × (out : Bool)
+      × (c ≡ Piston front sticky out) × (is_active w level (Some front) p ≡ not out)
+
+  restless_at : (c : Cell) → restless_as w level p c ≡ true → IsRestless c
+  restless_at (Piston front sticky false) is = (front, sticky, false, refl, is)
+  restless_at (Piston front sticky true) is =
+      (front, sticky, true, refl, not-true (is_active w level (Some front) p) is)
+  restless_at _ is = absurd (false≢true is)
+
+  restless_piston : (front : Dir) (sticky out : Bool) → is_active w level (Some front) p ≡ not out
+      → restless_as w level p (Piston front sticky out) ≡ true
+  restless_piston front sticky false is = is
+  restless_piston front sticky true is = ap not is
+
+  restless_from : (c : Cell) → IsRestless c → restless_as w level p c ≡ true
+  restless_from c at = ap (restless_as w level p) at.3 ∙ restless_piston at.0 at.1 at.2 at.4
+
+pub restless_are_these : RestlessAreThese
+unfolding is_restless
+restless_are_these w level p = record { only = restless_at w level p (w p); all = restless_from w level p (w p) }

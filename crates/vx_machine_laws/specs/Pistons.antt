@@ -1,9 +1,10 @@
 -- What a piston moves, from the side of the piston.
-use Rattle.std.specs.Prelude.{◌≡◌, ℕ, zero, suc, ◌<◌, ◌≤◌, Bool, true, false, ◌⊎◌, List, [], ◌∷◌, Some, None}
+use Rattle.std.specs.Prelude.{◌≡◌, ℕ, zero, suc, ◌<◌, ◌≤◌, Bool, true, false, not, ◌⊎◌, List, [], ◌∷◌, Some, None}
 use Rattle.vx_geom.specs.declared.dir.Dir.{Dir}
 use Rattle.vx_geom.specs.declared.pos.Pos.{Pos}
 use Rattle.vx_geom.specs.Neighbor.{neighbor}
 use Rattle.vx_geom.specs.Sizes.{is_inside}
+use Rattle.vx_block.specs.declared.cell.Cell.{Cell}
 use Rattle.vx_block.specs.declared.cell.Cell.TheVariants.{Piston}
 use Rattle.vx_block.specs.declared.mobility.Mobility.{Mobility}
 use Rattle.vx_block.specs.declared.mobility.Mobility.TheVariants.{Empty, Moves, Breaks, Stays}
@@ -11,7 +12,8 @@ use Rattle.vx_block.specs.Mobilities.{mobility_of}
 use Rattle.vx_cells.specs.Maps.{MapData, cell_on}
 use Rattle.vx_power.specs.Signals.{is_active}
 use Rattle.vx_piston.specs.Laws.{steps}
-use Rattle.vx_piston.specs.Moves.{Moving, most_pushed, candidate}
+use Rattle.vx_piston.specs.Moves.{Moving, most_pushed, candidate, is_restless}
+use Rattle.vx_machine_laws.specs.Exactly.{Exactly}
 
 -- a push moves at most twelve cells
 abbrev pub TwelveAtMost : Type 0
@@ -110,3 +112,10 @@ MovesArePistons = (m : MapData) (level : Pos → ℕ) (p : Pos) (move : Moving)
     → (sticky : Bool)
     × (((move.push ≡ true) × IsPiston m level p move.facing sticky false true)
     ⊎ (IsPiston m level p move.facing sticky true false × IsDraw m p move.facing sticky move))
+
+-- a piston is restless where it is in and active, or out and not active; nothing else is
+abbrev pub RestlessAreThese : Type 0
+RestlessAreThese = (w : Pos → Cell) (level : Pos → ℕ) (p : Pos)
+    → Exactly (is_restless w level p)
+    ((front : Dir) × (sticky : Bool) × (out : Bool)
+    × (w p ≡ Piston front sticky out) × (is_active w level (Some front) p ≡ not out))

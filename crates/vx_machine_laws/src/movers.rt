@@ -1,4 +1,4 @@
-ghost use Rattle.vx_machine_laws.specs.Pistons.{TwelveAtMost, OpenRowsArePushed, ShutRowsStay, LongRowsStay, UnpoweredDraw, SettledStay, OthersStay, MovesArePistons};
+ghost use Rattle.vx_machine_laws.specs.Pistons.{TwelveAtMost, OpenRowsArePushed, ShutRowsStay, LongRowsStay, UnpoweredDraw, SettledStay, OthersStay, MovesArePistons, RestlessAreThese};
 
 /// A piston that is in and active pushes the cells before it that move, at most twelve, where what
 /// stands behind them is empty or breaks. Where it stays or lies outside the world, or the row is
@@ -17,10 +17,11 @@ pub fn unpowered_pistons_draw()
 {}
 
 /// A piston that is in and not active, or out and active, does not move, and nor does what is no
-/// piston.
+/// piston. Restless is exactly a piston that is neither.
 pub fn others_do_not_move()
     ensures settled { SettledStay }
     ensures others { OthersStay }
+    ensures restless { RestlessAreThese }
 {}
 
 /// Each push is that of a piston that stands there, is in and is active; each draw that of one that

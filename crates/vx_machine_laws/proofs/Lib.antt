@@ -4,4 +4,5 @@ pub mod Locking
 pub mod Nexts
 pub mod Powering
 pub mod Pushing
+pub mod Sharing
 pub mod Wiring

@@ -4,4 +4,5 @@ pub mod Exactly
 pub mod Lamps
 pub mod Pistons
 pub mod Repeaters
+pub mod Rivals
 pub mod Signals

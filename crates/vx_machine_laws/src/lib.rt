@@ -6,6 +6,7 @@ mod blocks;
 mod lamps;
 mod movers;
 mod repeaters;
+mod rivals;
 mod signals;
 mod wires;
 
@@ -15,5 +16,6 @@ pub use movers::{
     active_pistons_push, each_move_is_a_piston, others_do_not_move, unpowered_pistons_draw,
 };
 pub use repeaters::{repeaters_count_to_the_end, repeaters_follow_what_is_behind, repeaters_lock};
+pub use rivals::first_rivals_beat;
 pub use signals::{activity_has_a_cause, conductors_have_power, dust_is_fed, power_is_given};
 pub use wires::{dust_joins_these, dust_links_to_these};

@@ -1,5 +1,5 @@
 -- What a piston moves, from the side of the piston.
-use Rattle.std.specs.Prelude.{◌≡◌, ℕ, zero, suc, ◌<◌, ◌≤◌, Bool, true, false, not, ◌⊎◌, List, [], ◌∷◌, Some, None}
+use Rattle.std.specs.Prelude.{◌≡◌, ℕ, zero, suc, ◌+◌, ◌<◌, ◌≤◌, Bool, true, false, not, ◌⊎◌, List, [], ◌∷◌, Some, None}
 use Rattle.vx_geom.specs.declared.dir.Dir.{Dir}
 use Rattle.vx_geom.specs.declared.pos.Pos.{Pos}
 use Rattle.vx_geom.specs.Neighbor.{neighbor}
@@ -12,12 +12,16 @@ use Rattle.vx_block.specs.Mobilities.{mobility_of}
 use Rattle.vx_cells.specs.Maps.{MapData, cell_on}
 use Rattle.vx_power.specs.Signals.{is_active}
 use Rattle.vx_piston.specs.Laws.{steps}
-use Rattle.vx_piston.specs.Moves.{Moving, most_pushed, candidate, is_restless}
+use Rattle.vx_piston.specs.Moves.{Moving, most_pushed, most_cells, candidate, is_restless}
 use Rattle.vx_machine_laws.specs.Exactly.{Exactly}
 
 -- a push moves at most twelve cells
 abbrev pub TwelveAtMost : Type 0
 TwelveAtMost = most_pushed ≡ 12
+
+-- a move takes at most two cells more: that of the piston, and the end of the row
+abbrev pub TwoMoreAreTaken : Type 0
+TwoMoreAreTaken = most_cells ≡ most_pushed + 2
 
 -- a piston stands at p, in or out, and is active or not
 pub record IsPiston (m : MapData) (level : Pos → ℕ) (p : Pos)

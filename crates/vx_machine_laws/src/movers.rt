@@ -1,10 +1,11 @@
-ghost use Rattle.vx_machine_laws.specs.Pistons.{TwelveAtMost, OpenRowsArePushed, ShutRowsStay, LongRowsStay, UnpoweredDraw, SettledStay, OthersStay, MovesArePistons, RestlessAreThese};
+ghost use Rattle.vx_machine_laws.specs.Pistons.{TwelveAtMost, TwoMoreAreTaken, OpenRowsArePushed, ShutRowsStay, LongRowsStay, UnpoweredDraw, SettledStay, OthersStay, MovesArePistons, RestlessAreThese};
 
 /// A piston that is in and active pushes the cells before it that move, at most twelve, where what
 /// stands behind them is empty or breaks. Where it stays or lies outside the world, or the row is
 /// longer, the piston does not move.
 pub fn active_pistons_push()
     ensures twelve { TwelveAtMost }
+    ensures taken { TwoMoreAreTaken }
     ensures pushed { OpenRowsArePushed }
     ensures shut { ShutRowsStay }
     ensures long { LongRowsStay }

@@ -108,8 +108,8 @@ OthersStay = (m : MapData) (level : Pos → ℕ) (p : Pos)
     → ((front : Dir) (sticky out : Bool) → cell_on m p ≡ Piston front sticky out → ⊥)
     → candidate m level p ≡ None
 
--- each move is that of the piston at its position: a push of one that is in and active, or a draw of
--- one that is out and not active
+-- each move is that of the piston at its position: a push of one that is in and active, or a draw
+-- of one that is out and not active
 abbrev pub MovesArePistons : Type 0
 MovesArePistons = (m : MapData) (level : Pos → ℕ) (p : Pos) (move : Moving)
     → candidate m level p ≡ Some move

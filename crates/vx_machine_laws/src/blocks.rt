@@ -7,8 +7,8 @@ pub fn blocks_conduct_and_move()
     ensures mobility { BlocksMove }
 {}
 
-/// East is one x further, south one z and up one y; a torch that stands is mounted on what lies below
-/// it, and one that hangs on what lies on its side. A delay has one to four ticks.
+/// East is one x further, south one z and up one y. A torch that stands is mounted on what lies
+/// below it, and one that hangs on what lies on its side. A delay has one to four ticks.
 pub fn sides_lie_and_delays_last()
     ensures sides { SidesLie }
     ensures delays { DelaysLast }

@@ -1,7 +1,7 @@
 ghost use Rattle.vx_machine_laws.specs.Signals.{GiversAreThese, DriversAreThese, StrongAreThese, FedAreThese, PoweredAreThese, ActivatorsAreThese, ActiveLampsAreThese, ActivePistonsAreThese};
 
-/// What gives power to its neighbor is a lit torch that is not mounted on it, a lever that is on, or
-/// a repeater that is on and faces it. What drives a conductor is a lit torch right below it, a
+/// What gives power to its neighbor is a lit torch that is not mounted on it, a lever that is on,
+/// or a repeater that is on and faces it. What drives a conductor is a lit torch right below it, a
 /// lever that is on and mounted on it, or a repeater that is on and faces it. Nothing else does.
 pub fn power_is_given()
     ensures gives { GiversAreThese }

@@ -1,3 +1,4 @@
+pub mod Blocks
 pub mod Doing
 pub mod FateLines
 pub mod FirstFaults

@@ -3,7 +3,7 @@ use Rattle.std.proofs.Common.{◌≡◌, ℕ, Bool, true, false, [], ◌∷◌, 
 use Rattle.std.specs.Option.{option_and_then, MatchOption}
 use Rattle.std.proofs.lemmas.Bool.{and_parts, leb-true}
 use Rattle.vx_geom.specs.Sizes.{AreSizes}
-use Rattle.vx_grammar.specs.ScriptLines.{Nothing, World, Player, Set, Act, Region, Tick, Explain}
+use Rattle.vx_grammar.specs.ScriptLines.{Nothing, World, Player, Set, Act, Region, Tick, Explain, Together, End}
 use Rattle.vx_block.specs.Part.{part_cell}
 use Rattle.vx_cells.specs.Maps.{MapData}
 use Rattle.vx_cells.specs.Wholes.{bare, with_cell_on, IsMap}
@@ -57,3 +57,5 @@ headers_keep_terrain (Act name cmd) o next sizes terrain made = cc
 headers_keep_terrain (Region e) o next sizes terrain made = cc
 headers_keep_terrain Tick o next sizes terrain made = cc
 headers_keep_terrain (Explain name action p) o next sizes terrain made = cc
+headers_keep_terrain Together o next sizes terrain made = cc
+headers_keep_terrain End o next sizes terrain made = cc

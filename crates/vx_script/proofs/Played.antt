@@ -1,18 +1,14 @@
 -- The lines of a body are the steps of the game that they play.
-use Rattle.std.proofs.Common.{◌≡◌, ℕ, codes, decimal, List, [], ◌∷◌, ◌++◌, Option, Some, None, sym, ap, ◌∙◌, subst, append-nil}
-use Rattle.vx_region.specs.Regions.{Regions}
+use Rattle.std.proofs.Common.{◌≡◌, codes, decimal, List, [], ◌∷◌, ◌++◌, map, sym, ap, ◌∙◌, subst, append-nil}
 use Rattle.vx_record.specs.Openings.{OpeningData}
-use Rattle.vx_policy.specs.Asked.{Asked}
-use Rattle.vx_policy.specs.Refusals.{refusal}
-use Rattle.vx_policy.specs.declared.edit_refusal.EditRefusal.{EditRefusal}
 use Rattle.vx_play.specs.Games.{played}
 use Rattle.vx_play.specs.Plays.{PlayData, opened, calls}
-use Rattle.vx_audit.specs.Deeds.{DeedData, Called, Together, Edited, Ticked, IsPlayed}
-use Rattle.vx_grammar.specs.ScriptLines as lines
-use Rattle.vx_grammar.specs.ScriptLines.{Said}
+use Rattle.vx_geom.specs.Sizes.{Sizes}
+use Rattle.vx_sector.specs.SectorData.{EntryData}
+use Rattle.vx_audit.specs.Deeds.{DeedData, Called, Together, Edited, Ticked, AreInOrder, IsPlayed}
+use Rattle.vx_audit.proofs.Unrolled.{unrolled}
 use Rattle.vx_json.specs.Texts.{line_text}
 use Rattle.vx_script.specs.Played.{steps_in, game_text, ScriptsAreGames}
-use Rattle.vx_script.specs.Replies.{policy_after, IsJudged, Replies, RepliesAll}
 
 -- deeds that were done one by one
 abbrev OneByOne : List DeedData → Type 0
@@ -29,30 +25,18 @@ and_then (Together calls ∷ deeds) more one then = absurd one
 and_then (Edited e ∷ deeds) more one then = and_then deeds more one then
 and_then (Ticked fates ∷ deeds) more one then = and_then deeds more one then
 
-judged_one : (rs : Regions) (done : List DeedData) (e : Asked) (cause : Option EditRefusal) (deeds : List DeedData) (reply : List ℕ)
-    → IsJudged rs done e cause deeds reply → OneByOne deeds
-judged_one rs done e (Some cause) deeds reply judged = subst OneByOne (sym judged.0) tt
-judged_one rs done e None deeds reply judged = subst OneByOne (sym judged.0) tt
+calls_one : (order : List EntryData) → OneByOne (map Called order)
+calls_one [] = tt
+calls_one (call ∷ order) = calls_one order
 
-line_one : (rs : Regions) (names : List (List ℕ)) (done : List DeedData) (line : Option Said) (deeds : List DeedData) (reply : List ℕ)
-    → Replies rs names done line deeds reply → OneByOne deeds
-line_one rs names done None deeds reply replies = absurd replies
-line_one rs names done (Some lines.Nothing) deeds reply replies = subst OneByOne (sym replies.0) tt
-line_one rs names done (Some (lines.World sizes)) deeds reply replies = absurd replies
-line_one rs names done (Some (lines.Player name)) deeds reply replies = absurd replies
-line_one rs names done (Some (lines.Set p part)) deeds reply replies = absurd replies
-line_one rs names done (Some (lines.Act name cmd)) deeds reply replies = subst OneByOne (sym replies.deed) tt
-line_one rs names done (Some (lines.Region e)) deeds reply replies = judged_one rs done e (refusal (policy_after rs done) e) deeds reply replies
-line_one rs names done (Some lines.Tick) deeds reply replies = subst OneByOne (sym replies.deed) tt
-line_one rs names done (Some (lines.Explain name action p)) deeds reply replies = subst OneByOne (sym replies.0) tt
-
--- the lines of a body are done one by one
-all_one : (rs : Regions) (names : List (List ℕ)) (ls : List (Option Said)) (done deeds : List DeedData) (text : List ℕ) → RepliesAll rs names ls done deeds text → OneByOne deeds
-all_one rs names [] done deeds text says = subst OneByOne (sym says.0) tt
-all_one rs names (line ∷ ls) done deeds text says =
-    subst OneByOne (sym says.deeds_are)
-    (and_then says.now says.later (line_one rs names done line says.now says.reply says.replies)
-    (all_one rs names ls (done ++ says.now) says.later says.rest says.others))
+-- deeds with each block in order are done one by one
+in_order_one : (sizes : Sizes) (deeds plain : List DeedData) → AreInOrder sizes deeds plain → OneByOne plain
+in_order_one sizes [] plain is = subst OneByOne (sym is) tt
+in_order_one sizes (Called call ∷ deeds) plain is = subst OneByOne (sym is.1) (in_order_one sizes deeds is.0 is.2)
+in_order_one sizes (Together calls ∷ deeds) plain is =
+    subst OneByOne (sym is.3) (and_then (map Called is.0) is.1 (calls_one is.0) (in_order_one sizes deeds is.1 is.4))
+in_order_one sizes (Edited e ∷ deeds) plain is = subst OneByOne (sym is.1) (in_order_one sizes deeds is.0 is.2)
+in_order_one sizes (Ticked fates ∷ deeds) plain is = subst OneByOne (sym is.1) (in_order_one sizes deeds is.0 is.2)
 
 -- what is played one by one is where its steps lead
 leads : (play : PlayData) (deeds : List DeedData) (last : PlayData) → OneByOne deeds → IsPlayed play deeds last → last ≡ played play (steps_in deeds)
@@ -67,11 +51,16 @@ scripts_are_games o ls text tells =
     let start = opened o.policy o.terrain o.names in
     let game = tells.game in
     let there = subst (λ (x : OpeningData). IsPlayed (opened x.policy x.terrain x.names) tells.deeds game.last) tells.opening game.played in
-    let ends : game.last ≡ played start (steps_in tells.deeds) = leads start tells.deeds game.last (all_one o.policy o.names ls [] tells.deeds tells.replies tells.says) there in
+    let plain = unrolled start tells.deeds game.last there in
+    let ends : game.last ≡ played start (steps_in plain.0) = leads start plain.0 game.last (in_order_one o.terrain.sizes tells.deeds plain.0 plain.1) plain.2 in
     record {
       deeds = tells.deeds;
       replies = tells.replies;
       says = tells.says;
+      plain = plain.0;
+      in_order = plain.1;
+      last = game.last;
+      played = plain.2;
       whole = tells.whole
           ∙ ap (λ end. tells.replies ++ end) (append-nil _)
           ∙ (λ i. tells.replies ++ line_text (codes "done ticks " ++ decimal (sym game.ticks i) ++ codes " calls " ++ decimal (sym game.calls i)))

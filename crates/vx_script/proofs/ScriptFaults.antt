@@ -1,7 +1,7 @@
 -- A script has no other fault than too many players and a faulty line.
 use Rattle.std.proofs.Common.{ℕ, ◌+◌, Bool, true, false, List, [], ◌∷◌, length, Option, Some, None, Ok, Err, IfSome, nat_lt, if◌then◌else◌}
 use Rattle.vx_cells.specs.Maps.{MapData}
-use Rattle.vx_grammar.specs.ScriptLines.{Said, Nothing, World, Player, Set, Act, Region, Tick, Explain}
+use Rattle.vx_grammar.specs.ScriptLines.{Said, Nothing, World, Player, Set, Act, Region, Tick, Explain, Together, End}
 use Rattle.vx_play.specs.Plays.{is_named}
 use Rattle.vx_region.specs.Regions.{Regions}
 use Rattle.vx_windows.specs.Limits.{most_players}
@@ -9,17 +9,19 @@ use Rattle.vx_script.specs.declared.fault.Fault.TheVariants.{Syntax, TooManyPlay
 use Rattle.vx_script.specs.FirstFault.{body_fault, world_fault, end_fault}
 use Rattle.vx_script.specs.Headers.{Opening, HeaderEnd, Bare, Begins, or_faulty, begins_if, header_after, header_line, header_end, is_peopled, begun, begun_on, no_opening, says_of}
 use Rattle.vx_script.specs.Laws.{IsOfScript, ScriptFaults}
-use Rattle.vx_script.specs.Replies.{may_stand}
+use Rattle.vx_script.specs.Stages.{Stage, Outside, Inside, may_stand, stage_after}
 
 -- where a header ends so, the script ends well, or by one of these faults
 abbrev EndsRight : Regions → HeaderEnd → Type 0
 EndsRight rs end = IfSome (end_fault rs end) IsOfScript
 
-body_right : (names : List (List ℕ)) (n : ℕ) (lines : List (Option Said)) → IfSome (body_fault names n lines) IsOfScript
-body_right names n [] = tt
-body_right names n (line ∷ lines) = by (may_stand names line) (body_right names (n + 1) lines)
+body_right : (names : List (List ℕ)) (stage : Stage) (n : ℕ) (lines : List (Option Said)) → IfSome (body_fault names stage n lines) IsOfScript
+body_right names Outside n [] = tt
+body_right names (Inside asked) n [] = tt
+body_right names stage n (line ∷ lines) = by (may_stand names stage line) (body_right names (stage_after names stage line) (n + 1) lines)
   where
-    by : (b : Bool) → IfSome (body_fault names (n + 1) lines) IsOfScript → IfSome (if b then body_fault names (n + 1) lines else Some (Syntax n)) IsOfScript
+    by : (b : Bool) → IfSome (body_fault names (stage_after names stage line) (n + 1) lines) IsOfScript
+        → IfSome (if b then body_fault names (stage_after names stage line) (n + 1) lines else Some (Syntax n)) IsOfScript
     by true later = later
     by false later = tt
 
@@ -29,7 +31,7 @@ world_right rs names n m lines (Some terrain) = by (nat_lt most_players (length 
   where
     by : (b : Bool) → IfSome (world_fault m lines (if b then Err TooManyPlayers else Ok (record { terrain = terrain; names = names; policy = rs }))) IsOfScript
     by true = tt
-    by false = body_right names m lines
+    by false = body_right names Outside m lines
 
 bare_right : (rs : Regions) (o : Opening) (n : ℕ) → EndsRight rs (Bare o n)
 unfolding begun
@@ -60,6 +62,8 @@ line_right rs o n (Some (Act name cmd)) lines go right = begins_right rs o n (is
 line_right rs o n (Some (Explain name action p)) lines go right = begins_right rs o n (is_named o.names name) (Explain name action p) lines
 line_right rs o n (Some (Region e)) lines go right = begins_right rs o n (is_peopled o) (Region e) lines
 line_right rs o n (Some Tick) lines go right = begins_right rs o n (is_peopled o) Tick lines
+line_right rs o n (Some Together) lines go right = begins_right rs o n (is_peopled o) Together lines
+line_right rs o n (Some End) lines go right = goes_right rs n (header_after o End) go right
 
 header_right : (rs : Regions) (o : Opening) (n : ℕ) (lines : List (Option Said)) → EndsRight rs (header_end o n lines)
 header_right rs o n [] = bare_right rs o n

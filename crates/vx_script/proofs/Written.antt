@@ -1,5 +1,5 @@
 -- What was written in the end, by what was done.
-use Rattle.std.proofs.Common.{◌≡◌, ℕ, ◌+◌, Bool, true, false, List, [], ◌∷◌, ◌++◌, length, Option, Some, None, Ok, Err, refl, sym, ◌∙◌, subst}
+use Rattle.std.proofs.Common.{◌≡◌, ℕ, Bool, true, false, List, [], ◌∷◌, ◌++◌, Option, Some, None, Ok, Err, refl, sym, ◌∙◌, subst}
 use Rattle.std.specs.Io.KnownBytes.{Keeps, Appends}
 use Rattle.std.proofs.KnownBytes.{Appends-nil, Appends-kept, Appends-trans}
 use Rattle.vx_region.specs.Regions.{Regions}
@@ -13,14 +13,16 @@ use Rattle.vx_script.specs.declared.fault.Fault.{Fault}
 use Rattle.vx_script.specs.declared.fault.Fault.TheVariants.{Syntax}
 use Rattle.vx_script.specs.Headers.{Opening, Faulty, Bare, Begins, header_end, no_opening, says_of, is_peopled, begun}
 use Rattle.vx_script.specs.Replies.{RepliesAll}
-use Rattle.vx_script.specs.Sessions.{HasDone, StoppedAt, EndsWith, IsPlayable}
+use Rattle.vx_script.specs.Sessions.{HasEnded, StoppedAt, EndsWith, IsPlayable}
+use Rattle.vx_script.specs.Stages.{Outside}
 use Rattle.vx_script.specs.Transcript.{BodyTells, WorldTells, BareTells, EndTells, MayTell, Wrote, WroteBody, WroteWorld, WroteBare, done_text, record_lines}
 
 module _ (rs : Regions) (old s : SessionData) (json : Bool) (n : ℕ) (lines : List (Option Said)) (first : (opening_of old).policy ≡ rs) (nothing : IsOf [] old) where
   -- a body that was done to its end, and what is written behind the replies
-  pub wrote_game : (r : RecordData) (a b c : Option (List ℕ)) → HasDone rs old s lines a b → EndsWith s r → Appends b c (done_text r ++ record_lines json r)
+  pub wrote_game : (r : RecordData) (a b c : Option (List ℕ)) → HasEnded rs old s Outside lines a b → EndsWith s r → Appends b c (done_text r ++ record_lines json r)
       → WroteBody (opening_of old) json n lines None a c
-  wrote_game r a b c done ends written =
+  wrote_game r a b c ended ends written =
+      let done = ended.done in
       let says = done.says [] nothing in
       record {
         text = done.text ++ (done_text r ++ record_lines json r);
@@ -28,7 +30,8 @@ module _ (rs : Regions) (old s : SessionData) (json : Bool) (n : ℕ) (lines : L
         tells = record {
           deeds = done.deeds;
           replies = done.text;
-          says = subst (λ p. RepliesAll p (names_of old) lines [] done.deeds done.text) (sym first) says.0;
+          says = subst (λ p. RepliesAll p (names_of old) Outside lines [] done.deeds done.text) (sym first) says.0;
+          closed = ended.closed;
           ending = r;
           opening = ends.opening ∙ done.opening;
           sound = ends.sound;
@@ -38,24 +41,20 @@ module _ (rs : Regions) (old s : SessionData) (json : Bool) (n : ℕ) (lines : L
       }
 
   -- a body that was done up to its first faulty line
-  pub wrote_front : (fault : Fault) (a b : Option (List ℕ)) → StoppedAt rs old s n lines a b fault → ((k : ℕ) → fault ≡ Syntax k → IsPlayable s)
+  pub wrote_front : (fault : Fault) (a b : Option (List ℕ)) → StoppedAt rs old s Outside n lines a b fault → ((k : ℕ) → fault ≡ Syntax k → IsPlayable s)
       → WroteBody (opening_of old) json n lines (Some fault) a b
   wrote_front fault a b stop playable =
       let done = stop.done in
       let says = done.says [] nothing in
-      let game = playable (n + length stop.front) stop.number done.deeds says.1 in
+      let game = playable stop.line stop.number done.deeds says.1 in
       record {
         text = done.text;
         written = done.written;
         tells = subst (λ f. BodyTells (opening_of old) json n lines done.text (Some f)) (sym stop.number) (record {
           front = stop.front;
-          faulty = stop.faulty;
-          behind = stop.behind;
-          parts = stop.parts;
-          number = refl;
-          stands = stop.stands;
+          stops = stop.stops;
           deeds = done.deeds;
-          says = subst (λ p. RepliesAll p (names_of old) stop.front [] done.deeds done.text) (sym first) says.0;
+          says = subst (λ p. RepliesAll p (names_of old) Outside stop.front [] done.deeds done.text) (sym first) says.0;
           last = game.0;
           played = subst (λ (o : OpeningData). IsPlayed (opened o.policy o.terrain o.names) done.deeds game.0) done.opening game.1;
         });

@@ -8,7 +8,7 @@ use Rattle.vx_geom.specs.Sizes.{Sizes}
 use Rattle.vx_cells.specs.Maps.{MapData}
 use Rattle.vx_cells.specs.Wholes.{bare, with_cell_on}
 use Rattle.vx_lines.specs.Lines.{lines_of}
-use Rattle.vx_grammar.specs.ScriptLines.{Said, Nothing, World, Player, Set, Act, Region, Tick, Explain, line_of}
+use Rattle.vx_grammar.specs.ScriptLines.{Said, Nothing, World, Player, Set, Act, Region, Tick, Explain, Together, End, line_of}
 use Rattle.vx_region.specs.Regions.{Regions}
 use Rattle.vx_record.specs.Openings.{OpeningData}
 use Rattle.vx_play.specs.Plays.{is_named}
@@ -65,6 +65,8 @@ header_after o (Act name cmd) = None
 header_after o (Region e) = None
 header_after o Tick = None
 header_after o (Explain name action p) = None
+header_after o Together = None
+header_after o End = None
 
 -- there is a world with a player in it
 abbrev pub is_peopled : Opening → Bool
@@ -96,6 +98,8 @@ header_line o n (Some (Explain name action p)) go first =
     begins_if n (is_named o.names name) (first (Explain name action p))
 header_line o n (Some (Region e)) go first = begins_if n (is_peopled o) (first (Region e))
 header_line o n (Some Tick) go first = begins_if n (is_peopled o) (first Tick)
+header_line o n (Some Together) go first = begins_if n (is_peopled o) (first Together)
+header_line o n (Some End) go first = or_faulty n (header_after o End) go
 header_line o n (Some Nothing) go first = or_faulty n (header_after o Nothing) go
 header_line o n (Some (World sizes)) go first = or_faulty n (header_after o (World sizes)) go
 header_line o n (Some (Player name)) go first = or_faulty n (header_after o (Player name)) go

@@ -1,6 +1,8 @@
-use Rattle.std.specs.Prelude.{◌≡◌, ℕ, Bool, List, IfSome, Option}
+use Rattle.std.specs.Prelude.{◌≡◌, ◌≢◌, ⊤, ℕ, Bool, List, [], ◌∷◌, IfSome, Option, Some}
 use Rattle.vx_region.specs.Regions.{Regions}
+use Rattle.vx_grammar.specs.ScriptLines.{Said, Together}
 use Rattle.vx_script.specs.FirstFault.{script_fault}
+use Rattle.vx_script.specs.Headers.{says_of}
 use Rattle.vx_script.specs.Transcript.{MayTell}
 use Rattle.vx_script.specs.declared.fault.Fault.{Fault}
 use Rattle.vx_script.specs.declared.fault.Fault.TheVariants.{TooManyPlayers, Syntax}
@@ -15,8 +17,13 @@ IsOfScript fault = ⊥
 abbrev pub ScriptFaults : Type 0
 ScriptFaults = (rs : Regions) (script : List ℕ) → IfSome (script_fault rs script) IsOfScript
 
--- a script writes one text
+-- no block begins in these lines
+abbrev pub HasNoBlock : List (Option Said) → Type 0
+HasNoBlock [] = ⊤
+HasNoBlock (line ∷ lines) = (line ≢ Some Together) × HasNoBlock lines
+
+-- a script without blocks writes one text
 abbrev pub ScriptsWriteOneText : Type 0
 ScriptsWriteOneText = (rs : Regions) (json : Bool) (script one other : List ℕ)
-    (fault again : Option Fault) → MayTell rs json script one fault
+    (fault again : Option Fault) → HasNoBlock (says_of script) → MayTell rs json script one fault
     → MayTell rs json script other again → one ≡ other

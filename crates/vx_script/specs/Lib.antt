@@ -7,5 +7,6 @@ pub mod Openings
 pub mod Played
 pub mod Replies
 pub mod Sessions
+pub mod Stages
 pub mod Statuses
 pub mod Transcript

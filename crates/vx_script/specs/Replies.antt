@@ -1,5 +1,6 @@
 -- The lines of the body of a script: what each does in the world, and the reply to it.
-use Rattle.std.specs.Prelude.{◌≡◌, ℕ, ◌+◌, Bool, true, false, codes, decimal, List, [], ◌∷◌, ◌++◌, length, Option, Some, None, Result, Ok, Err}
+use Rattle.std.specs.Prelude.{◌≡◌, ℕ, ◌+◌, true, codes, decimal, List, [], ◌∷◌, ◌++◌, length, map, Option, Some, None, Result, Ok, Err}
+use Rattle.std.specs.List.{All}
 use Rattle.vx_geom.specs.declared.pos.Pos.{Pos}
 use Rattle.vx_region.specs.Regions.{Regions}
 use Rattle.vx_region.specs.Subjects.{Named}
@@ -18,23 +19,17 @@ use Rattle.vx_sector.specs.declared.cmd.Cmd.{Cmd}
 use Rattle.vx_sector.specs.declared.reply.Reply.{Reply}
 use Rattle.vx_sector.specs.declared.refusal.Refusal.{Refusal}
 use Rattle.vx_tick.specs.declared.fate.Fate.{Fate}
-use Rattle.vx_play.specs.Plays.{is_named, number_from}
+use Rattle.vx_sector.specs.SectorData.{EntryData}
+use Rattle.vx_play.specs.Plays.{number_from}
+use Rattle.vx_record.specs.Chronicles.{IsSeatOf}
+use Rattle.vx_audit.specs.Deeds as deeds
 use Rattle.vx_audit.specs.Deeds.{DeedData, Called, Edited, Ticked, edits_in}
 use Rattle.vx_audit.specs.Marks.{fates_among}
-use Rattle.vx_grammar.specs.ScriptLines.{Said, Nothing, World, Player, Set, Act, Region, Tick, Explain}
+use Rattle.vx_grammar.specs.ScriptLines.{Said, Nothing, World, Player, Set, Act, Region, Tick, Explain, Together, End}
+use Rattle.vx_session.specs.Blocks.{request_of}
+use Rattle.vx_session.specs.declared.request.Request.{Request}
+use Rattle.vx_script.specs.Stages.{Stage, Outside, Inside, may_stand, stage_after}
 use Rattle.vx_json.specs.Texts.{line_text, answer_text, fate_text}
-
--- whether a line may stand in the body: a command and a question only of a player who was named
-abbrev pub may_stand : List (List ℕ) → Option Said → Bool
-may_stand names (Some Nothing) = true
-may_stand names (Some (Act name cmd)) = is_named names name
-may_stand names (Some (Explain name action p)) = is_named names name
-may_stand names (Some (Region e)) = true
-may_stand names (Some Tick) = true
-may_stand names (Some (World sizes)) = false
-may_stand names (Some (Player name)) = false
-may_stand names (Some (Set p part)) = false
-may_stand names None = false
 
 -- the policy after the edits among these deeds
 abbrev pub policy_after : Regions → List DeedData → Regions
@@ -91,41 +86,71 @@ explained_text (Permit rule) count =
 explained_text (Deny rule) count =
     codes "deny " ++ rule_text rule ++ codes " edits " ++ decimal count
 
--- a line of the body does these deeds, one or none, after those that were done before, and this is
--- the reply to it; by the policy that the world opened with, and its players' names
-abbrev pub Replies : Regions → List (List ℕ) → List DeedData → Option Said → List DeedData → List ℕ
-    → Type 0
-Replies rs names done (Some Nothing) deeds reply = (deeds ≡ []) × (reply ≡ [])
-Replies rs names done (Some (Act name cmd)) deeds reply = IsCalled names name cmd deeds reply
-Replies rs names done (Some (Region e)) deeds reply =
-    IsJudged rs done e (refusal (policy_after rs done) e) deeds reply
-Replies rs names done (Some Tick) deeds reply = IsTicked done deeds reply
-Replies rs names done (Some (Explain name action p)) deeds reply =
-    (deeds ≡ [])
+-- answers as they are written, a line for each
+abbrev pub answers_text : List (Result Reply Refusal) → List ℕ
+answers_text [] = []
+answers_text (answer ∷ answers) = line_text (answer_text answer) ++ answers_text answers
+
+-- what a block asks for was called from its seats at once, and these are the answers, in the order
+-- in which it was asked for
+pub record AreAnswered (names : List (List ℕ)) (asked : List Request) (done : List DeedData)
+    (reply : List ℕ) : Type 0 where
+  pub calls : List EntryData
+  pub seated : All (λ (call : EntryData). IsSeatOf names call.seat) calls
+  pub asked_for : map request_of calls ≡ asked
+  pub deed : done ≡ deeds.Together calls ∷ []
+  pub told : reply ≡ answers_text (map (λ (call : EntryData). call.answer) calls)
+
+-- a line outside of a block does these deeds, one or none, after those that were done before, and
+-- this is the reply to it; by the policy that the world opened with, and its players' names
+abbrev pub RepliesOutside : Regions → List (List ℕ) → List DeedData → Option Said → List DeedData
+    → List ℕ → Type 0
+RepliesOutside rs names done (Some Nothing) now reply = (now ≡ []) × (reply ≡ [])
+RepliesOutside rs names done (Some (Act name cmd)) now reply = IsCalled names name cmd now reply
+RepliesOutside rs names done (Some (Region e)) now reply =
+    IsJudged rs done e (refusal (policy_after rs done) e) now reply
+RepliesOutside rs names done (Some Tick) now reply = IsTicked done now reply
+RepliesOutside rs names done (Some (Explain name action p)) now reply =
+    (now ≡ [])
     × (reply ≡ line_text (explained_text (verdict (policy_after rs done) (Named name) action p)
     (length (edits_in done))))
-Replies rs names done (Some (World sizes)) deeds reply = ⊥
-Replies rs names done (Some (Player name)) deeds reply = ⊥
-Replies rs names done (Some (Set p part)) deeds reply = ⊥
-Replies rs names done None deeds reply = ⊥
+RepliesOutside rs names done (Some Together) now reply = (now ≡ []) × (reply ≡ [])
+RepliesOutside rs names done (Some End) now reply = ⊥
+RepliesOutside rs names done (Some (World sizes)) now reply = ⊥
+RepliesOutside rs names done (Some (Player name)) now reply = ⊥
+RepliesOutside rs names done (Some (Set p part)) now reply = ⊥
+RepliesOutside rs names done None now reply = ⊥
+
+-- a line in a block does nothing and has no reply before the block ends; then all of it is called
+abbrev pub RepliesInside : List (List ℕ) → List Request → Option Said → List DeedData → List ℕ
+    → Type 0
+RepliesInside names asked (Some End) now reply = AreAnswered names asked now reply
+RepliesInside names asked line now reply = (now ≡ []) × (reply ≡ [])
+
+-- a line at this stage does these deeds, and this is what is replied
+abbrev pub Replies : Regions → List (List ℕ) → Stage → List DeedData → Option Said → List DeedData
+    → List ℕ → Type 0
+Replies rs names Outside done line now reply = RepliesOutside rs names done line now reply
+Replies rs names (Inside asked) done line now reply = RepliesInside names asked line now reply
 
 -- one of the lines, which may stand there, and then the others
-pub record RepliesTo (rs : Regions) (names : List (List ℕ)) (done : List DeedData)
+pub record RepliesTo (rs : Regions) (names : List (List ℕ)) (stage : Stage) (done : List DeedData)
     (line : Option Said) (Others : List DeedData → List DeedData → List ℕ → Type 0)
-    (deeds : List DeedData) (text : List ℕ) : Type 0 where
+    (all : List DeedData) (text : List ℕ) : Type 0 where
   pub now : List DeedData
   pub reply : List ℕ
-  pub stands : may_stand names line ≡ true
-  pub replies : Replies rs names done line now reply
+  pub stands : may_stand names stage line ≡ true
+  pub replies : Replies rs names stage done line now reply
   pub later : List DeedData
   pub rest : List ℕ
   pub others : Others (done ++ now) later rest
-  pub deeds_are : deeds ≡ now ++ later
+  pub deeds_are : all ≡ now ++ later
   pub text_is : text ≡ reply ++ rest
 
--- the lines of a body, one after another, do these deeds and have these replies
-abbrev pub RepliesAll : Regions → List (List ℕ) → List (Option Said) → List DeedData → List DeedData
-    → List ℕ → Type 0
-RepliesAll rs names [] done deeds text = (deeds ≡ []) × (text ≡ [])
-RepliesAll rs names (line ∷ lines) done deeds text =
-    RepliesTo rs names done line (RepliesAll rs names lines) deeds text
+-- the lines of a body, one after another from this stage on, do these deeds and have these replies
+abbrev pub RepliesAll : Regions → List (List ℕ) → Stage → List (Option Said) → List DeedData
+    → List DeedData → List ℕ → Type 0
+RepliesAll rs names stage [] done all text = (all ≡ []) × (text ≡ [])
+RepliesAll rs names stage (line ∷ lines) done all text =
+    RepliesTo rs names stage done line
+    (RepliesAll rs names (stage_after names stage line) lines) all text

@@ -1,5 +1,5 @@
 -- What a script writes.
-use Rattle.std.specs.Prelude.{◌≡◌, ℕ, ◌+◌, Bool, true, false, codes, decimal, List, [], ◌∷◌, ◌++◌, length, Option, Some, None, Result, Ok, Err}
+use Rattle.std.specs.Prelude.{◌≡◌, ℕ, Bool, true, false, codes, decimal, List, [], ◌∷◌, ◌++◌, length, Option, Some, None, Result, Ok, Err}
 use Rattle.std.specs.Io.KnownBytes.{Appends}
 use Rattle.vx_region.specs.Regions.{Regions}
 use Rattle.vx_record.specs.Archives.{calls_on}
@@ -12,7 +12,8 @@ use Rattle.vx_grammar.specs.ScriptLines.{Said}
 use Rattle.vx_json.specs.Texts.{line_text}
 use Rattle.vx_json.specs.Records.{record_text}
 use Rattle.vx_script.specs.Headers.{Opening, HeaderEnd, Faulty, Bare, Begins, says_of, no_opening, header_end, is_peopled, begun}
-use Rattle.vx_script.specs.Replies.{may_stand, RepliesAll}
+use Rattle.vx_script.specs.Replies.{RepliesAll}
+use Rattle.vx_script.specs.Stages.{Outside, StopsAt, is_inside, stage_behind}
 use Rattle.vx_script.specs.declared.fault.Fault.{Fault}
 use Rattle.vx_script.specs.declared.fault.Fault.TheVariants.{Syntax}
 
@@ -26,32 +27,30 @@ abbrev pub record_lines : Bool → RecordData → List ℕ
 record_lines true r = record_text r.chronicle r.windows
 record_lines false r = []
 
--- what is written of a body without fault: the replies to its lines, which are played as a game by the
--- one-threaded rules in a world that opens so, the last line, and the record of that game, whose
--- chronicle is a run
+-- what is written of a body without fault, whose blocks all have their ends: the replies to its lines,
+-- which are played as a game by the one-threaded rules in a world that opens so, each block in some
+-- order that keeps that of each player in each sector; the last line, and the record of that game,
+-- whose chronicle is a run
 pub record TellsGame (o : OpeningData) (json : Bool) (lines : List (Option Said)) (text : List ℕ)
     : Type 0 where
   pub deeds : List DeedData
   pub replies : List ℕ
-  pub says : RepliesAll o.policy o.names lines [] deeds replies
+  pub says : RepliesAll o.policy o.names Outside lines [] deeds replies
+  pub closed : is_inside (stage_behind o.names Outside lines) ≡ false
   pub ending : RecordData
   pub opening : ending.chronicle.opening ≡ o
   pub sound : IsRecord ending
   pub game : IsGameOf ending deeds
   pub whole : text ≡ replies ++ (done_text ending ++ record_lines json ending)
 
--- what is written of a body whose line k is the first faulty one, where its first line has number n:
--- the replies to the lines before it, which are played as such a game
+-- what is written of a body that stops at line k, where its first line has number n: the replies to
+-- the lines before it, which are played as such a game
 pub record TellsUpTo (o : OpeningData) (n : ℕ) (lines : List (Option Said)) (k : ℕ) (text : List ℕ)
     : Type 0 where
   pub front : List (Option Said)
-  pub faulty : Option Said
-  pub behind : List (Option Said)
-  pub parts : lines ≡ front ++ faulty ∷ behind
-  pub number : k ≡ n + length front
-  pub stands : may_stand o.names faulty ≡ false
+  pub stops : StopsAt o.names Outside n lines front k
   pub deeds : List DeedData
-  pub says : RepliesAll o.policy o.names front [] deeds text
+  pub says : RepliesAll o.policy o.names Outside front [] deeds text
   pub last : PlayData
   pub played : IsPlayed (opened o.policy o.terrain o.names) deeds last
 

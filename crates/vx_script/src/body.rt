@@ -7,10 +7,13 @@ ghost use Rattle.vx_policy.specs.Asked.{asked};
 ghost use Rattle.vx_play.specs.Plays.{is_named};
 ghost use Rattle.vx_session.specs.Sessions.{names_of};
 ghost use Rattle.vx_script.specs.Faults.{IsOwn, IsOfRun};
-ghost use Rattle.vx_script.specs.Replies.{edit_answer_text, explained_text, fates_text, may_stand};
+ghost use Rattle.vx_script.specs.Replies.{edit_answer_text, explained_text, fates_text};
 ghost use Rattle.vx_script.specs.Sessions.{HasDone};
+ghost use Rattle.vx_script.specs.Stages.{Outside, AreSeated, stage_in, stage_after, after_outside, may_stand, stands_outside};
 
+use crate::block::take_inside;
 use crate::fault::Fault;
+use crate::stage::Stage;
 use std::alloc::Global;
 use std::io::Write;
 use std::sync::Wait;
@@ -30,8 +33,50 @@ use vx_session::Session;
 use vx_tick::Fate;
 use vx_world::Seats;
 
-/// Takes the line of that number, which stands in the body, and writes the reply to it.
-pub fn take_line<A: Places, B: Seats, T: Threads + Wait + Sync, W: Write>(
+/// Takes the line of that number, which stands in the body at this stage, and writes what is replied.
+/// Answers the stage after it.
+pub fn take_line<
+    A: Places + Send + Sync,
+    B: Seats + Send + Sync,
+    T: Threads + Wait + Sync,
+    W: Write,
+>(
+    rt: &T,
+    alloc: Global,
+    desk: &Desk<A, &T>,
+    session: &mut Session<A, B>,
+    stage: Stage,
+    line: Option<Line>,
+    number: u32,
+    writer: &mut W,
+) -> Result<Stage, Fault>
+    requires { AreSeated (names_of session.old) (stage_in stage) }
+    ensures done { OnOk result (HasDone A.first session.old session.new (stage_in stage)
+        (option_map said line ∷ []) (W.contents writer.old) (W.contents writer.new)) }
+    ensures stage { IfOk result (λ after. stage_in after
+        ≡ stage_after (names_of session.old) (stage_in stage) (option_map said line)) }
+    ensures seated { IfOk result (λ after. AreSeated (names_of session.old) (stage_in after)) }
+    ensures stopped { (fault : Fault) → result ≡ Err fault → IsOwn fault
+        → (fault ≡ Fault.Syntax number)
+        × (may_stand (names_of session.old) (stage_in stage) (option_map said line) ≡ false)
+        × (session.new ≡ session.old) × Keeps (W.contents writer.old) (W.contents writer.new) }
+    ensures faulty { may_stand (names_of session.old) (stage_in stage) (option_map said line) ≡ false
+        → result ≡ Err (Fault.Syntax number) }
+    ensures fault { IfErr result IsOfRun }
+{
+    match stage {
+        Stage::Outside => take_outside(rt, alloc, desk, session, line, number, writer),
+        Stage::Inside(asked) => take_inside(rt, alloc, session, asked, &line, number, writer),
+    }
+}
+
+// Takes a line that stands in no block.
+fn take_outside<
+    A: Places + Send + Sync,
+    B: Seats + Send + Sync,
+    T: Threads + Wait + Sync,
+    W: Write,
+>(
     rt: &T,
     alloc: Global,
     desk: &Desk<A, &T>,
@@ -39,31 +84,44 @@ pub fn take_line<A: Places, B: Seats, T: Threads + Wait + Sync, W: Write>(
     line: Option<Line>,
     number: u32,
     writer: &mut W,
-) -> Result<(), Fault>
-    ensures done { OnOk result (HasDone A.first session.old session.new
+) -> Result<Stage, Fault>
+    ensures done { OnOk result (HasDone A.first session.old session.new Outside
         (option_map said line ∷ []) (W.contents writer.old) (W.contents writer.new)) }
+    ensures stage { IfOk result (λ after. stage_in after ≡ after_outside (option_map said line)) }
+    ensures seated { IfOk result (λ after. AreSeated (names_of session.old) (stage_in after)) }
     ensures stopped { (fault : Fault) → result ≡ Err fault → IsOwn fault
         → (fault ≡ Fault.Syntax number)
-        × (may_stand (names_of session.old) (option_map said line) ≡ false)
+        × (stands_outside (names_of session.old) (option_map said line) ≡ false)
         × (session.new ≡ session.old) × Keeps (W.contents writer.old) (W.contents writer.new) }
-    ensures faulty { may_stand (names_of session.old) (option_map said line) ≡ false
+    ensures faulty { stands_outside (names_of session.old) (option_map said line) ≡ false
         → result ≡ Err (Fault.Syntax number) }
     ensures fault { IfErr result IsOfRun }
 {
     match line {
-        Some(Line::Skipped) => Ok(()),
-        Some(Line::As(name, cmd)) => command(rt, session, &name, cmd, number, writer),
-        Some(Line::Region(asked)) => edit(rt, alloc, desk, session, asked, writer),
-        Some(Line::Tick) => tick(rt, alloc, session, writer),
-        Some(Line::Explain(name, action, p)) => {
-            explain(desk, session, name, action, p, number, writer)
+        Some(Line::Skipped) => Ok(Stage::Outside),
+        Some(Line::As(name, cmd)) => {
+            command(rt, session, &name, cmd, number, writer)?;
+            Ok(Stage::Outside)
         }
+        Some(Line::Region(asked)) => {
+            edit(rt, alloc, desk, session, asked, writer)?;
+            Ok(Stage::Outside)
+        }
+        Some(Line::Tick) => {
+            tick(rt, alloc, session, writer)?;
+            Ok(Stage::Outside)
+        }
+        Some(Line::Explain(name, action, p)) => {
+            explain(desk, session, name, action, p, number, writer)?;
+            Ok(Stage::Outside)
+        }
+        Some(Line::Together) => Ok(Stage::Inside(Vec::new(alloc))),
         _ => Err(Fault::Syntax(number)),
     }
 }
 
 // Carries out a command of a player, and writes the answer.
-fn command<A: Places, B: Seats, T: Threads + Wait + Sync, W: Write>(
+fn command<A: Places + Send + Sync, B: Seats + Send + Sync, T: Threads + Wait + Sync, W: Write>(
     rt: &T,
     session: &mut Session<A, B>,
     name: &Name,
@@ -71,14 +129,14 @@ fn command<A: Places, B: Seats, T: Threads + Wait + Sync, W: Write>(
     number: u32,
     writer: &mut W,
 ) -> Result<(), Fault>
-    ensures done { OnOk result (HasDone A.first session.old session.new
+    ensures done { OnOk result (HasDone A.first session.old session.new Outside
         (Some (Act name.now.text.bytes cmd) ∷ [])
         (W.contents writer.old) (W.contents writer.new)) }
     ensures stopped { (fault : Fault) → result ≡ Err fault → IsOwn fault
         → (fault ≡ Fault.Syntax number)
-        × (may_stand (names_of session.old) (Some (Act name.now.text.bytes cmd)) ≡ false)
+        × (stands_outside (names_of session.old) (Some (Act name.now.text.bytes cmd)) ≡ false)
         × (session.new ≡ session.old) × Keeps (W.contents writer.old) (W.contents writer.new) }
-    ensures faulty { may_stand (names_of session.old) (Some (Act name.now.text.bytes cmd)) ≡ false
+    ensures faulty { stands_outside (names_of session.old) (Some (Act name.now.text.bytes cmd)) ≡ false
         → result ≡ Err (Fault.Syntax number) }
     ensures fault { IfErr result IsOfRun }
 {
@@ -86,12 +144,13 @@ fn command<A: Places, B: Seats, T: Threads + Wait + Sync, W: Write>(
         return Err(Fault::Syntax(number));
     };
     let answer = session.command(rt, seat, cmd)?;
-    write_answer(answer, writer)
+    write_answer(&answer, writer)
 }
 
-fn write_answer<W: Write>(answer: Result<Reply, Refusal>, writer: &mut W) -> Result<(), Fault>
+/// Writes the answer to a command.
+pub fn write_answer<W: Write>(answer: &Result<Reply, Refusal>, writer: &mut W) -> Result<(), Fault>
     ensures ok { OnOk result (Appends (W.contents writer.old) (W.contents writer.new)
-        (line_text (answer_text answer))) }
+        (line_text (answer_text answer.now))) }
     ensures err { IfErr result (λ fault. fault ≡ Fault.WriteFailed) }
 {
     match answer {
@@ -101,7 +160,7 @@ fn write_answer<W: Write>(answer: Result<Reply, Refusal>, writer: &mut W) -> Res
 }
 
 // Edits the policy, and writes how many edits are accepted with it, or why it is refused.
-fn edit<A: Places, B: Seats, T: Threads + Wait + Sync, W: Write>(
+fn edit<A: Places + Send + Sync, B: Seats + Send + Sync, T: Threads + Wait + Sync, W: Write>(
     rt: &T,
     alloc: Global,
     desk: &Desk<A, &T>,
@@ -109,7 +168,7 @@ fn edit<A: Places, B: Seats, T: Threads + Wait + Sync, W: Write>(
     edit: Edit,
     writer: &mut W,
 ) -> Result<(), Fault>
-    ensures done { OnOk result (HasDone A.first session.old session.new
+    ensures done { OnOk result (HasDone A.first session.old session.new Outside
         (Some (Region (asked edit)) ∷ []) (W.contents writer.old) (W.contents writer.new)) }
     ensures own { (fault : Fault) → result ≡ Err fault → IsOwn fault → ⊥ }
     ensures fault { IfErr result IsOfRun }
@@ -130,13 +189,13 @@ fn write_edit<W: Write>(answer: Result<Edited, EditRefusal>, writer: &mut W) -> 
 }
 
 // Makes a tick, and writes its number and the fates of the moves that pistons asked for.
-fn tick<A: Places, B: Seats, T: Threads + Wait + Sync, W: Write>(
+fn tick<A: Places + Send + Sync, B: Seats + Send + Sync, T: Threads + Wait + Sync, W: Write>(
     rt: &T,
     alloc: Global,
     session: &mut Session<A, B>,
     writer: &mut W,
 ) -> Result<(), Fault>
-    ensures done { OnOk result (HasDone A.first session.old session.new
+    ensures done { OnOk result (HasDone A.first session.old session.new Outside
         (Some Tick ∷ []) (W.contents writer.old) (W.contents writer.new)) }
     ensures own { (fault : Fault) → result ≡ Err fault → IsOwn fault → ⊥ }
     ensures fault { IfErr result IsOfRun }
@@ -146,7 +205,7 @@ fn tick<A: Places, B: Seats, T: Threads + Wait + Sync, W: Write>(
 }
 
 // Answers whether a player may do this at a position, and by which rule.
-fn explain<A: Places, B: Seats, T: Threads + Wait + Sync, W: Write>(
+fn explain<A: Places + Send + Sync, B: Seats + Send + Sync, T: Threads + Wait + Sync, W: Write>(
     desk: &Desk<A, &T>,
     session: &mut Session<A, B>,
     name: Name,
@@ -155,14 +214,14 @@ fn explain<A: Places, B: Seats, T: Threads + Wait + Sync, W: Write>(
     number: u32,
     writer: &mut W,
 ) -> Result<(), Fault>
-    ensures done { OnOk result (HasDone A.first session.old session.new
+    ensures done { OnOk result (HasDone A.first session.old session.new Outside
         (Some (Explain name.text.bytes action p) ∷ [])
         (W.contents writer.old) (W.contents writer.new)) }
     ensures stopped { (fault : Fault) → result ≡ Err fault → IsOwn fault
         → (fault ≡ Fault.Syntax number)
-        × (may_stand (names_of session.old) (Some (Explain name.text.bytes action p)) ≡ false)
+        × (stands_outside (names_of session.old) (Some (Explain name.text.bytes action p)) ≡ false)
         × (session.new ≡ session.old) × Keeps (W.contents writer.old) (W.contents writer.new) }
-    ensures faulty { may_stand (names_of session.old) (Some (Explain name.text.bytes action p)) ≡ false
+    ensures faulty { stands_outside (names_of session.old) (Some (Explain name.text.bytes action p)) ≡ false
         → result ≡ Err (Fault.Syntax number) }
     ensures fault { IfErr result IsOfRun }
 {

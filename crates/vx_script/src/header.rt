@@ -88,6 +88,12 @@ impl Header {
                 }
                 Ok(Some(Line::Tick))
             }
+            Some(Line::Together) => {
+                if !self.is_peopled() {
+                    return Err(Fault::Syntax(number));
+                }
+                Ok(Some(Line::Together))
+            }
             Some(Line::Explain(name, action, p)) => {
                 if !self.has_player(&name) {
                     return Err(Fault::Syntax(number));
@@ -114,7 +120,12 @@ impl Header {
             Line::World(bounds) => self.take_size(alloc, *bounds),
             Line::Player(name) => self.take_player(name),
             Line::Set(p, part) => self.take_part(*p, *part),
-            Line::As(_, _) | Line::Region(_) | Line::Tick | Line::Explain(_, _, _) => Ok(false),
+            Line::As(_, _)
+            | Line::Region(_)
+            | Line::Tick
+            | Line::Explain(_, _, _)
+            | Line::Together
+            | Line::End => Ok(false),
         }
     }
 

@@ -8,7 +8,8 @@ pub fn faults_are_of_the_script()
     ensures { FaultsAreOfTheScript }
 {}
 
-/// A script faults at its first faulty line, which it has, whatever follows that line.
+/// A script faults at its first faulty line, which it has, whatever follows that line, or at its last
+/// one, where it ends in a block.
 pub fn first_fault()
     ensures { FirstFault }
 {}
@@ -18,12 +19,13 @@ pub fn script_faults()
     ensures { ScriptFaults }
 {}
 
-/// A script writes one text: what is played and replied follows from its lines.
+/// A script without blocks writes one text: what is played and replied follows from its lines.
 pub fn scripts_write_one_text()
     ensures { ScriptsWriteOneText }
 {}
 
-/// A body without fault plays a game whose steps its lines are: what holds of games, holds of scripts.
+/// A body without fault plays a game whose steps its lines are, those of a block in some order that
+/// keeps that of each player in each sector: what holds of games, holds of scripts.
 pub fn scripts_are_games()
     ensures { ScriptsAreGames }
 {}

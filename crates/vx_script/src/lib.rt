@@ -1,6 +1,7 @@
 //! The script: from the bytes of a script to the bytes of its replies.
 #![tactic(auto)]
 
+mod block;
 mod body;
 mod ending;
 mod fault;
@@ -10,6 +11,7 @@ mod playing;
 mod reading;
 mod regions;
 mod running;
+mod stage;
 
 pub use fault::Fault;
 pub use regions::{read_regions, regions_file};

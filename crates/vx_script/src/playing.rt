@@ -1,23 +1,25 @@
 //! A script whose world is made: the lines of its body, played in a session.
-ghost use Rattle.std.specs.Prelude.{◌≡◌, ℕ, ◌+◌, ◌*◌, ◌<◌, ◌≤◌, ◌∷◌, [], length, map, Ok, Err, None, Some, IfSome, IfOk, IfErr, OnOk, option_map};
+ghost use Rattle.std.specs.Prelude.{◌≡◌, ℕ, ◌+◌, true, false, ◌*◌, ◌<◌, ◌≤◌, ◌∷◌, [], length, map, Ok, Err, None, Some, IfSome, IfOk, IfErr, OnOk, option_map};
 ghost use Rattle.std.specs.Io.KnownBytes.{prepend_known};
 ghost use Rattle.vx_grammar.specs.ScriptLines.{said};
 ghost use Rattle.vx_lines.specs.Reading.{pending};
 ghost use Rattle.vx_audit.specs.Audits.{record_in};
-ghost use Rattle.vx_session.specs.Sessions.{IsOf, opening_of};
+ghost use Rattle.vx_session.specs.Sessions.{IsOf, names_of, opening_of};
 ghost use Rattle.vx_record.specs.Archives.{calls_on};
 ghost use Rattle.vx_record.specs.Records.{chronicle_in};
 ghost use Rattle.vx_windows.specs.Sectors.{entries_in};
 ghost use Rattle.vx_script.specs.Faults.{IsOwn, IsOfRun};
 ghost use Rattle.vx_script.specs.Headers.{says_of};
 ghost use Rattle.vx_script.specs.Known.{IsWithin};
-ghost use Rattle.vx_script.specs.Sessions.{HasDone, StoppedAt, EndsWith, IsPlayable};
+ghost use Rattle.vx_script.specs.Sessions.{HasEnded, StoppedAt, EndsWith, IsPlayable};
+ghost use Rattle.vx_script.specs.Stages.{Outside, AreSeated, is_inside, stage_in};
 ghost use Rattle.vx_script.specs.Transcript.{WroteBody, body_lines};
 
 use crate::body::take_line;
 use crate::ending::write_end;
 use crate::fault::Fault;
 use crate::reading::{next_line, read_of};
+use crate::stage::Stage;
 use std::alloc::Global;
 use std::io::{Read, Write};
 use std::sync::Wait;
@@ -33,7 +35,13 @@ use vx_world::{Blanks, Report, Seats};
 /// Plays the body of a script in a world that opens so: replies to its lines, settles the record, and
 /// writes the last line. A body that stops at a faulty line is settled too, so that what was replied
 /// before is known to be right. The types are named by the blanks and the book of edits.
-pub fn play<A: Places, B: Seats, T: Threads + Wait + Sync, R: Read, W: Write>(
+pub fn play<
+    A: Places + Send + Sync,
+    B: Seats + Send + Sync,
+    T: Threads + Wait + Sync,
+    R: Read,
+    W: Write,
+>(
     rt: &T,
     alloc: Global,
     opening: Opening,
@@ -75,7 +83,13 @@ pub fn play<A: Places, B: Seats, T: Threads + Wait + Sync, R: Read, W: Write>(
 }
 
 // Plays the body in a session in which nothing was done yet, and in which alone its desk is edited.
-fn play_at<A: Places, B: Seats, T: Threads + Wait + Sync, R: Read, W: Write>(
+fn play_at<
+    A: Places + Send + Sync,
+    B: Seats + Send + Sync,
+    T: Threads + Wait + Sync,
+    R: Read,
+    W: Write,
+>(
     rt: &T,
     alloc: Global,
     desk: &Desk<A, &T>,
@@ -145,7 +159,13 @@ fn settle<A: Places, B: Seats>(
 
 // Reads the lines of the body, of which the first says this, if there is one, and writes the replies
 // to them.
-fn read_body<A: Places, B: Seats, T: Threads + Wait + Sync, R: Read, W: Write>(
+fn read_body<
+    A: Places + Send + Sync,
+    B: Seats + Send + Sync,
+    T: Threads + Wait + Sync,
+    R: Read,
+    W: Write,
+>(
     rt: &T,
     alloc: Global,
     desk: &Desk<A, &T>,
@@ -158,11 +178,11 @@ fn read_body<A: Places, B: Seats, T: Threads + Wait + Sync, R: Read, W: Write>(
 ) -> Result<(), Fault>
     requires { IfSome first (λ _. number ≡ lines.old.number) }
     ensures done { OnOk result (IfSome (prepend_known (pending lines.old) (R.remaining reader.old))
-        (λ rest. HasDone A.first session.old session.new (body_lines (option_map said first) rest)
-        (W.contents writer.old) (W.contents writer.new))) }
+        (λ rest. HasEnded A.first session.old session.new Outside
+        (body_lines (option_map said first) rest) (W.contents writer.old) (W.contents writer.new))) }
     ensures stopped { (fault : Fault) → result ≡ Err fault → IsOwn fault
         → IfSome (prepend_known (pending lines.old) (R.remaining reader.old))
-        (λ rest. StoppedAt A.first session.old session.new number
+        (λ rest. StoppedAt A.first session.old session.new Outside number
         (body_lines (option_map said first) rest) (W.contents writer.old) (W.contents writer.new)
         fault) }
     ensures within { OnOk result (IfSome first (λ _. IsWithin lines.old (R.remaining reader.old))) }
@@ -175,7 +195,13 @@ fn read_body<A: Places, B: Seats, T: Threads + Wait + Sync, R: Read, W: Write>(
 }
 
 // Takes the first line of the body, and reads the lines behind it.
-fn read_from<A: Places, B: Seats, T: Threads + Wait + Sync, R: Read, W: Write>(
+fn read_from<
+    A: Places + Send + Sync,
+    B: Seats + Send + Sync,
+    T: Threads + Wait + Sync,
+    R: Read,
+    W: Write,
+>(
     rt: &T,
     alloc: Global,
     desk: &Desk<A, &T>,
@@ -186,51 +212,82 @@ fn read_from<A: Places, B: Seats, T: Threads + Wait + Sync, R: Read, W: Write>(
     writer: &mut W,
 ) -> Result<(), Fault>
     ensures done { OnOk result (IfSome (prepend_known (pending lines.old) (R.remaining reader.old))
-        (λ rest. HasDone A.first session.old session.new (Some (said first) ∷ says_of rest)
+        (λ rest. HasEnded A.first session.old session.new Outside (Some (said first) ∷ says_of rest)
         (W.contents writer.old) (W.contents writer.new))) }
     ensures stopped { (fault : Fault) → result ≡ Err fault → IsOwn fault
         → IfSome (prepend_known (pending lines.old) (R.remaining reader.old))
-        (λ rest. StoppedAt A.first session.old session.new lines.old.number
+        (λ rest. StoppedAt A.first session.old session.new Outside lines.old.number
         (Some (said first) ∷ says_of rest) (W.contents writer.old) (W.contents writer.new)
         fault) }
     ensures within { OnOk result (IsWithin lines.old (R.remaining reader.old)) }
     ensures fault { IfErr result IsOfRun }
 {
-    take_line(
+    let stage = take_line(
         rt,
         alloc,
         desk,
         session,
+        Stage::Outside,
         Some(first),
         lines.number(),
         writer,
     )?;
-    read_lines(rt, alloc, desk, session, lines, reader, writer)
+    read_lines(rt, alloc, desk, session, stage, lines, reader, writer)
 }
 
-// Reads lines to the end of the script, and writes the replies to them.
-fn read_lines<A: Places, B: Seats, T: Threads + Wait + Sync, R: Read, W: Write>(
+// Reads lines to the end of the script, of which the first stands at this stage, and writes the
+// replies to them.
+fn read_lines<
+    A: Places + Send + Sync,
+    B: Seats + Send + Sync,
+    T: Threads + Wait + Sync,
+    R: Read,
+    W: Write,
+>(
     rt: &T,
     alloc: Global,
     desk: &Desk<A, &T>,
     session: &mut Session<A, B>,
+    mut stage: Stage,
     lines: &mut Lines,
     reader: &mut R,
     writer: &mut W,
 ) -> Result<(), Fault>
+    requires { AreSeated (names_of session.old) (stage_in stage) }
     ensures done { OnOk result (IfSome (prepend_known (pending lines.old) (R.remaining reader.old))
-        (λ rest. HasDone A.first session.old session.new (says_of rest)
+        (λ rest. HasEnded A.first session.old session.new (stage_in stage) (says_of rest)
         (W.contents writer.old) (W.contents writer.new))) }
     ensures stopped { (fault : Fault) → result ≡ Err fault → IsOwn fault
         → IfSome (prepend_known (pending lines.old) (R.remaining reader.old))
-        (λ rest. StoppedAt A.first session.old session.new (lines.old.number + 1) (says_of rest)
-        (W.contents writer.old) (W.contents writer.new) fault) }
+        (λ rest. StoppedAt A.first session.old session.new (stage_in stage) (lines.old.number + 1)
+        (says_of rest) (W.contents writer.old) (W.contents writer.new) fault) }
     ensures within { OnOk result (IsWithin lines.old (R.remaining reader.old)) }
     ensures fault { IfErr result IsOfRun }
 {
     'body_lines: while next_line(lines, reader, writer)? {
         let line = read_of(alloc, lines.line())?;
-        take_line(rt, alloc, desk, session, line, lines.number(), writer)?;
+        stage = take_line(
+            rt,
+            alloc,
+            desk,
+            session,
+            stage,
+            line,
+            lines.number(),
+            writer,
+        )?;
     }
-    Ok(())
+    end_at(&stage, lines.number())
+}
+
+// Whether the lines may end at this stage; the last one is faulty where they end in a block.
+fn end_at(stage: &Stage, number: u32) -> Result<(), Fault>
+    ensures closed { OnOk result (is_inside (stage_in stage.now) ≡ false) }
+    ensures inside { IfErr result (λ fault. (fault ≡ Fault.Syntax number)
+        × (is_inside (stage_in stage.now) ≡ true)) }
+{
+    match stage {
+        Stage::Outside => Ok(()),
+        Stage::Inside(_) => Err(Fault::Syntax(number)),
+    }
 }

@@ -12,7 +12,8 @@ use Rattle.vx_policy.specs.Asked.{Asked}
 use Rattle.vx_sector.specs.Commands.{place_of}
 use Rattle.vx_sector.specs.SectorData.{EntryData}
 use Rattle.vx_sector.specs.declared.refusal.Refusal.TheVariants.{OutOfWorld}
-use Rattle.vx_record.specs.Calls.{call_in, with_call}
+use Rattle.vx_record.specs.Calls.{call_in}
+use Rattle.vx_record.specs.declared.call.Call.{Call}
 use Rattle.vx_record.specs.Chronicles.{IsSeatOf}
 use Rattle.vx_audit.specs.Deeds.{DeedData, Called, Edited, is_from, same_number, edits_in}
 use Rattle.vx_audit.specs.Marks.{mark_of, calls_among, fates_among, said_by}
@@ -21,26 +22,22 @@ use Rattle.vx_audit.proofs.Deeded.{marks_joined, calls_joined, said_joined, fate
 use Rattle.vx_session.specs.Traces.{IsCalled}
 use Rattle.vx_session.specs.Sessions.{SessionData, PassData, AreSaid, IsOf, Does, names_of, session_data}
 
--- a call that is from there is what it says, and no other says anything there
-said_yes : (sizes : Sizes) (seat k : ℕ) (call : EntryData) → is_from sizes seat (Some k) call ≡ true
-    → said_by sizes seat k (Called call ∷ []) ≡ call_in call ∷ []
-said_yes sizes seat k call yes_ = ap (λ b. map call_in (cond b (call ∷ []) [])) yes_
-
-said_no : (sizes : Sizes) (seat k : ℕ) (call : EntryData) → is_from sizes seat (Some k) call ≡ false
-    → said_by sizes seat k (Called call ∷ []) ≡ []
-said_no sizes seat k call no_ = ap (λ b. map call_in (cond b (call ∷ []) [])) no_
+-- what a call says of a seat in a sector: itself, where it is from there, and else nothing
+said_one : (sizes : Sizes) (seat k : ℕ) (call : EntryData)
+    → said_by sizes seat k (Called call ∷ []) ≡ cond (is_from sizes seat (Some k) call) (call_in call ∷ []) []
+said_one sizes seat k call = of_test (is_from sizes seat (Some k) call)
+  where
+    of_test : (b : Bool) → map call_in (cond b (call ∷ []) []) ≡ cond b (call_in call ∷ []) []
+    of_test true = refl
+    of_test false = refl
 
 nothing_more : (sizes : Sizes) (seat k : ℕ) (deeds : List DeedData) (call : EntryData)
     → is_from sizes seat (Some k) call ≡ false
     → said_by sizes seat k (deeds ++ Called call ∷ []) ≡ said_by sizes seat k deeds
 nothing_more sizes seat k deeds call no_ =
     said_joined sizes seat k deeds (Called call ∷ [])
-    ∙ ap (λ rest. said_by sizes seat k deeds ++ rest) (said_no sizes seat k call no_)
+    ∙ ap (λ rest. said_by sizes seat k deeds ++ rest) (said_one sizes seat k call ∙ ap (λ b. cond b (call_in call ∷ []) []) no_)
     ∙ append-nil (said_by sizes seat k deeds)
-
-and_false : (b : Bool) → (b && false) ≡ false
-and_false true = refl
-and_false false = refl
 
 not_by : (sizes : Sizes) (seat i k : ℕ) (call : EntryData) → call.seat.number ≡ seat → i ≢ seat
     → is_from sizes i (Some k) call ≡ false
@@ -74,74 +71,27 @@ put_back passes seat i after pass there found = of_seat (eqb_tells i seat)
               ∙ ap Some (sym (here ∙ get_or-set_other passes seat i after pass other.1)),
         )
 
--- where the pass of that seat has the call more in sector `at`, all passes have what the deeds say
-pub said_with : (sizes : Sizes) (sectors : ℕ) (deeds : List DeedData) (seat at : ℕ) (call : EntryData)
-    (before after : PassData) (passes : List PassData)
-    → call.seat.number ≡ seat → slice_get passes seat ≡ Some before
-    → sector_of sizes (place_of call.cmd) ≡ Some at → at < length before.lists
-    → after.lists ≡ with_call before.lists at (call_in call)
-    → AreSaid sizes sectors deeds passes
-    → AreSaid sizes sectors (deeds ++ Called call ∷ []) (set passes seat after)
-said_with sizes sectors deeds seat at call before after passes by there there_at within more said i k pass found below =
-    of_pass (put_back passes seat i after pass (slice_get_within passes seat before there) found)
+-- after a call the list of a sector has it, if it speaks of that sector
+pub list_after : (at : Option ℕ) (k : ℕ) (before after : List (List Call)) (call : Call) → IsCalled at before call after
+    → get_or after k [] ≡ get_or before k [] ++ cond (same_number at (Some k)) (call ∷ []) []
+list_after None k before after call called =
+    ap (λ ls. get_or ls k []) called.1 ∙ sym (append-nil (get_or before k []))
+list_after (Some at) k before after call called =
+    ap (λ ls. get_or ls k []) called.1 ∙ of_place (eqb_tells at k)
   where
-    call_more : Type 0
-    call_more = get_or pass.lists k [] ≡ said_by sizes i k (deeds ++ Called call ∷ [])
+    more : List Call
+    more = get_or before at [] ++ call ∷ []
 
-    at_k : Bool
-    at_k = nat_eq at k
-
-    from_it : is_from sizes i (Some k) call ≡ (nat_eq call.seat.number i && at_k)
-    from_it = ap (λ o. nat_eq call.seat.number i && same_number o (Some k)) there_at
-
-    of_sector : i ≡ seat → pass ≡ after
-        → ((at_k ≡ true) × (at ≡ k)) ⊎ ((at_k ≡ false) × (at ≢ k)) → call_more
-    of_sector here is_after (inl same) =
-        let yes_ : is_from sizes i (Some k) call ≡ true =
-        from_it ∙ ap (λ b. b && at_k) (eq-eqb call.seat.number i (by ∙ sym here)) ∙ same.0 in
-        let c = call_in call in
-        ap (λ (p : PassData). get_or p.lists k []) is_after ∙ ap (λ ls. get_or ls k []) more
-        ∙ get_or-set_at before.lists at k (get_or before.lists at [] ++ c ∷ []) [] (sym same.1) within
-        ∙ ap (λ n. get_or before.lists n [] ++ c ∷ []) same.1
-        ∙ ap (λ calls. calls ++ c ∷ []) (said i k before (ap (slice_get passes) here ∙ there) below)
-        ∙ sym (said_joined sizes i k deeds (Called call ∷ []) ∙ ap (λ rest. said_by sizes i k deeds ++ rest) (said_yes sizes i k call yes_))
-    of_sector here is_after (inr other) =
-        let no_ : is_from sizes i (Some k) call ≡ false =
-        from_it ∙ ap (λ b. nat_eq call.seat.number i && b) other.0 ∙ and_false (nat_eq call.seat.number i) in
-        ap (λ (p : PassData). get_or p.lists k []) is_after ∙ ap (λ ls. get_or ls k []) more
-        ∙ get_or-set_other before.lists at k (get_or before.lists at [] ++ call_in call ∷ []) [] (λ same. other.1 (sym same))
-        ∙ said i k before (ap (slice_get passes) here ∙ there) below
-        ∙ sym (nothing_more sizes i k deeds call no_)
-
-    of_pass : ((i ≡ seat) × (pass ≡ after)) ⊎ ((i ≢ seat) × (slice_get passes i ≡ Some pass))
-        → call_more
-    of_pass (inl here) = of_sector here.0 here.1 (eqb_tells at k)
-    of_pass (inr other) =
-        said i k pass other.1 below
-        ∙ sym (nothing_more sizes i k deeds call (not_by sizes seat i k call by other.0))
-
--- a call that was refused out of the world, or that left no trace, is on no list
-pub said_without : (sizes : Sizes) (sectors : ℕ) (deeds : List DeedData) (seat : ℕ) (call : EntryData)
-    (before after : PassData) (passes : List PassData)
-    → slice_get passes seat ≡ Some before → sector_of sizes (place_of call.cmd) ≡ None
-    → after.lists ≡ before.lists
-    → AreSaid sizes sectors deeds passes
-    → AreSaid sizes sectors (deeds ++ Called call ∷ []) (set passes seat after)
-said_without sizes sectors deeds seat call before after passes there outside kept said i k pass found below =
-    of_pass (put_back passes seat i after pass (slice_get_within passes seat before there) found)
-  where
-    no_ : is_from sizes i (Some k) call ≡ false
-    no_ = ap (λ o. nat_eq call.seat.number i && same_number o (Some k)) outside ∙ and_false (nat_eq call.seat.number i)
-
-    as_before : said_by sizes i k deeds ≡ said_by sizes i k (deeds ++ Called call ∷ [])
-    as_before = sym (nothing_more sizes i k deeds call no_)
-
-    of_pass : ((i ≡ seat) × (pass ≡ after)) ⊎ ((i ≢ seat) × (slice_get passes i ≡ Some pass))
-        → get_or pass.lists k [] ≡ said_by sizes i k (deeds ++ Called call ∷ [])
-    of_pass (inl here) =
-        ap (λ (p : PassData). get_or p.lists k []) here.1 ∙ ap (λ ls. get_or ls k []) kept
-        ∙ said i k before (ap (slice_get passes) here.0 ∙ there) below ∙ as_before
-    of_pass (inr other) = said i k pass other.1 below ∙ as_before
+    of_place : ((nat_eq at k ≡ true) × (at ≡ k)) ⊎ ((nat_eq at k ≡ false) × (at ≢ k))
+        → get_or (set before at more) k [] ≡ get_or before k [] ++ cond (nat_eq at k) (call ∷ []) []
+    of_place (inl same) =
+        get_or-set_at before at k more [] (sym same.1) called.0
+        ∙ ap (λ n. get_or before n [] ++ call ∷ []) same.1
+        ∙ ap (λ b. get_or before k [] ++ cond b (call ∷ []) []) (sym same.0)
+    of_place (inr other) =
+        get_or-set_other before at k more [] (λ same. other.1 (sym same))
+        ∙ sym (append-nil (get_or before k []))
+        ∙ ap (λ b. get_or before k [] ++ cond b (call ∷ []) []) (sym other.0)
 
 -- passes have what deeds say that make no call
 pub said_still : (sizes : Sizes) (sectors : ℕ) (deeds more : List DeedData) (passes : List PassData)
@@ -153,8 +103,8 @@ said_still sizes sectors deeds more passes none said i k pass found below =
     (calls_joined deeds more ∙ ap (λ rest. calls_among deeds ++ rest) none ∙ append-nil (calls_among deeds)))
 
 -- out of the world a call was refused so
-refused_outside : (at : Option ℕ) (before after : PassData) (call : EntryData)
-    → IsCalled at before.lists (call_in call) after.lists → at ≡ None → call.answer ≡ Err OutOfWorld
+pub refused_outside : (at : Option ℕ) (before after : List (List Call)) (call : Call)
+    → IsCalled at before call after → at ≡ None → call.answer ≡ Err OutOfWorld
 refused_outside None before after call called outside = called.0
 refused_outside (Some at) before after call called outside = cc
 
@@ -166,10 +116,30 @@ said_called : (at : Option ℕ) (sizes : Sizes) (sectors : ℕ) (deeds : List De
     → slice_get passes call.seat.number ≡ Some before
     → AreSaid sizes sectors deeds passes
     → AreSaid sizes sectors (deeds ++ Called call ∷ []) (set passes call.seat.number after)
-said_called None sizes sectors deeds call before after passes is called there said =
-    said_without sizes sectors deeds call.seat.number call before after passes there is called.1 said
-said_called (Some at) sizes sectors deeds call before after passes is called there said =
-    said_with sizes sectors deeds call.seat.number at call before after passes refl there is called.0 called.1 said
+said_called at sizes sectors deeds call before after passes is called there said i k pass found below =
+    of_pass (put_back passes seat i after pass (slice_get_within passes seat before there) found)
+  where
+    seat : ℕ
+    seat = call.seat.number
+
+    c : Call
+    c = call_in call
+
+    own : i ≡ seat → is_from sizes i (Some k) call ≡ same_number at (Some k)
+    own here = (λ n. eq-eqb seat i (sym here) n && same_number (is n) (Some k))
+
+    of_pass : ((i ≡ seat) × (pass ≡ after)) ⊎ ((i ≢ seat) × (slice_get passes i ≡ Some pass))
+        → get_or pass.lists k [] ≡ said_by sizes i k (deeds ++ Called call ∷ [])
+    of_pass (inl here) =
+        ap (λ (p : PassData). get_or p.lists k []) here.1
+        ∙ list_after at k before.lists after.lists c called
+        ∙ ap (λ cs. cs ++ cond (same_number at (Some k)) (c ∷ []) []) (said i k before (ap (slice_get passes) here.0 ∙ there) below)
+        ∙ ap (λ b. said_by sizes i k deeds ++ cond b (c ∷ []) []) (sym (own here.0))
+        ∙ ap (λ cs. said_by sizes i k deeds ++ cs) (sym (said_one sizes i k call))
+        ∙ sym (said_joined sizes i k deeds (Called call ∷ []))
+    of_pass (inr other) =
+        said i k pass other.1 below
+        ∙ sym (nothing_more sizes i k deeds call (not_by sizes seat i k call refl other.0))
 
 -- a call was done: its mark stands behind the others, and the pass of its seat has it
 pub call_done : (old new : SessionData) (call : EntryData) (before after : PassData)
@@ -188,7 +158,7 @@ call_done old new call before after seated there called is deeds was =
           refl called there was.said;
       seated = among IsSeated was.seated seated;
       outside = among IsOutside was.outside
-          (refused_outside (sector_of old.sizes (place_of call.cmd)) before after call called);
+          (refused_outside (sector_of old.sizes (place_of call.cmd)) before.lists after.lists (call_in call) called);
       fates = fates_joined deeds (Called call ∷ []) ∙ append-nil (fates_among deeds) ∙ was.fates;
       edits = was.edits ∙ sym (edits_joined deeds (Called call ∷ []) ∙ append-nil (edits_in deeds));
     })

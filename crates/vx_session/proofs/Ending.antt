@@ -1,5 +1,5 @@
 -- What a session knows of its deeds, and what the record says, are one.
-use Rattle.std.proofs.Common.{◌≡◌, ℕ, zero, suc, ◌+◌, ◌<◌, ◌≤◌, List, [], ◌∷◌, length, map, get_or, take, Option, None, Err, refl, sym, ap, ◌∙◌, subst, arith}
+use Rattle.std.proofs.Common.{◌≡◌, ℕ, ◌+◌, ◌<◌, ◌≤◌, List, [], ◌∷◌, length, map, get_or, take, Option, None, Err, sym, ap, ◌∙◌, subst, arith}
 use Rattle.std.specs.List.{All}
 use Rattle.std.proofs.lemmas.List.{get_or-map, length-map, take-append-le}
 use Rattle.std.proofs.lemmas.Option.{slice_get-get_or}
@@ -22,6 +22,7 @@ use Rattle.vx_audit.specs.Marks.{IsKnownOf, calls_among, said_by}
 use Rattle.vx_audit.specs.Records.{RecordData, IsByEdits}
 use Rattle.vx_audit.proofs.Premises.{by_edits}
 use Rattle.vx_session.specs.Sessions.{PassData, SessionData, AreSaid, IsSession, IsOf}
+use Rattle.vx_session.proofs.Passing.{length_seats, number_at}
 
 -- a version that counts no more edits than begin a list is by those
 version_front : (first : Regions) (front all : List Asked) (count n : ℕ) → IsPrefix front all
@@ -51,18 +52,6 @@ by_front first front all r begins within opens by =
     by_edits first front r opens by.begins
     (grown_front first front all 0 r.chronicle.ticks r.version.edits begins within by.grown)
     (by.last ∙ version_front first front all r.version.edits (length r.chronicle.ticks + 1) begins within)
-
--- there are as many seats as names
-length_seats : (n : ℕ) (names : List (List ℕ)) → length (seats_from n names) ≡ length names
-length_seats n [] = refl
-length_seats n (name ∷ names) = ap suc (length_seats (suc n) names)
-
-number_at : (n i : ℕ) (names : List (List ℕ)) (d : SeatData) → i < length names
-    → (get_or (seats_from n names) i d).number ≡ n + i
-number_at n i [] d within = absurd (omega arith)
-number_at n zero (name ∷ names) d within = omega arith
-number_at n (suc i) (name ∷ names) d within =
-    let rest = number_at (suc n) i names d (omega (arith, within)) in omega (arith, rest)
 
 -- whoever made the calls of a pass
 abbrev pub caller_in : PassData → CallerData

@@ -1,3 +1,4 @@
+mod AtOnce
 mod Begun
 mod Doing
 mod Ending
@@ -5,3 +6,6 @@ mod LastEdits
 mod Passed
 mod Passing
 mod Recorded
+mod Requested
+mod Spreading
+mod Told

@@ -3,21 +3,27 @@ use Rattle.std.proofs.Common.{◌≡◌, ℕ, zero, suc, ◌+◌, ◌<◌, List,
 use Rattle.std.proofs.Math.Seq.{map-set_same}
 use Rattle.std.proofs.lemmas.List.{get_or-map, length-map, map-set}
 use Rattle.std.proofs.lemmas.Option.{slice_get-get_or}
+use Rattle.std.proofs.lemmas.Simd.{map-map}
 use Rattle.vx_geom.specs.declared.pos.Pos.{Pos}
 use Rattle.vx_geom.specs.Sizes.{Sizes, sector_of}
 use Rattle.vx_policy.specs.Asked.{Asked}
 use Rattle.vx_sector.specs.Commands.{place_of}
 use Rattle.vx_sector.specs.SectorData.{SeatData, EntryData}
+use Rattle.vx_sector.specs.declared.reply.Reply.{Reply}
+use Rattle.vx_sector.specs.declared.refusal.Refusal.{Refusal}
 use Rattle.vx_record.specs.Calls.{call_in}
 use Rattle.vx_record.specs.Chronicles.{IsSeatOf}
 use Rattle.vx_keeper.specs.Keepers.{KeeperData}
-use Rattle.vx_audit.specs.Deeds.{Called, Edited}
+use Rattle.vx_audit.specs.Deeds.{Called, Edited, Together}
 use Rattle.vx_audit.specs.Marks.{mark_of}
 use Rattle.vx_audit.specs.declared.mark.Mark.{Mark}
 use Rattle.vx_audit.specs.declared.mark.Mark.TheVariants as mark
 use Rattle.vx_world.specs.Openings.{seats_from}
+use Rattle.vx_session.specs.Blocks.{AreCarriedOut, AreMade, AreNumbered, marks_asked}
 use Rattle.vx_session.specs.Traces.{IsCalled}
+use Rattle.vx_session.specs.declared.request.Request.{Request}
 use Rattle.vx_session.specs.Sessions.{SessionData, PassData, IsSession, Does, names_of, session_data}
+use Rattle.vx_session.proofs.AtOnce.{block_done}
 use Rattle.vx_session.proofs.Doing.{call_done, edit_done}
 
 -- what is so whatever was answered, is so at an error
@@ -26,17 +32,26 @@ on_error P (Ok x) p = tt
 on_error P (Err e) p = p
 
 -- there are as many seats as names
-length_seats : (n : ℕ) (names : List (List ℕ)) → length (seats_from n names) ≡ length names
+pub length_seats : (n : ℕ) (names : List (List ℕ)) → length (seats_from n names) ≡ length names
 length_seats n [] = refl
 length_seats n (name ∷ names) = ap suc (length_seats (suc n) names)
 
 -- each seat has the number of its place
-number_at : (n i : ℕ) (names : List (List ℕ)) (d : SeatData) → i < length names
+pub number_at : (n i : ℕ) (names : List (List ℕ)) (d : SeatData) → i < length names
     → (get_or (seats_from n names) i d).number ≡ n + i
 number_at n i [] d within = absurd (omega arith)
 number_at n zero (name ∷ names) d within = omega arith
 number_at n (suc i) (name ∷ names) d within =
     let rest = number_at (suc n) i names d (omega (arith, within)) in omega (arith, rest)
+
+-- there are as many passes as names
+pub as_many_passes : {X : Type 0} (f : X → PassData) (sizes : Sizes) (keeper : KeeperData) (xs : List X)
+    (edits : List Asked) (marks : List Mark)
+    → IsSession (session_data sizes keeper (map f xs) edits marks)
+    → length xs ≡ length keeper.chronicle.opening.names
+as_many_passes f sizes keeper xs edits marks is =
+    sym (length-map xs f) ∙ sym (length-map (map f xs) (λ (pass : PassData). pass.seat))
+    ∙ ap length is.seats ∙ length_seats 0 keeper.chronicle.opening.names
 
 -- each name has a pass
 pub pass_there : {X : Type 0} (f : X → PassData) (sizes : Sizes) (keeper : KeeperData) (xs : List X)
@@ -44,14 +59,20 @@ pub pass_there : {X : Type 0} (f : X → PassData) (sizes : Sizes) (keeper : Kee
     → IsSession (session_data sizes keeper (map f xs) edits marks)
     → seat < length keeper.chronicle.opening.names → seat < length xs
 pass_there f sizes keeper xs edits marks seat is named =
-    omega (
-      arith,
-      named,
-      length-map xs f,
-      length-map (map f xs) (λ (pass : PassData). pass.seat),
-      ap length is.seats,
-      length_seats 0 keeper.chronicle.opening.names,
-    )
+    omega (arith, named, as_many_passes f sizes keeper xs edits marks is)
+
+-- each pass is from the seat with the number of its place
+pub numbered : {X : Type 0} (f : X → PassData) (sizes : Sizes) (keeper : KeeperData) (xs : List X)
+    (edits : List Asked) (marks : List Mark)
+    → IsSession (session_data sizes keeper (map f xs) edits marks) → AreNumbered (map f xs)
+numbered f sizes keeper xs edits marks is k d within =
+    let seat_in : PassData → SeatData = λ pass. pass.seat in
+    let named : k < length keeper.chronicle.opening.names =
+    omega (arith, within, length-map xs f, as_many_passes f sizes keeper xs edits marks is) in
+    let whole : 0 + k ≡ k = omega arith in
+    ap (λ (s : SeatData). s.number)
+    (sym (get_or-map seat_in (map f xs) k d d.seat within) ∙ ap (λ seats. get_or seats k d.seat) is.seats)
+    ∙ number_at 0 k keeper.chronicle.opening.names d.seat named ∙ whole
 
 -- the pass at an index is as it is seen there
 seen_at : {X : Type 0} (f : X → PassData) (xs : List X) (seat : ℕ) (was : X)
@@ -59,20 +80,15 @@ seen_at : {X : Type 0} (f : X → PassData) (xs : List X) (seat : ℕ) (was : X)
 seen_at f xs seat was within is = get_or-map f xs seat was (f was) within ∙ ap f (sym is)
 
 -- its seat has the number of that index
-number_is : {X : Type 0} (f : X → PassData) (sizes : Sizes) (keeper : KeeperData) (xs : List X)
+pub number_is : {X : Type 0} (f : X → PassData) (sizes : Sizes) (keeper : KeeperData) (xs : List X)
     (edits : List Asked) (marks : List Mark) (seat : ℕ) (was : X)
     → IsSession (session_data sizes keeper (map f xs) edits marks)
     → seat < length keeper.chronicle.opening.names → was ≡ get_or xs seat was
     → (f was).seat.number ≡ seat
 number_is f sizes keeper xs edits marks seat was is named at =
-    let seat_in : PassData → SeatData = λ pass. pass.seat in
     let within = pass_there f sizes keeper xs edits marks seat is named in
-    let within_seen : seat < length (map f xs) = omega (arith, within, length-map xs f) in
-    let whole : 0 + seat ≡ seat = omega arith in
-    let here = get_or-map seat_in (map f xs) seat (f was) (f was).seat within_seen in
     ap (λ (pass : PassData). pass.seat.number) (sym (seen_at f xs seat was within at))
-    ∙ ap (λ (s : SeatData). s.number) (sym here ∙ ap (λ seats. get_or seats seat (f was).seat) is.seats)
-    ∙ number_at 0 seat keeper.chronicle.opening.names (f was).seat named ∙ whole
+    ∙ numbered f sizes keeper xs edits marks is seat (f was) (omega (arith, within, length-map xs f))
 
 -- it stays a session with another pass of the same seat in the place of one
 pub session_stays : {X : Type 0} (f : X → PassData) (sizes : Sizes) (keeper : KeeperData) (xs : List X)
@@ -90,6 +106,20 @@ session_stays f sizes keeper xs edits marks more seat was now is named at same =
           ∙ map-set_same seat_in (map f xs) seat (f now) (f was)
           (same ∙ ap seat_in (sym (seen_at f xs seat was within at)))
           ∙ is.seats;
+      learnt = is.learnt;
+    }
+
+-- it stays one with other passes of the same seats
+pub seats_stay : {X : Type 0} (f : X → PassData) (sizes : Sizes) (keeper : KeeperData) (xs ys : List X)
+    (edits : List Asked) (marks more : List Mark)
+    → IsSession (session_data sizes keeper (map f xs) edits marks)
+    → map (λ x. (f x).seat) ys ≡ map (λ x. (f x).seat) xs
+    → IsSession (session_data sizes keeper (map f ys) edits more)
+seats_stay f sizes keeper xs ys edits marks more is same =
+    let seat_in : PassData → SeatData = λ pass. pass.seat in
+    record {
+      sizes = is.sizes;
+      seats = map-map seat_in f ys ∙ same ∙ sym (map-map seat_in f xs) ∙ is.seats;
       learnt = is.learnt;
     }
 
@@ -171,3 +201,23 @@ edited_by sizes keeper learnt passes before edits front marks roomy more edit ol
 
     old_edits : before ≡ old.edits
     old_edits = all ∙ ap (λ (o : SessionData). o.edits) view
+
+-- a block of calls was made with the passes: they are on their lists, and their marks behind the others
+pub block_by : {X : Type 0} (f : X → PassData) (sizes : Sizes) (keeper : KeeperData) (xs ys : List X)
+    (edits : List Asked) (marks roomy more : List Mark) (requests : List Request) (answers : List (Result Reply Refusal))
+    (calls : List EntryData) (old : SessionData)
+    → session_data sizes keeper (map f xs) edits marks ≡ old
+    → IsSession (session_data sizes keeper (map f xs) edits marks)
+    → AreCarriedOut sizes requests answers (map f xs) (map f ys)
+    → roomy ≡ marks → more ≡ roomy ++ marks_asked sizes requests
+    → AreMade (names_of old) requests answers calls
+    → Does old (Together calls) (session_data sizes keeper (map f ys) edits more)
+block_by f sizes keeper xs ys edits marks roomy more requests answers calls old view is out room marked made =
+    let s = session_data sizes keeper (map f xs) edits marks in
+    let new = session_data sizes keeper (map f ys) edits more in
+    subst (λ (o : SessionData). Does o (Together calls) new) view
+    (block_done s new requests answers (map f ys) calls
+    (length-map xs f ∙ as_many_passes f sizes keeper xs edits marks is)
+    (subst (λ (o : SessionData). AreMade (names_of o) requests answers calls) (sym view) made)
+    out
+    (ap (session_data sizes keeper (map f ys) edits) (marked ∙ ap (λ ms. ms ++ marks_asked sizes requests) room)))

@@ -17,6 +17,7 @@ use Rattle.vx_world.specs.declared.pass.Pass.{Pass}
 use Rattle.vx_audit.specs.Deeds.{DeedData, edits_in}
 use Rattle.vx_audit.specs.declared.mark.Mark.{Mark}
 use Rattle.vx_audit.specs.Marks.{marks_of, calls_among, fates_among, said_by}
+use Rattle.vx_session.specs.declared.player.Player.{Player}
 
 -- a pass: its seat, and its recorded calls, in a list for each sector
 pub record PassData : Type 0 where
@@ -36,6 +37,11 @@ pub record SessionData : Type 0 where
 abbrev pub pass_in : {A B : Type 0} {P : _} {E : _} {N : _} {H : _} {S : _} → Pass A B P E N H S
     → PassData
 pass_in pass = record { seat = seat_of pass.seat; lists = pass.lists }
+
+-- what the pass of a player has
+abbrev pub player_in : {A B : Type 0} {P : _} {E : _} {N : _} {H : _} {S : _}
+    → Player A B P E N H S → PassData
+player_in player = pass_in player.pass
 
 -- the edits up to the last one that was accepted, if one was
 abbrev pub edits_to : {J : Type 0} → Option (Listed J) → List Asked

@@ -5,11 +5,17 @@
 mod calling;
 mod explaining;
 mod fronts;
+mod halving;
 mod marking;
 mod opening;
+mod player;
+mod request;
+mod seating;
 mod session;
 mod session_error;
 mod settling;
+mod together;
 
+pub use request::Request;
 pub use session::Session;
 pub use session_error::SessionError;

@@ -2,6 +2,7 @@
 ghost use Rattle.std.specs.Prelude.{◌≡◌, ◌+◌, ◌*◌, ◌<◌, ◌≤◌, [], length, IfOk};
 ghost use Rattle.vx_session.specs.Sessions.{IsOf, opening_of, ticks_of};
 
+use crate::player::players_of;
 use crate::session::Session;
 use std::alloc::{AllocError, Global};
 use vx_board::View;
@@ -34,11 +35,12 @@ impl<A: Places, B: Seats> Session<A, B> {
     {
         let bounds = opening.terrain().frozen().bounds();
         let (world, keeper, passes) = World::<A, B>::new(alloc, opening, view, blanks)?;
+        let players = players_of(alloc, passes)?;
         Ok(Session {
             bounds,
             world,
             keeper,
-            passes,
+            players,
             view: None,
             last: None,
             marks: Vec::new(alloc),

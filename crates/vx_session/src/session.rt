@@ -4,11 +4,12 @@ ghost use Rattle.vx_policy.specs.Asked.{Asked, asked};
 ghost use Rattle.vx_policy.specs.Edits.{after};
 ghost use Rattle.vx_record.specs.Chronicles.{IsSeatOf};
 ghost use Rattle.vx_audit.specs.Deeds as deeds;
-ghost use Rattle.vx_session.specs.Sessions.{IsSession, Does, Stays, opening_of, ticks_of, names_of, pass_in, edits_to};
+ghost use Rattle.vx_session.specs.Sessions.{IsSession, Does, Stays, opening_of, ticks_of, names_of, edits_to, player_in};
 
 use crate::calling::{called, cause_of};
 use crate::fronts::is_next;
 use crate::marking::call_mark;
+use crate::player::Player;
 use crate::session_error::SessionError;
 use std::alloc::Global;
 use std::marker::Model;
@@ -23,7 +24,7 @@ use vx_record::Opening;
 use vx_sector::{Cmd, Refusal, Reply};
 use vx_step::NoGate;
 use vx_tick::Fate;
-use vx_world::{Pass, Seats, World};
+use vx_world::{Seats, World};
 
 /// A session of play on the world that threads share: one who reads what is to be done has all its
 /// passes and its keeper, alone edits at its desk, and is told in the end that all answers were those
@@ -34,7 +35,7 @@ pub struct Session<A: Places, B: Seats> {
     pub(crate) bounds: Bounds,
     pub(crate) world: World<A, B>,
     pub(crate) keeper: Keeper<A>,
-    pub(crate) passes: Vec<Pass<A, B>>,
+    pub(crate) players: Vec<Player<A, B>>,
     pub(crate) view: Option<View<A>>,
     pub(crate) last: Option<Listed<A>>,
     pub(crate) marks: Vec<Mark>,
@@ -43,15 +44,15 @@ pub struct Session<A: Places, B: Seats> {
 
 impl<A: Places, B: Seats> Model for Session<A, B> {
     ghost use Rattle.std.specs.Prelude.{◌≡◌, ◌+◌, ◌*◌, ◌<◌, ◌≤◌, map};
-    ghost use Rattle.vx_session.specs.Sessions.{SessionData, IsSession, pass_in, edits_to, session_data};
+    ghost use Rattle.vx_session.specs.Sessions.{SessionData, IsSession, edits_to, player_in, session_data};
 
     ghost Value = { SessionData };
 
-    ghost view = { λ s. session_data s.bounds s.keeper (map pass_in s.passes.items)
+    ghost view = { λ s. session_data s.bounds s.keeper (map player_in s.players.items)
         (edits_to s.last) s.marks.items };
 
     ghost invariant = { λ s. IsSession (session_data s.bounds s.keeper
-        (map pass_in s.passes.items) (edits_to s.last) s.marks.items)
+        (map player_in s.players.items) (edits_to s.last) s.marks.items)
         × (s.world.bounds ≡ s.bounds)
         × (0 < s.workers) × (s.workers ≤ 8)
         × (A.parts ≡ A.all + B.all) × (B.parts ≡ 2 * B.all) };
@@ -64,7 +65,7 @@ impl<A: Places, B: Seats> Drop for Session<A, B> {
             bounds: _,
             world: _world,
             keeper: _keeper,
-            passes: _passes,
+            players: _players,
             view: _view,
             last: _last,
             marks: _marks,
@@ -109,15 +110,15 @@ impl<A: Places, B: Seats> Session<A, B> {
         let Session {
             bounds,
             world,
-            passes,
+            players,
             marks,
             ..
         } = self;
         // Before the command: where it is answered, its mark has room.
         marks.reserve(1)?;
-        let pass = &mut passes[seat];
-        let number = pass.seat().number;
-        let answer = called(bounds, world, rt, pass, cmd)?;
+        let player = &mut players[seat];
+        let number = player.pass.seat().number;
+        let answer = called(bounds, world, rt, &mut player.pass, cmd)?;
         marks.push_reserved(call_mark(bounds, number, cmd.place()));
         Ok(answer)
     }
@@ -186,21 +187,21 @@ impl<A: Places, B: Seats> Session<A, B> {
         Ok(fates)
     }
 
-    // What is settled in the end: the world, its keeper, its passes, the answer to the last edit that
+    // What is settled in the end: the world, its keeper, its players, the answer to the last edit that
     // was accepted, and the marks.
     pub(crate) fn into_parts(
         self,
     ) -> (
         World<A, B>,
         Keeper<A>,
-        Vec<Pass<A, B>>,
+        Vec<Player<A, B>>,
         Option<Listed<A>>,
         Vec<Mark>,
     )
         ensures session { IsSession self }
         ensures bounds { result.0.bounds ≡ self.sizes }
         ensures keeper { result.1 ≡ self.keeper }
-        ensures passes { map pass_in result.2.items ≡ self.passes }
+        ensures players { map player_in result.2.items ≡ self.passes }
         ensures last { edits_to result.3 ≡ self.edits }
         ensures marks { result.4.items ≡ self.marks }
         ensures ledgers { (A.parts ≡ A.all + B.all) × (B.parts ≡ 2 * B.all) }
@@ -209,12 +210,12 @@ impl<A: Places, B: Seats> Session<A, B> {
             bounds: _,
             world,
             keeper,
-            passes,
+            players,
             view: _view,
             last,
             marks,
             workers: _,
         } = self;
-        (world, keeper, passes, last, marks)
+        (world, keeper, players, last, marks)
     }
 }

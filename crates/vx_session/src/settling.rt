@@ -10,6 +10,7 @@ ghost use Rattle.vx_audit.specs.Records.{IsRecord};
 ghost use Rattle.vx_session.specs.Sessions.{IsOf};
 
 use crate::explaining::count_of;
+use crate::player::passes_of;
 use crate::session::Session;
 use crate::session_error::SessionError;
 use std::alloc::Global;
@@ -35,7 +36,8 @@ impl<A: Places, B: Seats> Session<A, B> {
             ≡ calls_on (chronicle_in report.chronicle).ticks
             (map entries_in report.windows.items)) }
     {
-        let (world, keeper, passes, last, marks) = self.into_parts();
+        let (world, keeper, players, last, marks) = self.into_parts();
+        let passes = passes_of(alloc, players)?;
         keeper.soundness();
         keeper.opening().soundness();
         let report = match world.lift().finish(alloc, keeper, passes) {

@@ -30,7 +30,10 @@ returns-in-None-clause-game g c deeds is =
     let chronicle : r.chronicle ≡ s.keeper.chronicle = settled.chronicle ∙ ap (λ (k : KeeperData). k.chronicle) parts.keeper in
     let windows : r.windows ≡ map open_entries places =
     ap (map entries_in) c.deref.ensures.value ∙ settled.windows ∙ sym (map-map open_entries sector_here slots) in
-    let callers = sym (map-map caller_in pass_in of.2.items) ∙ ap (map caller_in) parts.passes in
+    let passes = c.in_ok-passes.passes.items in
+    let seen : map pass_in passes ≡ s.passes =
+    ap (map pass_in) c.in_ok-passes.ensures ∙ map-map pass_in (λ p. p.pass) of.2.items ∙ parts.players in
+    let callers = sym (map-map caller_in pass_in passes) ∙ ap (map caller_in) seen in
     let agree : All (AllAgree s.keeper.chronicle.ticks places) (map caller_in s.passes) =
     subst (λ (k : KeeperData). All (AllAgree k.chronicle.ticks places) (map caller_in s.passes)) parts.keeper
     (subst (All (AllAgree of.1.chronicle.ticks places)) callers settled.settled.2) in

@@ -3,7 +3,7 @@ use Rattle.vx_windows.specs.Sectors.{entries_of}
 use Rattle.vx_record.specs.Chronicles.{TickData}
 use Rattle.vx_keeper.specs.Keepers.{fates_next}
 use Rattle.vx_audit.specs.Deeds.{Ticked}
-use Rattle.vx_session.specs.Sessions.{SessionData, Does, pass_in, edits_to, session_data}
+use Rattle.vx_session.specs.Sessions.{SessionData, Does, edits_to, player_in, session_data}
 use Rattle.vx_session.proofs.Passed.{ticked}
 use Rattle.vx_session.proofs.session.Session.tick.Goals as goal
 
@@ -12,7 +12,7 @@ returns-clause-ticked g c =
     let i = c.self.inside in
     let k = c.tick.new.keeper in
     let marks = c.push_reserved.new.self.items in
-    let was : SessionData = session_data i.bounds i.keeper (map pass_in i.passes.items) (edits_to i.last) i.marks.items in
+    let was : SessionData = session_data i.bounds i.keeper (map player_in i.players.items) (edits_to i.last) i.marks.items in
     let told = c.in_ok-fates.ensures.ok in
     let tick : TickData = record {
       number = length i.keeper.chronicle.ticks + 1;

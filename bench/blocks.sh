@@ -1,0 +1,50 @@
+#!/usr/bin/env bash
+# What blocks of commands that players make at once cost, for the built server, beside the same lines without blocks.
+#   bench/blocks.sh [PLAYERS ..]
+# So many players (8 unless said otherwise), each in sectors of his own with nine lines of ten, in a world of 64 sectors; blocks of 8 to 65,536 lines.
+# Needs awk, and /usr/bin/time.
+set -eu
+root=$(cd "$(dirname "$0")/.." && pwd)
+work=$(mktemp -d)
+trap 'rm -rf "$work"' EXIT
+server=$root/crates/vx_server/out/vx_server
+. "$root/bench/measure.sh"
+
+# LINES commands of PLAYERS players, in blocks of BLOCK lines; 0: without blocks.
+script() {
+  awk -v lines="$1" -v players="$2" -v block="$3" 'BEGIN {
+    srand(1)
+    print "world 8 8 2"
+    for (k = 0; k < players; k++) print "player p" k
+    parts = split("stone dirt planks glass dust torch:down lamp", part, " ")
+    for (n = 0; n < lines; n++) {
+      if (block && n % block == 0) print "together"
+      k = n % players
+      sector = rand() < 0.9 ? k + players * int(rand() * int(64 / players)) : int(rand() * 64)
+      x = 32 * (sector % 8) + int(rand() * 32)
+      z = 32 * int(sector / 8) + int(rand() * 32)
+      at = x " " int(rand() * 64) " " z
+      kind = rand()
+      if (kind < 0.5) line = "place " at " " part[1 + int(rand() * parts)]
+      else if (kind < 0.75) line = "break " at
+      else line = "look " at
+      print "as p" k " " line
+      if (block && (n % block == block - 1 || n == lines - 1)) print "end"
+    }
+  }'
+}
+
+"$root/run" - </dev/null >/dev/null
+printf '%-8s %-8s %10s %14s %10s\n' players block ms commands/s ratio
+for players in "${@:-8}"; do
+  lines=393216
+  script $lines "$players" 0 >"$work/plain.vx"
+  alone=$(microseconds "$server" "$work/plain.vx")
+  printf '%-8s %-8s %10s %14s %10s\n' "$players" none $((alone / 1000)) $((lines * 1000000 / alone)) 1.00
+  for block in 8 64 512 4096 65536; do
+    script $lines "$players" $block >"$work/blocks.vx"
+    took=$(microseconds "$server" "$work/blocks.vx")
+    printf '%-8s %-8s %10s %14s %10s\n' "$players" $block $((took / 1000)) $((lines * 1000000 / took)) \
+      "$(awk -v a="$alone" -v b="$took" 'BEGIN { printf "%.2f", a / b }')"
+  done
+done

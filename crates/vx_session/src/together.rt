@@ -1,0 +1,178 @@
+//! Calls that several players make at once.
+ghost use Rattle.std.specs.Prelude.{◌≡◌, ℕ, ◌<◌, ◌≤◌, ◌+◌, ◌++◌, [], None, List, length, map, slice_index_or, vec_len, vec_capacity, IfOk, OnOk};
+ghost use Rattle.std.specs.List.{All};
+ghost use Rattle.vx_audit.specs.Deeds as deeds;
+ghost use Rattle.vx_sector.specs.SectorData.{EntryData};
+ghost use Rattle.vx_session.specs.Blocks.{marks_asked, player_data, AreCarriedOut, AreMade, AreNumbered, AreTold, HasPlayed, HaveAllPlayed, HaveAnswers};
+ghost use Rattle.vx_session.specs.Sessions.{Does, Stays, names_of, pass_in, player_in};
+
+use crate::halving::at_once;
+use crate::marking::call_mark;
+use crate::player::Player;
+use crate::request::Request;
+use crate::session::Session;
+use crate::session_error::SessionError;
+use std::alloc::Global;
+use std::sync::Wait;
+use std::thread::Threads;
+use vx_audit::Mark;
+use vx_geom::Bounds;
+use vx_keeper::Places;
+use vx_sector::{Refusal, Reply};
+use vx_world::{Seats, World};
+
+impl<A: Places + Send + Sync, B: Seats + Send + Sync> Session<A, B> {
+    /// Carries out what is asked for, on a thread for each player of whom something is asked. Each
+    /// does what is asked of him in its order, and between players there is no order. The answers are
+    /// told in the order of the requests.
+    pub fn together<T: Threads + Wait + Sync>(
+        &mut self,
+        rt: &T,
+        alloc: Global,
+        requests: &[Request],
+    ) -> Result<Vec<Result<Reply, Refusal>>, SessionError>
+        requires { All (λ request. request.seat < length (names_of self.old)) requests.now }
+        ensures stays { Stays self.old self.new }
+        ensures each { IfOk result (λ answers. length answers.items ≡ length requests.now) }
+        ensures called { IfOk result (λ answers. (calls : List EntryData)
+            → AreMade (names_of self.old) requests.now answers.items calls
+            → Does self.old (deeds.Together calls) self.new) }
+    {
+        let Session {
+            bounds,
+            world,
+            players,
+            marks,
+            ..
+        } = self;
+        // Before the calls: where they are answered, their marks have room.
+        marks.reserve(requests.len() + 2)?;
+        let answers = answers_of(rt, alloc, bounds, world, players, requests)?;
+        mark_all(bounds, requests, marks);
+        Ok(answers)
+    }
+}
+
+// Has the players do what is asked for, and tells the answers in the order of the requests.
+fn answers_of<A: Places + Send + Sync, B: Seats + Send + Sync, T: Threads + Wait + Sync>(
+    rt: &T,
+    alloc: Global,
+    bounds: &Bounds,
+    world: &World<A, B>,
+    players: &mut [Player<A, B>],
+    requests: &[Request],
+) -> Result<Vec<Result<Reply, Refusal>>, SessionError>
+    requires bounds { world.now.bounds ≡ bounds.now }
+    requires numbered { AreNumbered (map player_in players.old) }
+    requires named { All (λ request. request.seat < length players.old) requests.now }
+    ensures seats { map (λ player. (player_in player).seat) players.new
+        ≡ map (λ player. (player_in player).seat) players.old }
+    ensures each { IfOk result (λ answers. length answers.items ≡ length requests.now) }
+    ensures carried_out { IfOk result (λ answers. AreCarriedOut bounds.now requests.now
+        answers.items (map player_in players.old) (map player_in players.new)) }
+{
+    // Before the calls: where they are answered, their answers have room.
+    let mut answers = Vec::with_capacity(alloc, requests.len())?;
+    play_all(rt, bounds, world, players, requests)?;
+    tell_all(players, requests, &mut answers);
+    Ok(answers)
+}
+
+// Has each player do what is asked of him.
+fn play_all<A: Places + Send + Sync, B: Seats + Send + Sync, T: Threads + Wait + Sync>(
+    rt: &T,
+    bounds: &Bounds,
+    world: &World<A, B>,
+    players: &mut [Player<A, B>],
+    requests: &[Request],
+) -> Result<(), SessionError>
+    requires { world.now.bounds ≡ bounds.now }
+    ensures seats { map (λ player. (player_in player).seat) players.new
+        ≡ map (λ player. (player_in player).seat) players.old }
+    ensures played { OnOk result (HaveAllPlayed bounds.now requests.now
+        (map player_data players.old) (map player_data players.new)) }
+{
+    play_each(rt, bounds, world, players, requests);
+    match first_stop(players) {
+        Some(error) => Err(error),
+        None => Ok(()),
+    }
+}
+
+// The same: at once, where something is asked of several. Who stopped is left to be seen.
+fn play_each<A: Places + Send + Sync, B: Seats + Send + Sync, T: Threads + Wait + Sync>(
+    rt: &T,
+    bounds: &Bounds,
+    world: &World<A, B>,
+    players: &mut [Player<A, B>],
+    requests: &[Request],
+)
+    requires { world.now.bounds ≡ bounds.now }
+    ensures seats { (k : ℕ) (d : _) → k < length players.old
+        → (slice_index_or players.new k d).pass.seat ≡ (slice_index_or players.old k d).pass.seat }
+    ensures played { (k : ℕ) (d : _) → k < length players.old
+        → (slice_index_or players.new k d).stopped ≡ None
+        → HasPlayed bounds.now requests.now (player_data (slice_index_or players.old k d))
+        (player_data (slice_index_or players.new k d)) }
+{
+    at_once(
+        rt,
+        &|some| is_asked(some, requests),
+        &|player| player.play(rt, bounds, world, requests),
+        players,
+    );
+}
+
+// Whether something is asked of one of these players, who stand in the order of their seats.
+fn is_asked<A: Places, B: Seats>(players: &[Player<A, B>], requests: &[Request]) -> bool {
+    match (players.first(), players.last()) {
+        (Some(first), Some(last)) => requests.iter().any(|request| {
+            first.pass.seat().number <= request.seat && request.seat <= last.pass.seat().number
+        }),
+        _ => false,
+    }
+}
+
+// Why the first of the players stopped who did, if one did.
+fn first_stop<A: Places, B: Seats>(players: &[Player<A, B>]) -> Option<SessionError>
+    ensures { result ≡ None → All (λ player. player.stopped ≡ None) players.now }
+{
+    for player in players {
+        if let Some(error) = player.stopped {
+            return Some(error);
+        }
+    }
+    None
+}
+
+// Tells the answers that the players got, in the order of the requests.
+fn tell_all<A: Places, B: Seats>(
+    players: &mut [Player<A, B>],
+    requests: &[Request],
+    answers: &mut Vec<Result<Reply, Refusal>>,
+)
+    requires named { All (λ request. request.seat < length players.old) requests.now }
+    requires answered { HaveAnswers requests.now (map player_data players.old) }
+    requires none { answers.old.items ≡ [] }
+    requires room { length requests.now ≤ vec_capacity answers.old }
+    ensures each { length answers.new.items ≡ length requests.now }
+    ensures told { AreTold requests.now answers.new.items (map player_data players.old)
+        (map player_data players.new) }
+{
+    for request in requests {
+        let player = &mut players[usize::from(request.seat)];
+        answers.push_reserved(player.next_answer());
+    }
+}
+
+// Puts the marks of the block behind the others.
+fn mark_all(bounds: &Bounds, requests: &[Request], marks: &mut Vec<Mark>)
+    requires { vec_len marks.old + length requests.now + 2 ≤ vec_capacity marks.old }
+    ensures { marks.new.items ≡ marks.old.items ++ marks_asked bounds.now requests.now }
+{
+    marks.push_reserved(Mark::Begin);
+    for request in requests {
+        marks.push_reserved(call_mark(bounds, request.seat, request.cmd.place()));
+    }
+    marks.push_reserved(Mark::End);
+}

@@ -16,7 +16,7 @@ def placed(part):
 
 
 def act(call, place):
-    """The reply to a command and what it leaves, by what is at its place."""
+    """The reply to a command and what it leaves, by what is at its place: no head and no piston that is out, which come of ticks of machines."""
     text, slots = place
     kind = text.split(":")[0]
     if call.verb == "look":
@@ -30,8 +30,6 @@ def act(call, place):
     if call.verb == "break":
         if kind == "air":
             return "refused 4 nothing", place
-        if kind == "head" or text.endswith(":out"):
-            return "refused 8 extended", place
         if kind == "bedrock":
             return "refused 9 unbreakable", place
         return ("refused 7 not empty", place) if slots else ("ok default", AIR)

@@ -101,8 +101,6 @@ class Worlds:
         parts = {}
         for number, call in enumerate(calls):
             sector, reply = self.script.sector(call.place), replies[number] if number < len(replies) else None
-            if (sector is None) != (reply == OUTSIDE) and reply is not None:
-                raise ValueError(f"{call.player} {call.text}: {reply}")
             if sector is not None:
                 parts.setdefault(sector, {}).setdefault(call.player, []).append((call, reply))
         for sector, queues in parts.items():
@@ -133,9 +131,16 @@ def is_plain(script):
     return kinds <= {"as", "together", "tick"} and ("tick" not in kinds or not any(part.split(":")[0] in MACHINES for part in parts))
 
 
+def see_borders(script, calls, replies):
+    """Sees that those calls are told to be outside the world that are."""
+    for call, reply in zip(calls, replies):
+        if (script.sector(call.place) is None) != (reply == OUTSIDE):
+            raise ValueError(f"{call.player} {call.text}: {reply}")
+
+
 def judge(file_lines, written, has_record=False, is_whole=True):
-    """Raises a ValueError where no order of the blocks' lines writes this text, with a record of that order if there is one. A run that ended for a fault that is not the
-    script's may have written a beginning of such a text."""
+    """Raises a ValueError where no order of the blocks' lines writes this text. Where it has a whole record, that is such an order; else one is searched for. A run that ended
+    for a fault that is not the script's may have written a beginning of such a text."""
     script = Script(file_lines)
     if not is_plain(script):
         raise ValueError("a script with regions, questions, or ticks of machines: its replies are not followed here")
@@ -155,7 +160,9 @@ def judge(file_lines, written, has_record=False, is_whole=True):
             if told not in ([f"tick {ticks}"], []):
                 raise ValueError(f"tick {ticks} has {told}")
         else:
-            worlds.play(asked, told)
+            see_borders(script, asked, told)
+            if not (has_record and is_whole):
+                worlds.play(asked, told)
             calls += sum(reply != OUTSIDE for reply in told)
         if len(told) < count:
             return

@@ -3,6 +3,7 @@
 // is made as soon as a call is refused. With FAULT_SHORT each read gives one byte.
 //
 //   memory            malloc, calloc, realloc and their like answer that there is no memory
+//   thread            no thread is started
 //   read, write       standard input can't be read, standard output can't be written
 //   file-read         a file that was opened can't be read
 //   no-write          nothing is written, and no error told
@@ -15,15 +16,21 @@ extern char *getenv(const char *);
 extern int strcmp(const char *, const char *);
 extern long strtol(const char *, char **, int);
 extern long syscall(long, ...);
+extern void *dlsym(void *, const char *);
 extern void *__libc_malloc(size), *__libc_calloc(size, size), *__libc_realloc(void *, size), *__libc_memalign(size, size);
 
-enum { READ = 0, WRITE = 1, OPEN = 2, CLOSE = 3, EXIT = 231, INTERRUPTED = 4, INPUT_OUTPUT = 5, NO_MEMORY = 12, INVALID = 22 };
+enum { READ = 0, WRITE = 1, OPEN = 2, CLOSE = 3, EXIT = 231, INTERRUPTED = 4, INPUT_OUTPUT = 5, AGAIN = 11, NO_MEMORY = 12, INVALID = 22 };
 
 static const char *kind = "", *mark = 0;
 static long turn = -1, first = 0, count = 0;
 static int is_short = 0;
 
+// What starts a thread: the C library's, which stands behind this file.
+typedef int starter(void *, const void *, void *(*)(void *), void *);
+static starter *start = 0;
+
 __attribute__((constructor)) static void begin(void) {
+  start = (starter *)dlsym((void *)-1, "pthread_create");
   if (getenv("FAULT")) kind = getenv("FAULT");
   if (getenv("FAULT_TURN")) turn = strtol(getenv("FAULT_TURN"), 0, 10);
   if (getenv("FAULT_FIRST")) first = strtol(getenv("FAULT_FIRST"), 0, 10);
@@ -65,6 +72,10 @@ void *realloc(void *old, size n) { return OR_NULL(__libc_realloc(old, n)); }
 void *aligned_alloc(size align, size n) { return OR_NULL(__libc_memalign(align, n)); }
 void *memalign(size align, size n) { return OR_NULL(__libc_memalign(align, n)); }
 int posix_memalign(void **to, size align, size n) { return (*to = OR_NULL(__libc_memalign(align, n))) ? 0 : NO_MEMORY; }
+
+int pthread_create(void *thread, const void *how, void *(*work)(void *), void *with) {
+  return chosen("thread") ? AGAIN : start(thread, how, work, with);
+}
 
 long read(int from, void *bytes, size n) {
   int input = from == 0, file = from > 2;

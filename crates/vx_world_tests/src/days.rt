@@ -1,7 +1,8 @@
 //! Worlds that are opened for a test, each in a function that is generic in their ledgers.
 ghost use Rattle.std.specs.Prelude.{◌≡◌, ◌+◌, ◌*◌, length};
 
-use crate::{explaining, gates, machines, passes, refused, ticks, torn};
+use crate::audits::Audit;
+use crate::{audits, explaining, gates, machines, passes, refused, ticks, torn};
 use std::alloc::Global;
 use std::marker::Brand;
 use std::process::Abort;
@@ -38,6 +39,8 @@ pub enum Day {
     Machines(usize),
     /// A view explains before and after an edit, and a command is made between.
     Explained,
+    /// Ann and bob play, and the record is audited by these marks.
+    Audited(Audit),
     /// The desk is gone before a tick.
     DeskGone,
 }
@@ -121,6 +124,7 @@ fn played<A: Places + Send + Sync, B: Seats + Send + Sync, R: Threads + Wait + A
         Day::MadeAgain => refused::made_again(rt, alloc, world, keeper, passes),
         Day::Machines(workers) => machines::step(rt, alloc, world, keeper, passes, workers),
         Day::Explained => explaining::explained_and_done(rt, alloc, world, desk, passes),
+        Day::Audited(_) => audits::play(rt, alloc, world, desk, keeper, passes),
         Day::DeskGone => Ok(()),
     }
 }
@@ -140,6 +144,7 @@ fn settled<A: Places, B: Seats>(
         Day::ThreePlayers => passes::settles_with_all(rt, alloc, lifted, keeper, passes),
         Day::Tampered => torn::is_not_settled(rt, alloc, lifted, keeper, passes),
         Day::MadeAgain => refused::finished_again(rt, alloc, lifted, keeper, passes),
+        Day::Audited(audit) => audits::tells(rt, alloc, lifted, keeper, passes, audit),
         _ => Ok(()),
     }
 }
@@ -202,4 +207,29 @@ fn a_view_explains_beside_a_command(rt: HostRuntime) -> Result<(), Fail> {
 #[test]
 fn no_tick_is_made_without_a_desk(rt: HostRuntime) -> Result<(), Fail> {
     spend(&rt, rt.alloc(), Day::DeskGone)
+}
+
+#[test]
+fn an_audit_finds_no_difference_in_what_was_done(rt: HostRuntime) -> Result<(), Fail> {
+    spend(&rt, rt.alloc(), Day::Audited(Audit::Done))
+}
+
+#[test]
+fn an_audit_finds_the_first_call_that_differs(rt: HostRuntime) -> Result<(), Fail> {
+    spend(&rt, rt.alloc(), Day::Audited(Audit::OtherCalls))
+}
+
+#[test]
+fn an_audit_finds_ticks_and_edits_that_differ(rt: HostRuntime) -> Result<(), Fail> {
+    spend(&rt, rt.alloc(), Day::Audited(Audit::OtherTicks))
+}
+
+#[test]
+fn an_audit_takes_the_calls_of_a_block_in_any_order(rt: HostRuntime) -> Result<(), Fail> {
+    spend(&rt, rt.alloc(), Day::Audited(Audit::InBlocks))
+}
+
+#[test]
+fn an_audit_finds_blocks_that_differ(rt: HostRuntime) -> Result<(), Fail> {
+    spend(&rt, rt.alloc(), Day::Audited(Audit::OtherBlocks))
 }

@@ -2,6 +2,8 @@
 #![tactic(auto)]
 
 #[cfg(test)]
+mod audits;
+#[cfg(test)]
 mod chests;
 #[cfg(test)]
 mod days;
@@ -11,6 +13,8 @@ mod explaining;
 mod gates;
 #[cfg(test)]
 mod machines;
+#[cfg(test)]
+mod marked;
 #[cfg(test)]
 mod noting;
 #[cfg(test)]

@@ -47,7 +47,8 @@ fn sees_both<A: Places, B: Seats, R: Threads + Wait + Abort + Sync>(
     is_seen(rt, world, pass, east, Cell::Dirt);
 }
 
-fn makes_a_tick<A: Places, B: Seats, R: Threads + Wait + Abort + Sync>(
+/// A tick is made, by one worker.
+pub fn makes_a_tick<A: Places, B: Seats, R: Threads + Wait + Abort + Sync>(
     rt: &R,
     alloc: Global,
     world: &World<A, B>,
@@ -56,7 +57,8 @@ fn makes_a_tick<A: Places, B: Seats, R: Threads + Wait + Abort + Sync>(
     assert!(rt; world.tick(rt, alloc, keeper, 1, &NoGate).is_ok());
 }
 
-fn is_done<A: Places, B: Seats, R: Wait + Abort>(
+/// The command is done, by leave of no region.
+pub fn is_done<A: Places, B: Seats, R: Wait + Abort>(
     rt: &R,
     world: &World<A, B>,
     pass: &mut Pass<A, B>,
@@ -96,8 +98,8 @@ pub fn edits_count_next<
     Ok(())
 }
 
-// A column becomes a plot of which nobody is a member, and the keeper is told.
-fn plotted<A: Places, R: Wait>(
+/// The column at x 5 and z 5 becomes a plot of which nobody is a member, and the keeper is told.
+pub fn plotted<A: Places, R: Wait>(
     rt: &R,
     alloc: Global,
     desk: &Desk<A, &R>,

@@ -74,7 +74,7 @@ impl<A: Places, B: Seats> Player<A, B> {
         self.stopped = self.play_on(rt, bounds, world, requests).err();
     }
 
-    // The same, where no answer is left; it ends where there is no room or no memory.
+    // Carries them out where no answer is left; ends early where there is no room or no memory.
     fn play_on(
         &mut self,
         rt: &impl Wait,

@@ -99,7 +99,7 @@ fn play_all<A: Places + Send + Sync, B: Seats + Send + Sync, T: Threads + Wait +
     }
 }
 
-// The same: at once, where something is asked of several. Who stopped is left to be seen.
+// Has them play at once, where something is asked of several. Who stopped is left to be seen.
 fn play_each<A: Places + Send + Sync, B: Seats + Send + Sync, T: Threads + Wait + Sync>(
     rt: &T,
     bounds: &Bounds,

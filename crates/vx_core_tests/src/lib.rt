@@ -12,7 +12,11 @@ mod machines;
 #[cfg(test)]
 mod maps;
 #[cfg(test)]
+mod played;
+#[cfg(test)]
 mod same;
+#[cfg(test)]
+mod scripts;
 #[cfg(test)]
 mod ticks;
 #[cfg(test)]

@@ -3,5 +3,7 @@ pub mod AtLarge
 pub mod Causes
 pub mod Numbers
 pub mod Others
+pub mod Outlining
 pub mod Parts
+pub mod Silent
 pub mod Turns

@@ -1,7 +1,9 @@
 pub mod Asked
 pub mod Edits
 pub mod Laws
+pub mod Outlines
 pub mod Refusals
 pub mod SameVersions
+pub mod Silence
 pub mod Texts
 pub mod VersionLaws

@@ -2,12 +2,17 @@
 //! leaves.
 #![tactic(auto)]
 
+mod changes;
+mod charted;
 mod edit;
 mod edit_error;
 mod edit_refusal;
+mod land_after;
 mod laws;
 mod listing;
 mod policy;
+mod shape_change;
+mod unset;
 mod version;
 
 pub use edit::Edit;

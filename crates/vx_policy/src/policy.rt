@@ -1,20 +1,35 @@
-ghost use Rattle.std.specs.Prelude.{◌≡◌, IfOk};
+ghost use Rattle.std.specs.Prelude.{◌≡◌, None, Some, Err, option_map, IfOk, OnErr};
 ghost use Rattle.std.specs.Bool.{Decides};
+ghost use Rattle.vx_decide.specs.Verdict.{verdict};
+ghost use Rattle.vx_index.specs.Chunks.{IsCacheOf};
+ghost use Rattle.vx_policy.specs.Asked.{asked};
+ghost use Rattle.vx_policy.specs.Edits.{edited, number_given};
+ghost use Rattle.vx_policy.specs.Refusals.{refusal};
+ghost use Rattle.vx_policy.specs.declared.edit_error.EditError.{EditError};
+ghost use Rattle.vx_policy.specs.declared.edit_refusal.EditRefusal.{EditRefusal};
 ghost use Rattle.vx_region.specs.Regions.{no_regions};
 ghost use Rattle.vx_region.specs.SameRegions.{same_regions};
+ghost use Rattle.vx_region.specs.Subjects.{Named};
 
-mod changes;
 mod refusals;
 
+use crate::charted::Charted;
+use crate::edit::Edit;
+use crate::edit_error::EditError;
+use crate::edit_refusal::EditRefusal;
 use std::alloc::{AllocError, Global};
 use std::marker::Model;
 use std::sync::Arc;
-use vx_region::RegionSet;
+use vx_decide::{Decide, Verdict};
+use vx_flag::Action;
+use vx_geom::Pos;
+use vx_index::Cache;
+use vx_region::{Name, RegionNo, RegionSet, Subject};
 
-/// The written policy: a set of regions that is changed by edits. Copies share it until one of them
-/// is changed.
+/// The written policy: a set of regions that is changed by edits, with what decisions are found by.
+/// A copy shares all of it. An edit makes another policy, which shares what the edit does not touch.
 pub struct Policy {
-    regions: Arc<RegionSet>,
+    charted: Arc<Charted>,
 }
 
 impl Model for Policy {
@@ -23,13 +38,13 @@ impl Model for Policy {
 
     ghost Value = { Regions };
 
-    ghost view = { λ a. arc_value a.regions };
+    ghost view = { λ a. arc_value a.charted };
 }
 
 // Written out, so that what is above this crate need not prove how its parts are let go.
 impl Drop for Policy {
     fn drop(self) {
-        let Policy { regions: _regions } = self;
+        let Policy { charted: _charted } = self;
     }
 }
 
@@ -39,7 +54,7 @@ impl Policy {
         ensures { IfOk result (λ policy. policy ≡ no_regions) }
     {
         Ok(Policy {
-            regions: Arc::new(alloc, RegionSet::new(alloc))?,
+            charted: Arc::new(alloc, Charted::new(alloc)?)?,
         })
     }
 
@@ -47,13 +62,7 @@ impl Policy {
     pub fn regions(&self) -> &RegionSet
         ensures { result.now ≡ self.now }
     {
-        &self.regions
-    }
-
-    /// Whether another copy shares the regions now, so that the first change would copy the set. No
-    /// clause says so: only costs rest on it.
-    pub fn is_shared(&self) -> bool {
-        1 < Arc::strong_count(&self.regions)
+        self.charted.regions()
     }
 
     /// A copy of the policy, which shares its regions. A change of one is no change of the other.
@@ -61,8 +70,76 @@ impl Policy {
         ensures { IfOk result (λ copy. copy ≡ self.now) }
     {
         Ok(Policy {
-            regions: Arc::try_clone(&self.regions)?,
+            charted: Arc::try_clone(&self.charted)?,
         })
+    }
+
+    /// The policy after an edit that nothing stands against, and the number that a definition gave.
+    /// This one stays as it is. What takes memory of its own is what the edit touches: the region
+    /// with those that stand in one block with it, and where its shape changes the chunks in which
+    /// it lies.
+    pub fn after(&self, alloc: Global, edit: Edit) -> Result<(Policy, Option<RegionNo>), AllocError>
+        requires { refusal self.now (asked edit) ≡ None }
+        ensures { IfOk result (λ r. (r.0 ≡ edited self.now (asked edit))
+            × (option_map (λ n. n.0) r.1 ≡ number_given self.now (asked edit))) }
+    {
+        let (charted, number) = self.charted.after(alloc, edit)?;
+        Ok((
+            Policy {
+                charted: Arc::new(alloc, charted)?,
+            },
+            number,
+        ))
+    }
+
+    /// Makes an edit that nothing stands against, and answers the number that a definition gave.
+    pub fn change(&mut self, alloc: Global, edit: Edit) -> Result<Option<RegionNo>, AllocError>
+        requires { refusal self.old (asked edit) ≡ None }
+        ensures ok { IfOk result (λ n. (self.new ≡ edited self.old (asked edit))
+            × (option_map (λ n. n.0) n ≡ number_given self.old (asked edit))) }
+        ensures err { OnErr result (self.new ≡ self.old) }
+    {
+        let (policy, number) = self.after(alloc, edit)?;
+        *self = policy;
+        Ok(number)
+    }
+
+    /// Applies an edit and answers the number that a definition gave, or refuses it by the first
+    /// cause that stands against it. A refusal leaves the policy as it was, and so does want of
+    /// memory.
+    pub fn apply(&mut self, alloc: Global, edit: Edit) -> Result<Option<RegionNo>, EditError>
+        ensures ok { IfOk result (λ n. (refusal self.old (asked edit) ≡ None)
+            × (self.new ≡ edited self.old (asked edit))
+            × (option_map (λ n. n.0) n ≡ number_given self.old (asked edit))) }
+        ensures refused { (cause : EditRefusal) → result ≡ Err (EditError.Refused cause)
+            → refusal self.old (asked edit) ≡ Some cause }
+        ensures memory { result ≡ Err EditError.NoMemory → refusal self.old (asked edit) ≡ None }
+        ensures err { OnErr result (self.new ≡ self.old) }
+    {
+        if let Some(refusal) = self.refusal(&edit) {
+            return Err(EditError::Refused(refusal));
+        }
+        self.change(alloc, edit).map_err(|_| EditError::NoMemory)
+    }
+
+    /// Whether the player may do this at the place, and the rule that says so (docs/RULES.md). The
+    /// verdict is looked up among those that are kept, or found among the regions near the place and
+    /// kept. Where memory is wanting it is not kept, and the answer is the same.
+    pub fn ask(&self, cache: &mut Cache, name: &Name, action: Action, p: Pos) -> Verdict
+        requires { IsCacheOf self.now cache.old }
+        ensures verdict { result ≡ verdict self.now (Named name.now.text.bytes) action p }
+        ensures kept { IsCacheOf self.now cache.new }
+    {
+        self.charted.ask(cache, name, action, p)
+    }
+}
+
+/// It costs the regions near the place, and takes no memory.
+impl Decide for Policy {
+    ghost policy = { λ a. a };
+
+    fn decide(&self, subject: &Subject, action: Action, p: Pos) -> Verdict {
+        self.charted.decide(subject, action, p)
     }
 }
 

@@ -1,4 +1,2 @@
 pub mod Accepted
-pub mod Outlines
-pub mod Spares
 pub mod Texts

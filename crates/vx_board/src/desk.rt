@@ -5,7 +5,6 @@ ghost use Rattle.vx_policy.specs.Asked.{Asked, asked};
 ghost use Rattle.vx_policy.specs.Edits.{after, AreAccepted};
 
 use crate::board::Board;
-use crate::charted::Charted;
 use crate::first::First;
 use crate::front::Front;
 use crate::listed::Listed;
@@ -51,7 +50,6 @@ impl<J: Board, R: Wait + Drop> Desk<J, R> {
         ensures { IfOk result (λ desk. IsSome desk.first) }
     {
         let (head, start) = opened.named::<J>();
-        let policy = Charted::new(alloc, policy)?;
         let one = Posted::new(policy.try_clone()?, start.again());
         let two = Posted::new(policy.try_clone()?, start.again());
         let again = Posted::new(policy.try_clone()?, start.again());

@@ -2,18 +2,16 @@ use crate::acceptance::{make_ready, settle};
 use crate::desk_error::DeskError;
 use crate::edited::Edited;
 use crate::naming::Naming;
-use crate::spare::Spare;
 use std::alloc::{AllocError, Global};
 use std::marker::{Model, PhantomData};
 use vx_policy::{Edit, Policy, Version};
 
-/// What a desk holds: the edits that it accepted, the policy after them, and an older one to take
-/// turns with. Contracts see the list; the first policy stands in the type.
+/// What a desk holds: the edits that it accepted, and the policy after them. Contracts see the list;
+/// the first policy stands in the type.
 #[derive(Drop)]
 pub struct DeskState<J: Naming> {
     accepted: Vec<Edit>,
     policy: Policy,
-    spare: Option<Spare>,
     of: PhantomData<J>,
 }
 
@@ -21,15 +19,13 @@ impl<J: Naming> Model for DeskState<J> {
     ghost use Rattle.std.specs.Prelude.{◌≡◌, List, map};
     ghost use Rattle.vx_policy.specs.Asked.{Asked, asked};
     ghost use Rattle.vx_policy.specs.Edits.{after, AreAccepted};
-    ghost use Rattle.vx_board.specs.Spares.{IsSpare};
 
     ghost Value = { List Asked };
 
     ghost view = { λ a. map asked a.accepted.items };
 
     ghost invariant = { λ a. AreAccepted J.first (map asked a.accepted.items)
-        × (a.policy ≡ after J.first (map asked a.accepted.items))
-        × IsSpare J.first (map asked a.accepted.items) a.spare };
+        × (a.policy ≡ after J.first (map asked a.accepted.items)) };
 }
 
 impl<J: Naming> DeskState<J> {
@@ -46,7 +42,6 @@ impl<J: Naming> DeskState<J> {
         DeskState {
             accepted: Vec::new(alloc),
             policy,
-            spare: None,
             of: PhantomData,
         }
     }
@@ -59,13 +54,7 @@ impl<J: Naming> DeskState<J> {
         ensures ok { OnOk result (self.new ≡ self.old ++ asked edit ∷ []) }
         ensures err { OnErr result (self.new ≡ self.old) }
     {
-        let ready = make_ready::<J>(
-            alloc,
-            &mut self.policy,
-            &mut self.spare,
-            &mut self.accepted,
-            edit,
-        )?;
+        let ready = make_ready(alloc, &mut self.policy, &mut self.accepted, edit)?;
         Ok(settle(&mut self.accepted, ready))
     }
 

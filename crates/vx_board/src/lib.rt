@@ -4,7 +4,6 @@
 
 mod acceptance;
 mod board;
-mod charted;
 mod desk;
 mod desk_error;
 mod desk_state;
@@ -12,7 +11,6 @@ mod edited;
 mod first;
 mod front;
 mod head;
-mod land_after;
 mod listed;
 mod locked;
 mod naming;
@@ -20,10 +18,7 @@ mod next;
 mod opened;
 mod posted;
 mod refused;
-mod spare;
-mod spares;
 mod told;
-mod turns;
 mod view;
 mod view_error;
 

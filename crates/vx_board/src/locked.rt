@@ -1,30 +1,25 @@
-ghost use Rattle.std.specs.Prelude.{◌≡◌, ◌++◌, ◌∷◌, ◌<◌, ◌^◌, [], None, map, length, IfOk, IfErr, Ok};
-ghost use Rattle.std.proofs.Props.{props};
+ghost use Rattle.std.specs.Prelude.{◌≡◌, ◌++◌, ◌∷◌, ◌<◌, ◌^◌, [], map, length, IfOk, IfErr, Ok};
 ghost use Rattle.left_right.specs.Handles.{published, pending};
 ghost use Rattle.vx_board.specs.Accepted.{IsAnswer, IsRefused};
-ghost use Rattle.vx_board.specs.Spares.{AreSpares};
 ghost use Rattle.vx_policy.specs.Asked.{asked};
 ghost use Rattle.vx_policy.specs.Edits.{after, AreAccepted};
 ghost use Rattle.vx_policy.specs.Refusals.{refusal};
 
 use crate::acceptance::settle;
 use crate::board::Board;
-use crate::charted::Charted;
 use crate::front::Front;
 use crate::head::Head;
 use crate::listed::Listed;
 use crate::next::{Next, make_next};
 use crate::posted::Posted;
 use crate::refused::Refused;
-use crate::spares::Spares;
 use left_right::{Absorb, WriteHandle};
 use std::alloc::{AllocError, Global};
-use std::mem;
 use std::sync::Wait;
-use vx_policy::{Edit, Version};
+use vx_policy::{Edit, Policy, Version};
 
-/// What lies under the lock of a desk: the edits that it accepted, the policy after them, older ones
-/// to take turns with, and what shows it to readers. The list is the front.
+/// What lies under the lock of a desk: the edits that it accepted, the policy after them, and what
+/// shows it to readers. The list is the front.
 #[derive(Drop)]
 pub struct Locked<J: Board, R: Wait + Drop>
 where
@@ -33,12 +28,10 @@ where
     head: Head<J>,
     pub front: Front<J>,
     accepted: Vec<Edit>,
-    policy: Charted,
-    spares: Spares,
+    policy: Policy,
     writer: WriteHandle<Posted<J>, Posted<J>, R>,
     ghost listed: { map asked accepted.items ≡ front },
     ghost policy_is: { policy ≡ after J.first front },
-    ghost spares_are: { AreSpares J.first front spares } by { Prim.hlevel props },
     ghost shown: { published writer ≡ front },
     ghost none_left: { pending writer ≡ [] },
 }
@@ -49,7 +42,7 @@ impl<J: Board, R: Wait + Drop> Locked<J, R> {
         alloc: Global,
         head: Head<J>,
         front: Front<J>,
-        policy: Charted,
+        policy: Policy,
         writer: WriteHandle<Posted<J>, Posted<J>, R>,
     ) -> Locked<J, R>
         requires policy { policy ≡ J.first }
@@ -63,10 +56,6 @@ impl<J: Board, R: Wait + Drop> Locked<J, R> {
             front,
             accepted: Vec::new(alloc),
             policy,
-            spares: Spares {
-                last: None,
-                before: None,
-            },
             writer,
         }
     }
@@ -89,13 +78,7 @@ impl<J: Board, R: Wait + Drop> Locked<J, R> {
             refused.error) }
     {
         self.front.soundness();
-        let next = match make_next::<J>(
-            alloc,
-            &self.policy,
-            &mut self.spares,
-            &mut self.accepted,
-            edit,
-        ) {
+        let next = match make_next(alloc, &self.policy, &mut self.accepted, edit) {
             Ok(next) => next,
             Err(error) => {
                 return Err(Refused {
@@ -111,8 +94,7 @@ impl<J: Board, R: Wait + Drop> Locked<J, R> {
         } = next;
         let front = grown(rt, &self.front, &self.head, &ready.edit);
         show(rt, &mut self.writer, Posted::new(shown, front.again()));
-        let before = mem::replace(&mut self.policy, policy);
-        self.spares.add(before.into_policy(), self.accepted.len());
+        self.policy = policy;
         let edited = settle(&mut self.accepted, ready);
         self.front = front.again();
         Ok(Listed { edited, front })
@@ -131,7 +113,7 @@ impl<J: Board, R: Wait + Drop> Locked<J, R> {
         Ok(Version {
             tick,
             edits: self.front.len(),
-            policy: self.policy.policy().try_clone()?,
+            policy: self.policy.try_clone()?,
         })
     }
 }

@@ -4,23 +4,21 @@ ghost use Rattle.vx_policy.specs.Edits.{after};
 ghost use Rattle.vx_region.specs.Subjects.{actor_of};
 
 use crate::board::Board;
-use crate::charted::Charted;
 use crate::front::Front;
 use crate::told::Told;
 use left_right::Absorb;
 use std::alloc::AllocError;
 use std::marker::Model;
-use vx_decide::Verdict;
+use vx_decide::{Decide, Verdict};
 use vx_flag::Action;
 use vx_geom::Pos;
 use vx_policy::Policy;
 use vx_region::Subject;
 
-/// What readers of a desk take: a policy with the land of its regions, and the front of the edits
-/// that led to it. Contracts see it as these edits.
+/// What readers of a desk take: a policy, and the front of the edits that led to it. Contracts see it as these edits.
 #[derive(Drop)]
 pub struct Posted<J: Board> {
-    policy: Charted,
+    policy: Policy,
     front: Front<J>,
 }
 
@@ -38,7 +36,7 @@ impl<J: Board> Model for Posted<J> {
 
 impl<J: Board> Posted<J> {
     /// The policy after the edits of the front.
-    pub fn new(policy: Charted, front: Front<J>) -> Posted<J>
+    pub fn new(policy: Policy, front: Front<J>) -> Posted<J>
         requires { policy ≡ after J.first front }
         ensures { result ≡ front }
     {
@@ -49,7 +47,7 @@ impl<J: Board> Posted<J> {
     pub fn policy(&self) -> &Policy
         ensures { result.now ≡ after J.first self.now }
     {
-        self.policy.policy()
+        &self.policy
     }
 
     /// The front of the edits.

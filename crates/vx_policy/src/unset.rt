@@ -26,7 +26,6 @@ pub(crate) fn all_unset(alloc: Global) -> Result<Vec<Flag>, AllocError>
 
 /// Those of the flags that are set nowhere behind the edit, too. One that was set and is cleared
 /// again is not found: only costs rest on it.
-#[tactic(auto, using(crate::proofs::Silent::unset_stays))]
 pub(crate) fn unset_after(
     alloc: Global,
     regions: &RegionSet,

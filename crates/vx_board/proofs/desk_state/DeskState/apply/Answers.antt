@@ -2,10 +2,9 @@ use Rattle.std.proofs.Common.{◌++◌, ◌∷◌, [], ap, sym, ◌∙◌, map}
 use Rattle.vx_policy.specs.Asked.{asked}
 use Rattle.vx_policy.specs.Edits.{edited}
 use Rattle.vx_policy.proofs.Turns.{after_push, accepted_push}
-use Rattle.vx_board.proofs.Behind.{spare_stays}
 use Rattle.vx_board.proofs.desk_state.DeskState.apply.Goals as goal
 
--- the list and the policy go one edit on together, and the spare stays behind
+-- the list and the policy go one edit on together
 pub invariant_of-self-2 : goal.invariant_of-self-2
 invariant_of-self-2 g c =
     let first = g.J.Naming.first in
@@ -15,5 +14,4 @@ invariant_of-self-2 g c =
     rw list (
       accepted_push first before e c.self.invariant.0 (rw c.self.invariant.1 at c.in_ok-ready.ensures.ok.0),
       c.in_ok-ready.ensures.ok.1 ∙ ap (λ rs. edited rs e) c.self.invariant.1 ∙ sym (after_push first before e),
-      spare_stays first before e c.make_ready.new.spare c.make_ready.ensures.spare,
     )

@@ -54,7 +54,6 @@ impl Judge {
             ≡ verdict self.old.policy (Named name.now.text.bytes) action p }
         ensures same { self.new ≡ self.old }
     {
-        self.cache
-            .ask(self.version.policy.regions(), name, action, p)
+        self.version.policy.ask(&mut self.cache, name, action, p)
     }
 }

@@ -9,7 +9,7 @@ use crate::gate::Gate;
 use crate::workers::Workers;
 use std::alloc::{AllocError, Global};
 use std::thread::Threads;
-use vx_decide::{Decide, Plain, Rule};
+use vx_decide::{Decide, Rule};
 use vx_geom::{Bounds, Pos};
 use vx_piston::Move;
 use vx_policy::Version;
@@ -27,8 +27,7 @@ pub fn fates_in_parts<R: Threads + Sync, G: Gate + Sync>(
     ensures { IfOk result (λ fates.
         AreFates version.now.policy moves.now moves.now fates.items) }
 {
-    let policy = Plain::new(version.policy.regions());
-    let denials = denials(workers, alloc, bounds, &policy, moves)?;
+    let denials = denials(workers, alloc, bounds, &version.policy, moves)?;
     fates_by(alloc, moves, denials.as_slice())
 }
 

@@ -9,7 +9,7 @@ ghost use Rattle.vx_tick.specs.Fates.{IsFate, AreFates};
 use crate::fate::Fate;
 use std::alloc::{AllocError, Global};
 use vx_cause::judge;
-use vx_decide::{Decide, Plain, Rule};
+use vx_decide::{Decide, Rule};
 use vx_geom::Pos;
 use vx_piston::{Claims, Move};
 use vx_policy::Version;
@@ -37,7 +37,7 @@ pub fn fates_under(
     ensures { IfOk result (λ fates.
         AreFates version.now.policy moves.now moves.now fates.items) }
 {
-    fates(alloc, &Plain::new(version.policy.regions()), moves)
+    fates(alloc, &version.policy, moves)
 }
 
 /// The same by what denies each of the moves.

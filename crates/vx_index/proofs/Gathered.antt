@@ -139,7 +139,7 @@ all_gathered rs p chunk here next is within held = record {
   named = λ i there. omega (arith, All-contains (λ j. j < next) here i held.below there, held.named);
   whole = λ i e item inside.
       let shape = shape_at rs i e item in
-      elim (held.whole i (is.told i e.1.shape p (slice_get_within (shapes_of rs) i e.1.shape shape) shape within inside)) [
+      elim (held.whole i (is.patches.told i e.1.shape p (slice_get_within (shapes_of rs) i e.1.shape shape) shape within inside)) [
         | inl there ↦ there
         | inr left ↦ absurd (both_ways false refl left)
       ];

@@ -2,6 +2,8 @@ pub mod Adding
 pub mod Along
 pub mod Edges
 pub mod Gathered
+pub mod Keeping
+pub mod Listed
 pub mod Orders
 pub mod Recalled
 pub mod Renewing

@@ -1,5 +1,5 @@
 -- Questions that are equal by `==` ask the same, and what is kept of verdicts stays what the regions say.
-use Rattle.std.proofs.Common.{◌≡◌, ◌⊎◌, inl, inr, Bool, true, ◌&&◌, bytes_eq, [], Contains, Option, Some, None, IfSome, Result, Ok, Err, OnOk, OnErr, ap, sym, subst, ◌∙◌, arith, rules}
+use Rattle.std.proofs.Common.{◌≡◌, ◌⊎◌, inl, inr, Bool, true, ◌&&◌, bytes_eq, Contains, Option, Some, None, IfSome, Result, Ok, Err, OnOk, OnErr, ap, sym, subst, ◌∙◌, rules}
 use Rattle.std.proofs.lemmas.Bool.{and_parts}
 use Rattle.std.proofs.lemmas.Slice.Eq.{bytes_eq-Decides}
 use Rattle.std.specs.Cmp.{signed_Decides}
@@ -13,10 +13,9 @@ use Rattle.vx_decide.specs.declared.verdict.Verdict.{Verdict}
 use Rattle.vx_flag.specs.contracts.action.Action.{the_type}
 use Rattle.vx_geom.proofs.Positions.{same_pos}
 use Rattle.vx_geom.specs.declared.pos.Pos.{Pos}
-use Rattle.vx_index.specs.Chunks.{AreVerdicts, Verdicts, kept_verdicts, verdict_on}
+use Rattle.vx_index.specs.Verdicts.{AreVerdicts, Verdicts, kept_verdicts, verdict_on}
 use Rattle.vx_index.specs.SameAsked.{IsSameAsked}
 use Rattle.vx_index.specs.declared.asked.Asked.{Asked}
-use Rattle.vx_index.specs.declared.kept.Kept.{Kept}
 use Rattle.vx_region.specs.Regions.{Regions}
 use Rattle.vx_region.specs.Subjects.{Named}
 
@@ -86,18 +85,8 @@ after_put old new asked v (Err x) done not e there =
     inl (subst (λ (cache : LruCache Asked Verdict). Contains cache.entries e) not there)
 
 -- what a cache has is what is kept
-pub entries_are : (kept : Kept) (cache : LruCache Asked Verdict) → Some cache ≡ kept.verdicts → cache.entries ≡ kept_verdicts kept
-entries_are kept cache is = ap (λ (o : Option (LruCache Asked Verdict)). kept_verdicts (record { verdicts = o })) is
-
--- a cache that was just made has nothing
-pub none_at_first : (made : Option (LruCache Asked Verdict)) → IfSome made (λ cache. cache.entries ≡ []) → (cache : LruCache Asked Verdict) → made ≡ Some cache
-    → (e : Asked × Verdict) → Contains cache.entries e → ⊥
-none_at_first None empty cache is e there = cc
-none_at_first (Some made) empty cache is e there =
-    let same : made ≡ cache = cc in
-    let nothing : cache.entries ≡ [] = ap (λ (c : LruCache Asked Verdict). c.entries) (sym same) ∙ empty in
-    let nowhere : Contains [] e = subst (λ es. Contains es e) nothing there in
-    omega (arith, nowhere.1)
+pub entries_are : (kept : Option (LruCache Asked Verdict)) (cache : LruCache Asked Verdict) → Some cache ≡ kept → cache.entries ≡ kept_verdicts kept
+entries_are kept cache is = ap kept_verdicts is
 
 -- what asks the same has the same verdict
 alike_verdict : (rs : Regions) (a b : Asked) → IsSameAsked a b → verdict_on rs b ≡ verdict_on rs a

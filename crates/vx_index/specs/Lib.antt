@@ -6,3 +6,4 @@ pub mod SameAsked
 pub mod Shapes
 pub mod Squares
 pub mod Touching
+pub mod Verdicts

@@ -1,6 +1,7 @@
 -- The regions of a chunk, kept as patches of columns.
-use Rattle.std.specs.Prelude.{◌≡◌, ℕ, pos, ◌+◌, ◌-◌, ◌^◌, ◌<◌, ◌≤◌, Bool, true, false, ◌&&◌, nat_eq, slice_get, List, [], ◌∷◌, ◌++◌, Option, Some, None}
+use Rattle.std.specs.Prelude.{◌≡◌, ℕ, pos, ◌+◌, ◌-◌, ◌^◌, ◌<◌, ◌≤◌, Bool, true, false, ◌&&◌, nat_eq, slice_get, List, [], ◌∷◌, ◌++◌, Contains, Option, Some, None}
 use Rattle.std.specs.List.{list_any, AllByRecursion}
+use Rattle.std.specs.List.Sorted.{IsStrictlyIncreasing}
 use Rattle.vx_geom.specs.declared.extent.Extent.{Extent}
 use Rattle.vx_geom.specs.declared.pos.Pos.{Pos}
 use Rattle.vx_geom.specs.Extent.{is_within, extent_of, meets}
@@ -47,6 +48,16 @@ are_near patches i p = list_any (is_near i p) patches
 abbrev pub AreInOrder : ℕ → List Patch → Type 0
 AreInOrder i [] = Unit {0}
 AreInOrder i (patch ∷ rest) = (i ≤ patch.place) × AreInOrder patch.place rest
+
+-- some patch is of the region at that place
+abbrev pub has_place : List Patch → ℕ → Bool
+has_place patches i = list_any (λ patch. nat_eq i patch.place) patches
+
+-- the places of the regions that these patches are of, each once and in order
+pub record ArePlacesOf (patches : List Patch) (places : List ℕ) : Type 0 where
+  pub ascending : IsStrictlyIncreasing places
+  pub whole : (i : ℕ) → has_place patches i ≡ true → Contains places i
+  pub own : (i : ℕ) → Contains places i → has_place patches i ≡ true
 
 -- where a shape before the place i contains a position of these columns, a patch of it is near
 abbrev pub AreTold : List Outline → Extent → ℕ → List Patch → Type 0

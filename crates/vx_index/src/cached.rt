@@ -21,13 +21,13 @@ pub struct Cached<'a> {
 
 impl<'a> Model for Cached<'a> {
     ghost use Rattle.vx_region.specs.Regions.{Regions};
-    ghost use Rattle.vx_index.specs.Chunks.{AreVerdicts, kept_verdicts};
+    ghost use Rattle.vx_index.specs.Verdicts.{AreVerdicts};
 
     ghost Value = { Regions };
 
     ghost view = { λ a. a.indexed };
 
-    ghost invariant = { λ a. AreVerdicts a.indexed (kept_verdicts a.kept) };
+    ghost invariant = { λ a. AreVerdicts a.indexed a.kept };
 }
 
 impl<'a> Cached<'a> {

@@ -1,8 +1,13 @@
-ghost use Rattle.std.specs.Prelude.{◌≡◌, ◌+◌, ◌^◌, ◌<◌, ◌≤◌, ◌++◌, true, nat_lt, length, filter, map, remove, unsigned_abs, IfOk, IfSome, OnOk};
+ghost use Rattle.std.specs.Prelude.{◌≡◌, ◌+◌, ◌^◌, ◌<◌, ◌≤◌, [], ◌++◌, true, nat_lt, length, filter, map, remove, unsigned_abs, List, IfOk, IfSome, OnOk};
+ghost use Rattle.std.specs.List.{All};
 ghost use Rattle.vx_geom.specs.Extent.{is_within};
+ghost use Rattle.vx_geom.specs.Outline.{Outline};
+ghost use Rattle.vx_region.specs.Subjects.{actor_of};
 ghost use Rattle.vx_decide.specs.Candidates.{HoldCandidates};
+ghost use Rattle.vx_decide.specs.Unset.{IsUnset};
+ghost use Rattle.vx_decide.specs.Verdict.{verdict};
 ghost use Rattle.vx_index.specs.Chunks.{IsChunk, TellsOf};
-ghost use Rattle.vx_index.specs.Patches.{AreInOrder, square, moved_down};
+ghost use Rattle.vx_index.specs.Patches.{AreInOrder, AreOf, ArePlacesOf, square, moved_down};
 ghost use Rattle.vx_index.specs.Plots.{EndsBefore};
 ghost use Rattle.vx_index.specs.Shapes.{shapes_of, with_at};
 ghost use Rattle.vx_index.specs.Squares.{IsSquare};
@@ -11,17 +16,25 @@ use crate::patch::Patch;
 use crate::patches::{add_patches, square};
 use arrayvec::ArrayVec;
 use std::alloc::{AllocError, Global};
+use vx_decide::{Verdict, decide_among};
+use vx_flag::{Action, Flag};
 use vx_geom::{Extent, Pos, Shape};
-use vx_region::RegionSet;
+use vx_region::{RegionSet, Subject};
 
-/// So many regions at one place are found by a chunk.
-pub(crate) const MAX_HERE: usize = 32;
+/// So many regions near a place are gathered before they are asked; where there are more, all
+/// regions of the chunk are asked.
+const MAX_HERE: usize = 64;
+
+/// What so few regions decide costs about as much as to look it up among verdicts that are kept.
+const FEW: usize = 12;
 
 /// The regions that lie in a chunk, a square of 16 by 16 columns, in the order of their numbers.
 #[derive(Drop)]
 pub(crate) struct Chunk {
     columns: Extent,
     patches: Vec<Patch>,
+    // Those of all regions of the chunk, each once and in order.
+    places: Vec<u32>,
 }
 
 impl Chunk {
@@ -43,9 +56,20 @@ impl Chunk {
             let (_, region) = regions.nth(place);
             add_patches(&mut patches, place, region.shape(), west, north)?;
         }
+        Chunk::made(alloc, square(west, north), patches)
+    }
+
+    // The chunk of these columns in which these patches lie.
+    fn made(alloc: Global, columns: Extent, patches: Vec<Patch>) -> Result<Chunk, AllocError>
+        ensures of { (shapes : List Outline) → AreOf shapes columns (length shapes) patches.items
+            → IfOk result (TellsOf shapes) }
+        ensures columns { IfOk result (λ chunk. chunk.columns ≡ columns) }
+    {
+        let places = places_of(alloc, &patches)?;
         Ok(Chunk {
-            columns: square(west, north),
+            columns,
             patches,
+            places,
         })
     }
 
@@ -56,22 +80,75 @@ impl Chunk {
         self.columns.holds(p)
     }
 
-    /// The places of the regions that may contain a position of the chunk, in order; `None` where
-    /// they are too many. It takes no memory.
-    pub(crate) fn here(&self, regions: &RegionSet, p: Pos) -> Option<ArrayVec<u32, MAX_HERE>>
+    /// The verdict of the policy of these regions at a place in the chunk; these flags are set
+    /// nowhere. It asks the regions near the place, and where those are too many all of the chunk.
+    /// It takes no memory.
+    pub(crate) fn decide(
+        &self,
+        regions: &RegionSet,
+        unset: &[Flag],
+        subject: &Subject,
+        action: Action,
+        p: Pos,
+    ) -> Verdict
         requires of { IsChunk regions.now self.now }
         requires within { is_within self.now.columns p ≡ true }
-        ensures { IfSome result (λ here. HoldCandidates regions.now p here.items) }
+        requires unset { All (IsUnset regions.now) unset.now }
+        ensures { result ≡ verdict regions.now (actor_of subject.now) action p }
     {
-        let mut here = ArrayVec::new();
+        let mut here: ArrayVec<u32, MAX_HERE> = ArrayVec::new();
+        if self.gather(&mut here, regions, p) {
+            return decide_among(regions, &here, unset, subject, action, p);
+        }
+        decide_among(regions, &self.places, unset, subject, action, p)
+    }
+
+    /// The verdict of these regions where few of them are near the place; `None` where more are.
+    pub(crate) fn decide_by_few(
+        &self,
+        regions: &RegionSet,
+        unset: &[Flag],
+        subject: &Subject,
+        action: Action,
+        p: Pos,
+    ) -> Option<Verdict>
+        requires of { IsChunk regions.now self.now }
+        requires within { is_within self.now.columns p ≡ true }
+        requires unset { All (IsUnset regions.now) unset.now }
+        ensures { IfSome result
+            (λ answer. answer ≡ verdict regions.now (actor_of subject.now) action p) }
+    {
+        let mut here: ArrayVec<u32, FEW> = ArrayVec::new();
+        if !self.gather(&mut here, regions, p) {
+            return None;
+        }
+        Some(decide_among(regions, &here, unset, subject, action, p))
+    }
+
+    // Adds the places of the regions that may contain a position of the chunk, in order. It stops
+    // and answers false where there is no room for all.
+    fn gather<const ROOM: usize>(
+        &self,
+        here: &mut ArrayVec<u32, ROOM>,
+        regions: &RegionSet,
+        p: Pos,
+    ) -> bool
+        requires of { IsChunk regions.now self.now }
+        requires within { is_within self.now.columns p ≡ true }
+        requires empty { here.old.items ≡ [] }
+        ensures { result ≡ true → HoldCandidates regions.now p here.new.items }
+    {
+        let _ = regions;
         let mut next: u32 = 0;
         for patch in &self.patches {
             if next <= patch.place && patch.columns.holds(p) {
-                here.try_push(patch.place).ok()?;
+                let Ok(()) = here.try_push(patch.place) else {
+                    return false;
+                };
                 next = patch.place + 1;
             }
         }
-        Some(here)
+        true
     }
 
     /// The chunk's columns.
@@ -114,10 +191,7 @@ impl Chunk {
         let mut patches = self.before(alloc, place)?;
         add_patches(&mut patches, place, shape, west, north)?;
         self.add_behind(&mut patches, place)?;
-        Ok(Chunk {
-            columns: self.columns,
-            patches,
-        })
+        Chunk::made(alloc, self.columns, patches)
     }
 
     /// The chunk of the same columns without the region at that place. Those behind it move down.
@@ -135,10 +209,7 @@ impl Chunk {
         let _ = regions;
         let mut patches = self.before(alloc, place)?;
         self.add_moved(&mut patches, place)?;
-        Ok(Chunk {
-            columns: self.columns,
-            patches,
-        })
+        Chunk::made(alloc, self.columns, patches)
     }
 
     // Where the chunk begins, from the west and from the north.
@@ -193,6 +264,22 @@ impl Chunk {
         }
         Ok(())
     }
+}
+
+// The places of the regions that these patches are of, each once and in order.
+fn places_of(alloc: Global, patches: &[Patch]) -> Result<Vec<u32>, AllocError>
+    ensures { IfOk result (λ places. AreInOrder 0 patches.now
+        → ArePlacesOf patches.now places.items) }
+{
+    let mut places = Vec::new(alloc);
+    let mut next: u64 = 0;
+    for patch in patches {
+        if next <= u64::from(patch.place) {
+            places.push(patch.place)?;
+            next = behind(patch.place);
+        }
+    }
+    Ok(places)
 }
 
 // The place behind that one.

@@ -2,16 +2,13 @@ ghost use Rattle.std.specs.Prelude.{◌≡◌, ◌<◌, ◌≤◌, true, IfOk, I
 ghost use Rattle.vx_geom.specs.Sizes.{sector_count};
 ghost use Rattle.std.specs.List.{All};
 ghost use Rattle.vx_geom.specs.Extent.{is_within};
-ghost use Rattle.vx_decide.specs.Candidates.{HoldCandidates};
 ghost use Rattle.vx_index.specs.Chunks.{IsChunk};
 
-use crate::chunk::{Chunk, MAX_HERE};
-use crate::deciding::decided;
+use crate::chunk::Chunk;
 use crate::patches::SIDE;
-use arrayvec::ArrayVec;
 use std::alloc::{AllocError, Global};
 use std::marker::Model;
-use vx_decide::{Decide, Verdict};
+use vx_decide::{Decide, Plain, Verdict};
 use vx_flag::Action;
 use vx_geom::{Bounds, Pos};
 use vx_region::{RegionSet, Subject};
@@ -64,15 +61,6 @@ impl<'a> Indexed<'a> {
         *self.chunks.allocator()
     }
 
-    // The places of the regions that may contain the position, where it lies in the world and they
-    // are few enough.
-    fn here(&self, p: Pos) -> Option<ArrayVec<u32, MAX_HERE>>
-        ensures { IfSome result (λ here. HoldCandidates self.now p here.items) }
-    {
-        let chunk = self.chunk_at(p)?;
-        chunk.here(self.regions, p)
-    }
-
     // The chunk that holds the position.
     fn chunk_at(&self, p: Pos) -> Option<&Chunk>
         ensures of { IfSome result (λ chunk. IsChunk self.now chunk.now) }
@@ -95,7 +83,10 @@ impl Decide for Indexed<'_> {
     ghost policy = { λ a. a };
 
     fn decide(&self, subject: &Subject, action: Action, p: Pos) -> Verdict {
-        decided(self.regions, &self.here(p), &[], subject, action, p)
+        match self.chunk_at(p) {
+            Some(chunk) => chunk.decide(self.regions, &[], subject, action, p),
+            None => Plain::new(self.regions).decide(subject, action, p),
+        }
     }
 }
 

@@ -1,21 +1,21 @@
-ghost use Rattle.std.specs.Prelude.{◌≡◌, ◌+◌, ◌^◌, ◌<◌, ◌≤◌, ◌++◌, ◌∷◌, [], length, remove, slice_set, IfOk, IfSome};
-ghost use Rattle.vx_decide.specs.Candidates.{HoldCandidates};
+ghost use Rattle.std.specs.Prelude.{◌≡◌, ◌+◌, ◌^◌, ◌<◌, ◌≤◌, ◌++◌, ◌∷◌, [], true, length, remove, slice_set, Contains, IfOk, IfSome};
+ghost use Rattle.std.specs.List.{All};
+ghost use Rattle.vx_geom.specs.Extent.{is_within};
+ghost use Rattle.vx_decide.specs.Unset.{IsUnset};
 ghost use Rattle.vx_decide.specs.Verdict.{verdict};
 ghost use Rattle.vx_index.specs.Lands.{IsLandOf, joined};
 ghost use Rattle.vx_index.specs.Shapes.{shapes_of, with_at};
 ghost use Rattle.vx_region.specs.Subjects.{actor_of};
 
-use crate::chunk::MAX_HERE;
-use crate::deciding::decided;
+use crate::chunk::Chunk;
 use crate::patches::SIDE;
 use crate::row::{ACROSS, Row};
 use crate::touched::Touched;
-use arrayvec::ArrayVec;
 use std::alloc::{AllocError, Global};
 use std::marker::Model;
 use std::sync::Arc;
-use vx_decide::Verdict;
-use vx_flag::Action;
+use vx_decide::{Decide, Plain, Verdict};
+use vx_flag::{Action, Flag};
 use vx_geom::{Pos, Shape};
 use vx_region::{RegionSet, Subject};
 
@@ -148,27 +148,57 @@ impl Land {
         Land::made(alloc, rows)
     }
 
-    /// Whether the subject may do this at the place, and the rule that says so, by these regions. It
-    /// costs those near the place, and takes no memory. Outside the widest world it walks all.
-    pub fn decide(&self, regions: &RegionSet, subject: &Subject, action: Action, p: Pos) -> Verdict
-        requires { IsLandOf (shapes_of regions.now) self.now }
+    /// Whether the subject may do this at the place, and the rule that says so, by these regions;
+    /// these flags are set nowhere. It costs the regions near the place, or those of its chunk
+    /// where many are near, and takes no memory. Outside the widest world it walks all.
+    pub fn decide(
+        &self,
+        regions: &RegionSet,
+        unset: &[Flag],
+        subject: &Subject,
+        action: Action,
+        p: Pos,
+    ) -> Verdict
+        requires land { IsLandOf (shapes_of regions.now) self.now }
+        requires unset { All (IsUnset regions.now) unset.now }
         ensures { result ≡ verdict regions.now (actor_of subject.now) action p }
     {
-        decided(regions, &self.here(regions, p), &[], subject, action, p)
+        match self.chunk_at(p) {
+            Some(chunk) => chunk.decide(regions, unset, subject, action, p),
+            None => Plain::new(regions).decide(subject, action, p),
+        }
     }
 
-    // The places of the regions that may contain the position, where it lies in the widest world and
-    // they are few enough.
-    fn here(&self, regions: &RegionSet, p: Pos) -> Option<ArrayVec<u32, MAX_HERE>>
-        requires { IsLandOf (shapes_of regions.now) self.now }
-        ensures { IfSome result (λ here. HoldCandidates regions.now p here.items) }
+    /// The verdict of these regions where few of them are near the place; `None` where more are, and
+    /// outside the widest world.
+    pub(crate) fn decide_by_few(
+        &self,
+        regions: &RegionSet,
+        unset: &[Flag],
+        subject: &Subject,
+        action: Action,
+        p: Pos,
+    ) -> Option<Verdict>
+        requires land { IsLandOf (shapes_of regions.now) self.now }
+        requires unset { All (IsUnset regions.now) unset.now }
+        ensures { IfSome result
+            (λ answer. answer ≡ verdict regions.now (actor_of subject.now) action p) }
+    {
+        self.chunk_at(p)?
+            .decide_by_few(regions, unset, subject, action, p)
+    }
+
+    // The chunk that holds the position, where that lies in the widest world.
+    fn chunk_at(&self, p: Pos) -> Option<&Chunk>
+        ensures among { IfSome result (λ chunk. Contains self.now chunk.now) }
+        ensures within { IfSome result (λ chunk. is_within chunk.now.columns p ≡ true) }
     {
         let (row, column) = indices_of(p)?;
         let chunk = self.rows.get(row)?.chunk(column)?;
         if !chunk.holds(p) {
             return None;
         }
-        chunk.here(regions, p)
+        Some(chunk)
     }
 }
 

@@ -5,7 +5,6 @@ mod asked;
 mod cache;
 mod cached;
 mod chunk;
-mod deciding;
 mod indexed;
 mod kept;
 mod land;

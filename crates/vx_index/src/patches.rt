@@ -11,9 +11,6 @@ use vx_geom::{Extent, Shape};
 /// How many columns a side of a chunk has.
 pub(crate) const SIDE: u32 = 16;
 
-/// No chunk begins further east or south.
-pub(crate) const MAX_EDGE: u32 = 256;
-
 /// The columns of the chunk that begins at `west` and `north`.
 pub(crate) fn square(west: u32, north: u32) -> Extent
     requires west { west ≤ 256 }

@@ -67,8 +67,8 @@ impl Plot {
         })
     }
 
-    /// The plot of the same columns, where that shape stands at a place of the regions or behind all
-    /// of them. Where neither it nor the shape that stood there lies in the plot, the chunk is
+    /// The plot of the same columns, where that shape stands at a place of the regions or behind
+    /// all of them. Where neither it nor the shape that stood there lies in the plot, the chunk is
     /// shared.
     pub(crate) fn put(
         &self,

@@ -23,8 +23,8 @@ returns-clause-of c =
     let items = c.loop-place.patches.items in
     let all : c.loop-place.place ≡ length shapes =
     omega (arith, c.loop-place-test.false, c.loop-place.auto.place-end, c.count-place-end.ensures, shape_count c.args.regions.now) in
-    subst (λ (e : Extent). AreOf shapes e (length shapes) items) (sym c.square.ensures)
-    (subst (λ i. AreOf shapes (square c.args.west c.args.north) i items) all c.loop-place.invariant)
+    c.made.ensures.of shapes (subst (λ (e : Extent). AreOf shapes e (length shapes) items) (sym c.square.ensures)
+    (subst (λ i. AreOf shapes (square c.args.west c.args.north) i items) all c.loop-place.invariant))
 
 pub returns-in_err-add_patches-clause-of : goal.returns-in_err-add_patches-clause-of
 returns-in_err-add_patches-clause-of c = IfOk-from_err c.from_residual.result _ c.from_residual.ensures.0

@@ -9,5 +9,5 @@ returns c =
     let cache = c.in_ok-as_ref.field-0.now in
     let asked = c.args.asked.now in
     subst (λ es. IfSome c.copied.result (λ v. (same : Asked) × Contains es (same, v) × IsSameAsked asked same))
-    (entries_are c.args.self.now cache c.in_ok-as_ref.ensures.value)
+    (entries_are c.self.inside.verdicts cache c.in_ok-as_ref.ensures.value ∙ c.self.view_is)
     (found_alike cache.entries asked c.copied.result (c.copied.ensures ∙ c.peek.ensures))

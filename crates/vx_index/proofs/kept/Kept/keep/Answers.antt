@@ -1,18 +1,28 @@
-use Rattle.std.proofs.Common.{Contains, inl, inr, subst}
-use Rattle.vx_index.proofs.Recalled.{after_put, entries_are, none_at_first}
-use Rattle.vx_index.specs.Chunks.{kept_verdicts}
+use Rattle.std.proofs.Common.{◌≡◌, Contains, inl, inr, subst, ◌∙◌}
+use Rattle.vx_index.proofs.Keeping.{few_after, if_kept}
+use Rattle.vx_index.proofs.Recalled.{after_put, entries_are, same_asked}
+use Rattle.vx_index.specs.Verdicts.{kept_verdicts}
 use Rattle.vx_index.proofs.kept.Kept.keep.Goals as goal
-use Rattle.vx_index.proofs.kept.Kept.keep.Goals.{then-is_none+in-Some-1, then-is_none+in-None-1, else-is_none}
+use Rattle.vx_index.proofs.kept.Kept.keep.Goals.{in-Some, in_default}
 
-pub returns-in-Some : goal.returns-in-Some
-returns-in-Some c e there =
-    let cache = c.in-Some.verdicts in
-    let was_kept : Contains cache.entries e → Contains (kept_verdicts c.args.self.now) e = λ was. elim c.if-is_none.branch [
-      | then-is_none+in-Some-1 w ↦ absurd (none_at_first w.empty.result w.empty.ensures cache (cc) e was)
-      | then-is_none+in-None-1 w ↦ absurd (none_at_first w.empty.result w.empty.ensures cache (cc) e was)
-      | else-is_none w ↦ subst (λ es. Contains es e) (entries_are c.args.self.now cache (cc)) was
-    ] in
-    elim (after_put cache c.put.new.self c.args.asked.now c.args.verdict c.put.result c.put.ensures.entries c.put.ensures.err e there) [
-      | inl was ↦ inl (was_kept was)
-      | inr put ↦ inr put
+pub invariant_of-self : goal.invariant_of-self
+invariant_of-self c = elim c.match-self.branch [
+  | in-Some w ↦
+      rw w.self-inside-is (few_after same_asked w.in-Some.verdicts w.put.new.self c.args.asked.now c.args.verdict w.put.result
+      w.put.ensures.entries w.put.ensures.err (if_kept c.self.inside.verdicts w.in-Some.verdicts (cc) c.self.invariant))
+  | in_default w ↦ rw w.self-inside-is c.self.invariant
+]
+
+pub returns : goal.returns
+returns c e there =
+    let was : kept_verdicts c.self.inside.verdicts ≡ c.args.self.now = c.self.view_is ∙ c.prepare.ensures in
+    elim c.match-self.branch [
+      | in-Some w ↦
+          let cache = w.in-Some.verdicts in
+          let now : Contains w.put.new.self.entries e = rw w.self-inside-is at there in
+          elim (after_put cache w.put.new.self c.args.asked.now c.args.verdict w.put.result w.put.ensures.entries w.put.ensures.err e now) [
+            | inl before ↦ inl (subst (λ es. Contains es e) (entries_are c.self.inside.verdicts cache (cc) ∙ was) before)
+            | inr put ↦ inr put
+          ]
+      | in_default w ↦ inl (subst (λ es. Contains es e) was (rw w.self-inside-is at there))
     ]

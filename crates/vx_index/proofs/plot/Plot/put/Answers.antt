@@ -14,6 +14,9 @@ returns-then-not-touches-clause-of c =
     let here = c.args.self.now in
     let same : c.columns.result.now ≡ here.columns = search rules in
     copy_holds (TellsOf (with_at shapes c.args.place c.args.shape.now)) here c.try_clone.result c.try_clone.ensures
-    (put_elsewhere shapes here.columns c.args.place c.args.shape.now c.requires.within c.requires.few here.patches.items c.requires.of
-    c.args.touched.now c.requires.touched
-    (ap (λ (e : Extent). touches c.args.touched.now e) (sym same) ∙ sym c.touches.ensures ∙ c.if-not-touches.true))
+    (record {
+      patches = put_elsewhere shapes here.columns c.args.place c.args.shape.now c.requires.within c.requires.few here.patches.items c.requires.of.patches
+          c.args.touched.now c.requires.touched
+          (ap (λ (e : Extent). touches c.args.touched.now e) (sym same) ∙ sym c.touches.ensures ∙ c.if-not-touches.true);
+      places = c.requires.of.places;
+    })

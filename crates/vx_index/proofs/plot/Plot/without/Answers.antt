@@ -12,5 +12,8 @@ returns-then-end-from-clause-of c =
     let shapes = shapes_of c.args.regions.now in
     let here = c.args.self.now in
     copy_holds (TellsOf (remove shapes c.args.place)) here c.try_clone.result c.try_clone.ensures
-    (gone_elsewhere shapes here.columns c.args.place c.requires.within here.patches.items c.requires.of
-    c.end.result c.end.ensures (omega (arith, c.if-end-from.true, c.from.ensures)))
+    (record {
+      patches = gone_elsewhere shapes here.columns c.args.place c.requires.within here.patches.items c.requires.of.patches
+          c.end.result c.end.ensures (omega (arith, c.if-end-from.true, c.from.ensures));
+      places = c.requires.of.places;
+    })

@@ -8,7 +8,8 @@ use Rattle.vx_block.specs.declared.cell.Cell.TheVariants as cell
 use Rattle.vx_block.specs.Repeating.{Repeating}
 use Rattle.vx_block.specs.Sides.{side_back, side_right}
 use Rattle.vx_block.specs.States.{mount_dir, side_dir}
-use Rattle.vx_power.specs.Local.{shown}
+use Rattle.vx_power.specs.Laws.{dust_level}
+use Rattle.vx_power.specs.Local.{shown, AreLevelsNear}
 use Rattle.vx_power.proofs.Local.{Near, Shows, near_from, shows, shows_from, here, is_powered_same, activates_same, is_active_same}
 use Rattle.vx_power.proofs.Showing.{same_told}
 use Rattle.vx_part.specs.Laws.{PartsRead, PartsReadShown}
@@ -68,3 +69,9 @@ pub parts_read : PartsRead
 parts_read w v a b p cells levels =
     let near = near_from w v 4 p cells in
     part_same w v a b p (shows w v 4 p near) (near_from a b 2 p levels) (here w v 4 p near)
+
+-- a part by the levels near it is that by the levels of the map
+pub part_by : (w : Pos → Cell) (level : Pos → ℕ) (p : Pos) → AreLevelsNear w 2 p level
+    → next_part w level p ≡ next_part w (dust_level w) p
+unfolding AreLevelsNear
+part_by w level p near = parts_read w w level (dust_level w) p (λ q among. refl) near

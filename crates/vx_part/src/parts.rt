@@ -3,6 +3,8 @@ ghost use Rattle.std.specs.Prelude.{◌≡◌, not};
 ghost use Rattle.vx_block.specs.States.{mount_dir};
 ghost use Rattle.vx_cells.specs.Maps.{cell_on};
 ghost use Rattle.vx_geom.specs.Neighbor.{neighbor};
+ghost use Rattle.vx_power.specs.Laws.{dust_level};
+ghost use Rattle.vx_power.specs.Local.{AreLevelsNear};
 ghost use Rattle.vx_power.specs.Signals.{is_powered};
 ghost use Rattle.vx_part.specs.Parts.{next_lamp, next_of, next_part};
 
@@ -13,9 +15,12 @@ use vx_geom::Pos;
 use vx_power::{Leveled, active, powered};
 
 /// What stands at a position after the tick, by the map as it begins and the level of its dust.
-/// What is no part stays, and so do pistons, which moves change. It takes no memory.
+/// What is no part stays, and so do pistons, which moves change. It is as the rules say where the
+/// levels near are those of the map, and takes no memory.
 pub fn next_part<L: Leveled>(map: &Frozen<'_>, levels: &L, p: Pos) -> Cell
-    ensures { result ≡ next_part (cell_on map.now) (L.level levels.now) p }
+    ensures by_levels { result ≡ next_part (cell_on map.now) (L.level levels.now) p }
+    ensures exact { AreLevelsNear (cell_on map.now) 2 p (L.level levels.now)
+        → result ≡ next_part (cell_on map.now) (dust_level (cell_on map.now)) p }
 {
     next_of(map, levels, p, map.cell(p))
 }

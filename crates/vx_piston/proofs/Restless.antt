@@ -4,9 +4,10 @@ use Rattle.vx_block.specs.declared.cell.Cell.{Cell}
 use Rattle.vx_block.specs.declared.cell.Cell.TheVariants.{Piston}
 use Rattle.vx_cells.specs.Maps.{MapData, cell_on}
 use Rattle.vx_geom.specs.declared.pos.Pos.{Pos}
-use Rattle.vx_power.specs.Local.{within_steps, AreAlike, ShowAlike}
+use Rattle.vx_power.specs.Laws.{dust_level}
+use Rattle.vx_power.specs.Local.{within_steps, AreAlike, ShowAlike, AreLevelsNear}
 use Rattle.vx_power.specs.Signals.{is_active}
-use Rattle.vx_power.proofs.Local.{activity_sees_shown}
+use Rattle.vx_power.proofs.Local.{activity_sees_shown, activity_by}
 use Rattle.vx_piston.specs.Laws.{RestlessReads, OthersStay}
 use Rattle.vx_piston.specs.Moves.{pushing, drawing, move_of, candidate, restless_as, is_restless}
 
@@ -37,3 +38,17 @@ module _ (m : MapData) (level : Pos → ℕ) (p : Pos) where
 pub others_stay : OthersStay
 unfolding is_restless candidate
 others_stay m level p is = unmoved m level p (cell_on m p) is
+
+-- a move by the levels near its piston is that by the levels of the map
+module _ (m : MapData) (level : Pos → ℕ) (p : Pos) (near : AreLevelsNear (cell_on m) 2 p level) where
+  move_by : (c : Cell) → move_of m level p c ≡ move_of m (dust_level (cell_on m)) p c
+  move_by (Piston d sticky false) =
+      ap (λ b. if b then pushing m d p else None) (activity_by (cell_on m) level (Some d) p near)
+  move_by (Piston d sticky true) =
+      ap (λ b. if b then None else Some (drawing m d sticky p))
+      (activity_by (cell_on m) level (Some d) p near)
+  move_by _ = refl
+
+  pub candidate_by : candidate m level p ≡ candidate m (dust_level (cell_on m)) p
+  unfolding candidate
+  candidate_by = move_by (cell_on m p)

@@ -5,6 +5,8 @@ ghost use Rattle.vx_cells.specs.Maps.{cell_on};
 ghost use Rattle.vx_geom.specs.Neighbor.{neighbor};
 ghost use Rattle.vx_geom.specs.Sizes.{is_inside};
 ghost use Rattle.vx_geom.specs.declared.pos.Pos.{Pos};
+ghost use Rattle.vx_power.specs.Laws.{dust_level};
+ghost use Rattle.vx_power.specs.Local.{AreLevelsNear};
 ghost use Rattle.vx_piston.specs.Moves.{most_pushed, row, if_inside, pulled, pushing, drawing, candidate, is_restless};
 
 use crate::moves::{MAX_CELLS, Move};
@@ -17,9 +19,12 @@ use vx_power::{Leveled, active};
 // What stands before a piston that pushes is at most so many cells, the end of the row among them.
 const MAX_ROW: u8 = 13;
 
-/// The move of the piston at a position, if it would make one. It takes no memory.
+/// The move of the piston at a position, if it would make one. It is as the rules say where the
+/// levels near are those of the map, and takes no memory.
 pub fn candidate<L: Leveled>(map: &Frozen<'_>, levels: &L, p: Pos) -> Option<Move>
-    ensures { result ≡ candidate map.now (L.level levels.now) p }
+    ensures by_levels { result ≡ candidate map.now (L.level levels.now) p }
+    ensures exact { AreLevelsNear (cell_on map.now) 2 p (L.level levels.now)
+        → result ≡ candidate map.now (dust_level (cell_on map.now)) p }
 {
     if is_restless(map, levels, p, &map.cell(p)) {
         asked_by(map, p)

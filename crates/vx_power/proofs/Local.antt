@@ -13,8 +13,11 @@ use Rattle.vx_block.specs.Components.{is_dust}
 use Rattle.vx_block.specs.Conductors.{conducts}
 use Rattle.vx_block.specs.Sides.{side_back, side_right}
 use Rattle.vx_block.specs.States.{side_dir}
+use Rattle.vx_cells.specs.Maps.{MapData, cell_on}
 use Rattle.vx_power.specs.Dust.{beside, over, under, links_beside, links_up, links_down, links_on, links, is_joined, joins, points}
-use Rattle.vx_power.specs.Local.{around, within_steps, AreAlike, shown, ShowAlike, DustSees, PowerSees, ActivitySees, DustSeesShown, PowerSeesShown, ActivitySeesShown}
+use Rattle.vx_power.specs.Laws.{dust_level}
+use Rattle.vx_power.specs.Levels.{AreAllLevels}
+use Rattle.vx_power.specs.Local.{around, within_steps, AreAlike, shown, ShowAlike, DustSees, PowerSees, ActivitySees, DustSeesShown, PowerSeesShown, ActivitySeesShown, AreLevelsNear}
 use Rattle.vx_power.specs.Signals.{gives, drives, drives_from, is_driven, is_strong, feeds_from, has_feeder, is_fed, reaches, dust_powers, is_dust_powered, is_powered, activates, is_front, is_active}
 use Rattle.vx_power.specs.Walks.{IsAmong}
 use Rattle.vx_power.proofs.Linking.{among_left, among_right}
@@ -210,3 +213,21 @@ power_sees w v a b p cells levels =
 pub activity_sees : ActivitySees
 activity_sees w v a b front p cells levels =
     activity_sees_shown w v a b front p (alike_shown w v (within_steps 4 p) cells) levels
+
+-- the levels of all dust of a map are those near each position
+pub all_near : (m : MapData) (level : Pos → ℕ) → AreAllLevels m level → (n : ℕ) (p : Pos)
+    → AreLevelsNear (cell_on m) n p level
+unfolding AreLevelsNear
+all_near m level same n p q among = same q
+
+-- power and activity by the levels near a position are those of the map
+pub power_by : (w : Pos → Cell) (level : Pos → ℕ) (p : Pos) → AreLevelsNear w 1 p level
+    → is_powered w level p ≡ is_powered w (dust_level w) p
+unfolding AreLevelsNear
+power_by w level p near = power_sees w w level (dust_level w) p (λ q among. refl) near
+
+pub activity_by : (w : Pos → Cell) (level : Pos → ℕ) (front : Option Dir) (p : Pos) → AreLevelsNear w 2 p level
+    → is_active w level front p ≡ is_active w (dust_level w) front p
+unfolding AreLevelsNear
+activity_by w level front p near =
+    activity_sees w w level (dust_level w) front p (λ q among. refl) near

@@ -1,10 +1,11 @@
 -- One walk that asks two questions of each neighbor.
-use Rattle.std.proofs.Common.{◌≡◌, ℕ, Bool, true, false, ◌||◌, List, [], ◌∷◌, refl, ap, ◌∙◌}
+use Rattle.std.proofs.Common.{◌≡◌, ℕ, Bool, true, false, ◌&&◌, ◌||◌, List, [], ◌∷◌, refl, ap, ◌∙◌}
 use Rattle.std.specs.List.{list_any}
 use Rattle.vx_geom.specs.Dirs.{all_dirs}
 use Rattle.vx_geom.specs.declared.pos.Pos.{Pos}
 use Rattle.vx_block.specs.declared.cell.Cell.{Cell}
-use Rattle.vx_power.specs.Signals.{drives_from, is_driven, dust_powers, is_dust_powered, is_source, has_source}
+use Rattle.vx_block.specs.Conductors.{conducts}
+use Rattle.vx_power.specs.Signals.{drives_from, is_driven, dust_powers, is_dust_powered, is_powered, is_source, has_source}
 
 either_of : (a b c d : Bool) → ((a || b) || (c || d)) ≡ ((a || c) || (b || d))
 either_of true b c d = refl
@@ -25,3 +26,10 @@ pub sources : (w : Pos → Cell) (level : Pos → ℕ) (p : Pos)
     → has_source w level p ≡ (is_driven w p || is_dust_powered w level p)
 unfolding has_source is_source is_driven is_dust_powered
 sources w level p = any_of_two (drives_from w p) (dust_powers w level p) all_dirs
+
+-- a conductor is powered where it has a source
+pub conductor_powered : (w : Pos → Cell) (level : Pos → ℕ) (p : Pos) → true ≡ conducts (w p)
+    → has_source w level p ≡ is_powered w level p
+unfolding is_powered
+conductor_powered w level p is =
+    sources w level p ∙ ap (λ b. b && (is_driven w p || is_dust_powered w level p)) is

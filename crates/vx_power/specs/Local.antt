@@ -37,6 +37,10 @@ abbrev pub DustSees : Type 0
 DustSees = (w v : Pos → Cell) (p : Pos) → AreAlike (sees p) w v
     → (is_fed w p ≡ is_fed v p) × (links w p ≡ links v p)
 
+-- wherever at most so many steps lead from p, these are the levels of the map
+unfoldable pub AreLevelsNear : (Pos → Cell) → ℕ → Pos → (Pos → ℕ) → Type 0
+AreLevelsNear w n p level = AreAlike (within_steps n p) level (dust_level w)
+
 -- power at p: the cells that three steps lead to, and the levels beside it
 abbrev pub PowerSees : Type 0
 PowerSees = (w v : Pos → Cell) (a b : Pos → ℕ) (p : Pos)

@@ -10,8 +10,8 @@ use std::alloc::{AllocError, Global};
 use vx_cells::Frozen;
 use vx_geom::Pos;
 
-/// The dust from which at most fourteen links lead to dust at one of these positions. Each is found
-/// once. It costs what is found.
+/// The dust from which at most fourteen links lead to dust at one of these positions. It costs what
+/// is found.
 pub fn dust_near(alloc: Global, map: &Frozen<'_>, places: &[Pos]) -> Result<Vec<Pos>, AllocError>
     ensures { IfOk result (λ found. (p : Pos)
         → has found.items p ≡ is_near (cell_on map.now) (has places.now) p) }

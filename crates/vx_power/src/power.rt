@@ -4,6 +4,8 @@ ghost use Rattle.std.specs.Prelude.{◌≡◌, ◌&&◌, ◌||◌, nat_lt};
 ghost use Rattle.vx_block.specs.Components.{is_dust};
 ghost use Rattle.vx_cells.specs.Maps.{cell_on};
 ghost use Rattle.vx_geom.specs.Dirs.{opposite};
+ghost use Rattle.vx_power.specs.Laws.{dust_level};
+ghost use Rattle.vx_power.specs.Local.{AreLevelsNear};
 ghost use Rattle.vx_power.specs.Signals.{reaches, gives, is_source, has_source, is_powered, activates, is_front, is_active};
 
 use crate::dust::points;
@@ -27,10 +29,13 @@ fn reaches(map: &Frozen<'_>, dust: Pos, dir: Dir) -> bool
     }
 }
 
-/// Whether a conductor stands at a position that is powered, by a strong source or by dust.
+/// Whether a conductor stands at a position that is powered, by a strong source or by dust. It is as
+/// the rules say where the levels near are those of the map.
 #[tactic(auto, unfolding(crate::specs::Signals::is_powered), using(crate::proofs::Sources::sources))]
 pub fn powered<L: Leveled>(map: &Frozen<'_>, levels: &L, p: Pos) -> bool
-    ensures { result ≡ is_powered (cell_on map.now) (L.level levels.now) p }
+    ensures by_levels { result ≡ is_powered (cell_on map.now) (L.level levels.now) p }
+    ensures exact { AreLevelsNear (cell_on map.now) 1 p (L.level levels.now)
+        → result ≡ is_powered (cell_on map.now) (dust_level (cell_on map.now)) p }
 {
     map.has_conductor(p) && has_source(map, levels, p)
 }
@@ -99,9 +104,19 @@ fn acts<L: Leveled>(map: &Frozen<'_>, levels: &L, next: Pos, cell: &Cell, dir: D
         || has_power_towards(map, levels, next, cell, dir)
 }
 
-/// Whether a lamp or a piston at a position is active. A piston is not made so from its front.
-#[tactic(auto, unfolding(crate::specs::Signals::is_active))]
+/// Whether a lamp or a piston at a position is active. A piston is not made so from its front. It is
+/// as the rules say where the levels near are those of the map.
 pub fn active<L: Leveled>(map: &Frozen<'_>, levels: &L, p: Pos, front: Option<Dir>) -> bool
+    ensures by_levels { result ≡ is_active (cell_on map.now) (L.level levels.now) front p }
+    ensures exact { AreLevelsNear (cell_on map.now) 2 p (L.level levels.now)
+        → result ≡ is_active (cell_on map.now) (dust_level (cell_on map.now)) front p }
+{
+    is_activated(map, levels, p, front)
+}
+
+// Whether some neighbor makes a lamp or a piston at a position active.
+#[tactic(auto, unfolding(crate::specs::Signals::is_active))]
+fn is_activated<L: Leveled>(map: &Frozen<'_>, levels: &L, p: Pos, front: Option<Dir>) -> bool
     ensures { result ≡ is_active (cell_on map.now) (L.level levels.now) front p }
 {
     Dir::ALL.iter().any(|dir| !is_front(front, *dir) && activates(map, levels, p, *dir))

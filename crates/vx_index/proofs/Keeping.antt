@@ -47,7 +47,7 @@ still_few test old new is keeps = subst KeepsFew (sym is) (record {
   few = few_promoted test old.entries keeps.few;
 })
 
--- the same of a cache after it was told to keep one, whether it did or not
+-- so few are kept by a cache that was told to keep one, whether it did or not
 pub few_after : {T E : Type 0} (eq : Asked → Asked → Bool) (old new : LruCache Asked Verdict) (asked : Asked) (v : Verdict) (r : Result T E)
     → OnOk r (new ≡ lru_cache (put_entries eq old asked v) old.cap) → OnErr r (new ≡ old) → KeepsFew old → KeepsFew new
 few_after eq old new asked v (Ok x) done not keeps = subst KeepsFew (sym done) (record {

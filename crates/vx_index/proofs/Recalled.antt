@@ -75,7 +75,7 @@ put_alike c asked v e there = elim (Contains-put_entries same_asked c asked v e 
   )
 ]
 
--- the same of a cache after it was told to keep one, whether it did or not
+-- so is each that is there after a cache was told to keep one, whether it did or not
 pub after_put : {T E : Type 0} (old new : LruCache Asked Verdict) (asked : Asked) (v : Verdict) (r : Result T E)
     → OnOk r (new ≡ lru_cache (put_entries same_asked old asked v) old.cap) → OnErr r (new ≡ old) → (e : Asked × Verdict) → Contains new.entries e
     → Contains old.entries e ⊎ ((e.1 ≡ v) × IsSameAsked asked e.0)

@@ -49,7 +49,7 @@ impl Kept {
         self.verdicts.as_ref()?.peek(asked).copied()
     }
 
-    /// The same, and the question is then the one asked last.
+    /// The verdict that is kept on a question, which is then the one asked last.
     pub(crate) fn recall(&mut self, asked: &Asked) -> Option<Verdict>
         ensures found { IfSome result (λ verdict. (same : Asked)
             × Contains self.old (same, verdict)

@@ -19,8 +19,8 @@ use vx_marks::Marks;
 // A world is so high.
 const HEIGHT: u32 = 64;
 
-/// A set of positions of a world, found sector by sector and in each in the order of positions. A
-/// sector where nothing was marked takes no memory beside its entry.
+/// A set of positions of a world, kept by sector. A sector where nothing was marked takes no memory
+/// beside its entry.
 #[derive(Drop)]
 pub struct Places {
     bounds: Bounds,
@@ -211,7 +211,7 @@ impl Places {
         }
     }
 
-    /// All positions, sector by sector.
+    /// All positions of the set.
     pub fn all(&self, alloc: Global) -> Result<Vec<Pos>, AllocError>
         ensures { IfOk result (λ found. (p : Pos)
             → list_any (λ q. nat_eq (steps_between q p) 0) found.items ≡ is_at self.now p) }

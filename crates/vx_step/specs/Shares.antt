@@ -1,5 +1,5 @@
 -- Work that is shared out among workers, a piece for each sector.
-use Rattle.std.specs.Prelude.{◌≡◌, ℕ, suc, ◌+◌, ◌*◌, ◌/◌, if◌then◌else◌, List, [], ◌∷◌, length}
+use Rattle.std.specs.Prelude.{◌≡◌, ℕ, suc, ◌+◌, ◌*◌, ◌/◌, ◌<◌, ◌≤◌, if◌then◌else◌, List, [], ◌∷◌, length}
 use Rattle.std.specs.Bool.{⊤}
 use Rattle.vx_block.specs.declared.cell.Cell.{Cell}
 use Rattle.vx_geom.specs.declared.pos.Pos.{Pos}
@@ -11,6 +11,18 @@ use Rattle.vx_tick.specs.Pieces.{asked_in, changed_in, restless_in}
 -- where part i of k begins, where n are divided among them
 abbrev pub first_of : ℕ → ℕ → ℕ → ℕ
 first_of n k i = (i * n) / k
+
+-- of n sectors that k workers share out, s is among those of worker i
+abbrev pub IsOwn : ℕ → ℕ → ℕ → ℕ → Type 0
+IsOwn n k i s = (first_of n k i ≤ s) × (s < first_of n k (i + 1))
+
+-- each sector is that of some worker
+abbrev pub EachIsOwn : Type 0
+EachIsOwn = (n k s : ℕ) → 0 < k → s < n → (i : ℕ) × (i < k) × IsOwn n k i s
+
+-- and of no other
+abbrev pub NoneIsShared : Type 0
+NoneIsShared = (n k s i j : ℕ) → 0 < k → IsOwn n k i s → IsOwn n k j s → i ≡ j
 
 -- P holds of each of these with its number, from number k on
 abbrev pub AreEach : {X : Type 0} → (ℕ → X → Type 0) → ℕ → List X → Type 0

@@ -1,5 +1,5 @@
 //! Work shared among threads.
-ghost use Rattle.std.specs.Prelude.{◌≡◌, ◌<◌, ◌≤◌, ◌+◌, ℕ, length, slice_index_or, IfOk};
+ghost use Rattle.std.specs.Prelude.{◌≡◌, ◌<◌, ◌≤◌, ◌+◌, ◌*◌, ◌/◌, ℕ, length, slice_index_or, IfOk};
 ghost use Rattle.std.specs.List.{between};
 ghost use Rattle.vx_step.specs.Shares.{first_of, AreFromTo, IsShare};
 
@@ -7,10 +7,11 @@ use crate::gate::Gate;
 use crate::point::Point;
 use crate::work::Work;
 use std::alloc::{AllocError, Global};
+use std::ops::Range;
 use std::thread;
 use std::thread::Threads;
 
-/// The pieces of all sectors.
+/// The pieces of all sectors, in order, worked by so many threads as `each_share` works them.
 pub fn in_parts<R: Threads + Sync, W: Work + Sync, G: Gate + Sync>(
     rt: &R,
     alloc: Global,
@@ -24,7 +25,7 @@ where
     ensures { IfOk result (λ outs.
         AreFromTo (W.gives work.now) 0 (W.count work.now) outs.items) }
 {
-    let shares = shares(rt, alloc, work, workers, gate)?;
+    let shares = each_share(rt, alloc, work, workers, gate)?;
     let mut all = Vec::new(alloc);
     for share in shares {
         all.append(&mut share?)?;
@@ -32,8 +33,8 @@ where
     Ok(all)
 }
 
-// What each worker gives.
-fn shares<R: Threads + Sync, W: Work + Sync, G: Gate + Sync>(
+/// What each worker gives: the pieces of the sectors that `sectors_of` tells for it, in order.
+pub fn each_share<R: Threads + Sync, W: Work + Sync, G: Gate + Sync>(
     rt: &R,
     alloc: Global,
     work: &W,
@@ -70,13 +71,24 @@ where
     ensures { IfOk result (λ outs.
         IsShare (W.gives work.now) (W.count work.now) workers worker outs.items) }
 {
-    let count = work.sectors() as usize;
+    let own = sectors_of(work.sectors(), workers, worker);
     let mut outs = Vec::new(alloc);
-    for sector in first_of(count, workers, worker)..first_of(count, workers, worker + 1) {
-        gate.at(sector as u32, Point::Working(work.phase()));
-        outs.push(work.piece(alloc, sector as u32)?)?;
+    for sector in own.start..own.end {
+        gate.at(sector, Point::Working(work.phase()));
+        outs.push(work.piece(alloc, sector)?)?;
     }
     Ok(outs)
+}
+
+/// The sectors of a worker, of those that so many workers share out: of n sectors worker i of k has
+/// the numbers from i·n/k up to below (i + 1)·n/k.
+pub fn sectors_of(sectors: u32, workers: usize, worker: usize) -> Range<u32>
+    requires { worker < workers }
+    ensures first { result.start ≡ (worker * sectors) / workers }
+    ensures end { result.end ≡ ((worker + 1) * sectors) / workers }
+{
+    let count = sectors as usize;
+    first_of(count, workers, worker) as u32..first_of(count, workers, worker + 1) as u32
 }
 
 /// The part of that number of so many even parts of some items.
@@ -91,7 +103,8 @@ pub fn part_of<T>(items: &[T], parts: usize, part: usize) -> &[T]
 // Where a part begins, where so many are divided among so many parts.
 fn first_of(count: usize, parts: usize, part: usize) -> usize
     requires { (0 < parts) × (part ≤ parts) }
-    ensures { result ≡ first_of count parts part }
+    ensures value { result ≡ first_of count parts part }
+    ensures most { result ≤ count }
 {
     (part as u128 * count as u128 / parts as u128) as usize
 }

@@ -34,10 +34,14 @@ asked_up_to m zero = []
 asked_up_to m (suc n) =
     asked_up_to m n ++ asked m (dust_level (cell_on m)) (positions m.sizes n)
 
--- the moves that all pistons of a map ask for, in the order of the pistons' positions
-pub record AreMoves (m : MapData) (moves : List Moving) : Type 0 where
-  pub all : IsPermutation (asked_up_to m (sector_count m.sizes)) moves
+-- these are the given moves, no more and no fewer, in the order of their pistons' positions
+pub record AreInOrder (given moves : List Moving) : Type 0 where
+  pub all : IsPermutation given moves
   pub ordered : IsSortedByKey (λ (move : Moving). move.at) compared moves
+
+-- the moves that all pistons of a map ask for, in the order of the pistons' positions
+abbrev pub AreMoves : MapData → List Moving → Type 0
+AreMoves m moves = AreInOrder (asked_up_to m (sector_count m.sizes)) moves
 
 -- the next parts in the first n sectors, where they are other cells
 abbrev pub changed_up_to : MapData → ℕ → List (Pos × Cell)

@@ -1,6 +1,6 @@
 ghost use Rattle.std.specs.Prelude.{◌≡◌, ◌<◌, ℕ, true, IfOk, IfSome};
 ghost use Rattle.std.specs.List.{All, flat_map};
-ghost use Rattle.vx_cells.specs.Maps.{MapData, cell_on};
+ghost use Rattle.vx_cells.specs.Maps.{cell_on};
 ghost use Rattle.vx_geom.specs.declared.pos.Pos.{Pos};
 ghost use Rattle.vx_geom.specs.Sizes.{sector_count};
 ghost use Rattle.vx_piston.specs.Moves.{is_restless};
@@ -8,7 +8,7 @@ ghost use Rattle.vx_places.specs.Places.{is_at};
 ghost use Rattle.vx_power.specs.Levels.{AreAllLevels};
 ghost use Rattle.vx_wake.specs.Waking.{IsSettled};
 ghost use Rattle.vx_tick.specs.Pieces.{asked_in, changed_in, restless_in, restless_up_to, RestsOutside};
-ghost use Rattle.vx_tick.specs.Ticks.{asked, asked_up_to, changed_up_to, AreMoves};
+ghost use Rattle.vx_tick.specs.Ticks.{asked, changed_up_to, AreInOrder, AreMoves};
 
 use crate::seen::Seen;
 use std::alloc::{AllocError, Global};
@@ -128,9 +128,8 @@ impl Found {
             ≡ flat_map (λ piece. piece.changes.items) pieces.items) }
         ensures restless { IfOk result (λ found. found.restless.items
             ≡ flat_map (λ piece. piece.restless.items) pieces.items) }
-        ensures moves { IfOk result (λ found. (map : MapData)
-            → flat_map (λ piece. piece.moves.items) pieces.items
-            ≡ asked_up_to map (sector_count map.sizes) → AreMoves map found.moves.items) }
+        ensures moves { IfOk result (λ found. AreInOrder
+            (flat_map (λ piece. piece.moves.items) pieces.items) found.moves.items) }
     {
         let mut all_changes = Vec::new(alloc);
         let mut all_restless = Vec::new(alloc);
@@ -154,10 +153,9 @@ impl Found {
     }
 }
 
-/// Brings moves into the order of their pistons' positions.
+/// Brings moves into the order of their pistons' positions, whatever order they came in.
 pub fn sort_moves(moves: &mut Vec<Move>)
-    ensures { (map : MapData) → moves.old.items ≡ asked_up_to map (sector_count map.sizes)
-        → AreMoves map moves.new.items }
+    ensures { AreInOrder moves.old.items moves.new.items }
 {
     moves.sort_unstable_by_key(|m| m.at);
 }

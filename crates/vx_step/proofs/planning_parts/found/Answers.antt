@@ -1,11 +1,9 @@
 use Rattle.std.proofs.Common.{◌≡◌, IfOk, subst}
-use Rattle.std.specs.List.{flat_map}
-use Rattle.std.proofs.lemmas.Result.{IfOk-weaker}
 use Rattle.vx_cells.specs.Maps.{MapData}
 use Rattle.vx_geom.specs.Sizes.{sector_count}
 use Rattle.vx_tick.specs.declared.found.Found.{Found}
 use Rattle.vx_step.specs.Shares.{AreFromTo, IsFoundIn}
-use Rattle.vx_tick.specs.Ticks.{asked_up_to, AreMoves}
+use Rattle.vx_tick.specs.Ticks.{AreInOrder}
 use Rattle.vx_step.proofs.AllFound.{all_changes, all_pistons, all_moves}
 use Rattle.vx_step.proofs.planning_parts.found.Goals as goal
 
@@ -31,8 +29,5 @@ returns-clause-moves g c =
     let pieces = c.in_ok-pieces.pieces.items in
     let found = subst (λ (m : MapData). AreFromTo {X = Found} (λ s f. IsFoundIn m s f) 0 (sector_count m.sizes) pieces)
     c.new-work.ensures c.in_ok-pieces.ensures in
-    IfOk-weaker c.joined.result
-    (λ found. (m : MapData) → flat_map (λ (piece : Found). piece.moves.items) pieces ≡ asked_up_to m (sector_count m.sizes) → AreMoves m found.moves.items)
-    (λ found. AreMoves m found.moves.items)
-    (λ all are. are m (all_moves m (sector_count m.sizes) pieces found))
-    c.joined.ensures.moves
+    subst (λ given. IfOk c.joined.result (λ found. AreInOrder given found.moves.items))
+    (all_moves m (sector_count m.sizes) pieces found) c.joined.ensures.moves

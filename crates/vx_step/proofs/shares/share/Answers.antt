@@ -8,12 +8,11 @@ pub piece-requires : goal.piece-requires
 piece-requires g c =
     let k = c.args.workers in
     let i = c.args.worker in
-    let n = c.sectors-count.result in
+    let n = c.sectors.result in
     let some : 0 < k = omega (arith, c.requires.workers) in
     let next : i + 1 ≤ k = omega (arith, c.requires.workers) in
     let most : first_of n k (i + 1) ≤ n = firsts_most n k (i + 1) some next in
-    let end : c.first_of-sector-end.result ≡ first_of n k (i + 1) = c.first_of-sector-end.ensures in
-    omega (arith, c.loop-sector-test.true, end, most, c.sectors-count.ensures)
+    omega (arith, c.loop-sector-test.true, c.sectors_of-own.ensures.end, most, c.sectors.ensures)
 
 pub loop-sector-preserved : goal.loop-sector-preserved
 loop-sector-preserved g c =
@@ -25,11 +24,11 @@ pub returns : goal.returns
 returns g c =
     let k = c.args.workers in
     let i = c.args.worker in
-    let n = c.sectors-count.result in
+    let n = c.sectors.result in
     let some : 0 < k = omega (arith, c.requires.workers) in
     let grow : first_of n k i ≤ first_of n k (i + 1) = firsts_grow n k i some in
-    let begin : c.first_of-sector.result ≡ first_of n k i = c.first_of-sector.ensures in
-    let end : c.first_of-sector-end.result ≡ first_of n k (i + 1) = c.first_of-sector-end.ensures in
+    let begin : c.sectors_of-own.result.start ≡ first_of n k i = c.sectors_of-own.ensures.first in
+    let end : c.sectors_of-own.result.end ≡ first_of n k (i + 1) = c.sectors_of-own.ensures.end in
     let last : c.loop-sector.sector ≡ first_of n k (i + 1) = omega (arith, c.loop-sector-test.false, begin, end, grow) in
     subst (λ b. AreFromTo (g.W.Work.gives c.args.work.now) (first_of (g.W.Work.count c.args.work.now) k i) b c.loop-sector.outs.items)
-    (last ∙ ap (λ n. first_of n k (i + 1)) c.sectors-count.ensures) c.loop-sector.invariant
+    (last ∙ ap (λ n. first_of n k (i + 1)) c.sectors.ensures) c.loop-sector.invariant

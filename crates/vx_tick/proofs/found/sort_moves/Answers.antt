@@ -1,5 +1,4 @@
-use Rattle.std.proofs.Common.{rules, ap, sym, ◌∙◌, subst}
-use Rattle.std.specs.List.Sorted.{IsPermutation}
+use Rattle.std.proofs.Common.{rules, ap, sym, ◌∙◌}
 use Rattle.std.specs.Ordering.{is_lt}
 use Rattle.std.proofs.lemmas.List.Sorted.{answers_always}
 use Rattle.vx_geom.proofs.OrderLemmas.{derived_cmp}
@@ -7,10 +6,9 @@ use Rattle.vx_piston.specs.Moves.{Moving}
 use Rattle.vx_tick.proofs.found.sort_moves.Goals as goal
 
 pub returns : goal.returns
-returns c = λ m all.
+returns c =
     let sorted = c.sort_unstable_by_key.ensures.sorted (λ (m : Moving). m.at) (answers_always _ _ _ (λ f a r g h. search rules)) in
     record {
-      all = subst (λ moves. IsPermutation moves c.sort_unstable_by_key.new.self.items) all
-          c.sort_unstable_by_key.ensures.permutation;
+      all = c.sort_unstable_by_key.ensures.permutation;
       ordered = λ k d least within. ap is_lt (sym (derived_cmp _ _)) ∙ sorted k d least within;
     }

@@ -4,7 +4,7 @@ use Rattle.vx_cells.specs.Maps.{cell_on}
 use Rattle.vx_geom.specs.Sizes.{sector_count}
 use Rattle.vx_power.specs.Laws.{dust_level}
 use Rattle.vx_piston.specs.Moves.{is_restless}
-use Rattle.vx_tick.specs.Ticks.{asked}
+use Rattle.vx_tick.specs.Ticks.{asked, AreInOrder}
 use Rattle.vx_tick.proofs.Resting.{all_restless_ask, all_would_move}
 use Rattle.vx_tick.proofs.found.Found.by.Goals as goal
 
@@ -14,8 +14,9 @@ returns-clause-moves c =
     let level = dust_level (cell_on m) in
     let count = sector_count m.sizes in
     let seen = c.as_slice.ensures.value ∙ c.requires.restless in
-    c.sort_moves.ensures m
+    subst (λ given. AreInOrder given c.sort_moves.new.moves.items)
     (c.in_ok-moves.ensures level
     (subst (All (λ p. is_restless (cell_on m) level p ≡ true)) (sym seen) (all_would_move m count))
     ∙ ap (asked m level) seen
     ∙ all_restless_ask m count)
+    c.sort_moves.ensures

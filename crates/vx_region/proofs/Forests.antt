@@ -1,16 +1,16 @@
 -- What keeps a set of regions a forest.
-use Rattle.std.proofs.Common.{◌≡◌, ◌≢◌, ◌⊎◌, inl, inr, ℕ, ◌+◌, nat_eq, List, [], ◌∷◌, Option, Some, None, IsSome, option_map, true≢false, false, MutBor, arith, subst, sym, ap, refl, ◌∙◌}
+use Rattle.std.proofs.Common.{◌≡◌, ◌≢◌, ◌⊎◌, inl, inr, ℕ, ◌+◌, nat_eq, List, [], ◌∷◌, Option, Some, None, IsSome, option_map, true≢false, false, arith, subst, sym, ap, refl, ◌∙◌}
 use Rattle.std.specs.Map.{lookup, set_value}
 use Rattle.std.specs.Bool.{⊤}
 use Rattle.std.specs.List.{list_any}
-use Rattle.std.specs.Option.{option_copied_mut, IfSome}
+use Rattle.std.specs.Option.{IfSome}
 use Rattle.std.proofs.lemmas.Option.{MatchOption-at_some}
 use Rattle.vx_region.specs.Ancestry.{ancestors, is_under}
 use Rattle.vx_region.specs.Regions.{RegionData, Entry, Regions, region_at, parent_of, changed, with_parent}
 use Rattle.vx_region.specs.Forest.{IsChain, IsForest, IsNumbered}
 use Rattle.vx_region.proofs.Chains.{chain_longer, chain_same, chain_moved, ancestors_chain, chain_alone, forest_kept}
 use Rattle.vx_region.proofs.Changes.{pushed, region_changed, region_elsewhere, region_pushed, region_before}
-use Rattle.vx_region.proofs.Lookups.{lent_region, same_or_other, parent_at, parent_nowhere, region_nowhere, same_parent, written_over}
+use Rattle.vx_region.proofs.Lookups.{found_region, same_or_other, parent_at, parent_nowhere, region_nowhere, same_parent, written_over}
 use Rattle.vx_region.proofs.Numbers.{numbered_push, numbered_changed, distinct_numbers}
 
 -- no regions
@@ -81,13 +81,13 @@ forest_changed change n rs r there keeps forest =
         ∙ sym (parent_at rs n r there) ∙ ap (parent_of rs) (sym here)
     same m (inr other) = same_parent rs (changed change n rs) m (region_elsewhere change n m rs other)
 
--- the region that the map lent written over, with the same parent
-pub forest_written : (n : ℕ) (rs : Regions) (fs : List Entry) (lent : Option (MutBor RegionData)) (r : MutBor RegionData) (w : RegionData)
-    → option_copied_mut lent ≡ lookup (nat_eq n) rs.entries → lent ≡ Some r → fs ≡ set_value (nat_eq n) rs.entries w → w.parent ≡ r.now.parent
+-- the region that the look-up found written over, with the same parent
+pub forest_written : (n : ℕ) (rs : Regions) (fs : List Entry) (r w : RegionData)
+    → lookup (nat_eq n) rs.entries ≡ Some r → fs ≡ set_value (nat_eq n) rs.entries w → w.parent ≡ r.parent
     → IsForest rs → IsForest (record rs { entries = fs })
-forest_written n rs fs lent r w found is written same forest =
-    let over = written_over (λ _. w) n rs fs lent r w (distinct_numbers 0 rs.entries forest.numbered.ascending) found is written refl in
-    subst IsForest (sym over) (forest_changed (λ _. w) n rs r.now (lent_region n rs lent r found is) same forest)
+forest_written n rs fs r w there written same forest =
+    let over = written_over (λ _. w) n rs fs r w (distinct_numbers 0 rs.entries forest.numbered.ascending) there written refl in
+    subst IsForest (sym over) (forest_changed (λ _. w) n rs r (found_region n rs r there) same forest)
 
 -- a region with another parent, or with none
 module _ (rs : Regions) (n : ℕ) (p : Option ℕ) (d : RegionData) (there : region_at rs n ≡ Some d) (forest : IsForest rs) where

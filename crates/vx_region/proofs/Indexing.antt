@@ -1,7 +1,6 @@
 -- What keeps the index of the ids true of the regions.
-use Rattle.std.proofs.Common.{◌≡◌, ℕ, ◌+◌, Bool, true, false, cond, nat_eq, bytes_eq, List, [], ◌∷◌, ◌++◌, find, Option, None, Some, option_map, MutBor, refl, ap, sym, ◌∙◌, subst}
+use Rattle.std.proofs.Common.{◌≡◌, ℕ, ◌+◌, Bool, true, false, cond, nat_eq, bytes_eq, List, [], ◌∷◌, ◌++◌, find, Option, None, Some, option_map, refl, ap, sym, ◌∙◌, subst}
 use Rattle.std.specs.Map.{lookup, set_value, remove_entry}
-use Rattle.std.specs.Option.{option_copied_mut}
 use Rattle.std.proofs.lemmas.Slice.Eq.{bytes_eq-Decides}
 use Rattle.vx_flag.specs.declared.settings.Settings.{Settings}
 use Rattle.vx_region.specs.declared.id.Id.{Id}
@@ -12,7 +11,6 @@ use Rattle.vx_region.specs.Regions.{RegionData, Entry, Regions, number_of, globa
 use Rattle.vx_region.proofs.Changes.{pushed, not_true, not_global}
 use Rattle.vx_region.proofs.Forests.{forest_empty, forest_pushed, forest_written}
 use Rattle.vx_region.proofs.Globals.{forest_with_flags}
-use Rattle.vx_region.proofs.Lookups.{lent_is}
 use Rattle.vx_region.proofs.Removals.{forest_without, removed_from}
 
 -- it is the number that a search for the id finds
@@ -199,24 +197,22 @@ sound_pushed rs r index new orphan free local put sound = record {
 }
 
 -- a region written over by one of the same id, which leaves a forest
-pub sound_kept : (n : ℕ) (rs : Regions) (index : List (Id × ℕ)) (fs : List Entry) (lent : Option (MutBor RegionData)) (r : MutBor RegionData) (w : RegionData)
-    → option_copied_mut lent ≡ lookup (nat_eq n) rs.entries → lent ≡ Some r → fs ≡ set_value (nat_eq n) rs.entries w → w.id ≡ r.now.id
+pub sound_kept : (n : ℕ) (rs : Regions) (index : List (Id × ℕ)) (fs : List Entry) (r w : RegionData)
+    → lookup (nat_eq n) rs.entries ≡ Some r → fs ≡ set_value (nat_eq n) rs.entries w → w.id ≡ r.id
     → IsForest (record rs { entries = fs }) → IsSound rs index → IsSound (record rs { entries = fs }) index
-sound_kept n rs index fs lent r w found is written kept forest sound =
-    let there = lent_is n rs lent r found is in
-    record {
-      forest = forest;
-      own_ids = subst HaveOwnIds (sym written) (own_written n r.now w kept rs.entries there sound.own_ids);
-      none_global = ap (λ es. first_with es global_id) written ∙ first_written n r.now w kept global_id rs.entries there ∙ sound.none_global;
-      indexed = λ id. sound.indexed id ∙ sym (ap (λ es. first_with es id.text.bytes) written ∙ first_written n r.now w kept id.text.bytes rs.entries there);
-    }
+sound_kept n rs index fs r w there written kept forest sound = record {
+  forest = forest;
+  own_ids = subst HaveOwnIds (sym written) (own_written n r w kept rs.entries there sound.own_ids);
+  none_global = ap (λ es. first_with es global_id) written ∙ first_written n r w kept global_id rs.entries there ∙ sound.none_global;
+  indexed = λ id. sound.indexed id ∙ sym (ap (λ es. first_with es id.text.bytes) written ∙ first_written n r w kept id.text.bytes rs.entries there);
+}
 
 -- and by one of the same id and parent
-pub sound_written : (n : ℕ) (rs : Regions) (index : List (Id × ℕ)) (fs : List Entry) (lent : Option (MutBor RegionData)) (r : MutBor RegionData) (w : RegionData)
-    → option_copied_mut lent ≡ lookup (nat_eq n) rs.entries → lent ≡ Some r → fs ≡ set_value (nat_eq n) rs.entries w → w.parent ≡ r.now.parent → w.id ≡ r.now.id
+pub sound_written : (n : ℕ) (rs : Regions) (index : List (Id × ℕ)) (fs : List Entry) (r w : RegionData)
+    → lookup (nat_eq n) rs.entries ≡ Some r → fs ≡ set_value (nat_eq n) rs.entries w → w.parent ≡ r.parent → w.id ≡ r.id
     → IsSound rs index → IsSound (record rs { entries = fs }) index
-sound_written n rs index fs lent r w found is written same kept sound =
-    sound_kept n rs index fs lent r w found is written kept (forest_written n rs fs lent r w found is written same sound.forest) sound
+sound_written n rs index fs r w there written same kept sound =
+    sound_kept n rs index fs r w there written kept (forest_written n rs fs r w there written same sound.forest) sound
 
 -- other flags of the world at large
 pub sound_with_flags : (rs : Regions) (index : List (Id × ℕ)) (flags : Settings) → IsSound rs index → IsSound (record rs { global = flags }) index

@@ -1,3 +1,4 @@
+pub mod Blocks
 pub mod Chains
 pub mod Changes
 pub mod FlagChanges
@@ -10,6 +11,7 @@ pub mod Lookups
 pub mod NameLemmas
 pub mod Numbers
 pub mod Owning
+pub mod Places
 pub mod Removals
 pub mod Roles
 pub mod SameLists

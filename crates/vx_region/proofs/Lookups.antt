@@ -1,8 +1,8 @@
 -- What a look-up by number finds, before and after a change.
-use Rattle.std.proofs.Common.{Result, Ok, Err, OnErr, ◌≡◌, ◌≢◌, ◌⊎◌, inl, inr, ℕ, ◌<◌, Bool, true, false, cond, nat_eq, if◌then◌else◌, List, [], ◌∷◌, find, Option, None, Some, IsSome, option_map, slice_get, Bor, MutBor, refl, ap, sym, ◌∙◌, subst}
+use Rattle.std.proofs.Common.{Result, Ok, Err, OnErr, ◌≡◌, ◌≢◌, ◌⊎◌, inl, inr, ℕ, ◌<◌, Bool, true, false, cond, nat_eq, if◌then◌else◌, List, [], ◌∷◌, find, Option, None, Some, IsSome, option_map, slice_get, Bor, refl, ap, sym, ◌∙◌, subst}
 use Rattle.std.specs.Cmp.{nat_eq_equiv}
 use Rattle.std.specs.List.{AllByRecursion, IsDistinct}
-use Rattle.std.specs.Option.{option_copied, option_copied_mut, option_and_then}
+use Rattle.std.specs.Option.{option_copied, option_and_then}
 use Rattle.std.specs.Map.{lookup, set_value, keys_of}
 use Rattle.std.proofs.lemmas.Bool.{eq-eqb}
 use Rattle.std.proofs.lemmas.Map.Entries.{lookup_from_place}
@@ -23,20 +23,10 @@ lookup_is n (e ∷ es) = by (nat_eq n e.0) (lookup_is n es)
     by true rest = refl
     by false rest = rest
 
--- the map finds nothing at a number above all
-pub lookup_above : (m n : ℕ) (es : List Entry) → IsBelow m es → m < n → lookup (nat_eq n) es ≡ None
-lookup_above m n es below high = lookup_is n es ∙ ap (option_map (λ (e : Entry). e.1)) (find_above m n es below high)
-
--- a reference was found where what it refers to was
-some_reference : {X : Type 0} (o : Option (MutBor X)) → IsSome (option_copied_mut o) → IsSome o
-some_reference None there = there
-some_reference (Some x) there = refl
-
--- the map lends the region of a number that has one
-pub lent_from_known : (n : ℕ) (rs : Regions) (lent : Option (MutBor RegionData)) → IsSome (region_at rs n)
-    → option_copied_mut lent ≡ lookup (nat_eq n) rs.entries → IsSome lent
+-- the look-up finds the region of a number that has one
+pub known_found : (n : ℕ) (rs : Regions) → IsSome (region_at rs n) → IsSome (lookup (nat_eq n) rs.entries)
 unfolding region_at
-lent_from_known n rs lent known found = some_reference lent (rw (found, lookup_is n rs.entries) known)
+known_found n rs known = rw (lookup_is n rs.entries) known
 
 -- a reference to read was found where what it refers to was
 some_read : {X : Type 0} (o : Option (Bor X)) → IsSome (option_copied o) → IsSome o
@@ -78,31 +68,25 @@ changed_by_write change n (e ∷ es) r distinct there =
     by false is rest =
         ap (λ ds. e ∷ ds) (rest (sym (ap (λ b. cond b (Some e.1) (lookup (nat_eq n) es)) is) ∙ there))
 
--- the region that the map lent is the one of the number
-pub lent_is : (n : ℕ) (rs : Regions) (lent : Option (MutBor RegionData)) (r : MutBor RegionData)
-    → option_copied_mut lent ≡ lookup (nat_eq n) rs.entries → lent ≡ Some r → lookup (nat_eq n) rs.entries ≡ Some r.now
-lent_is n rs lent r found is = sym found ∙ ap option_copied_mut is
-
--- the regions after the one that the map lent was changed
-pub written_over : (change : RegionData → RegionData) (n : ℕ) (rs : Regions) (fs : List Entry) (lent : Option (MutBor RegionData)) (r : MutBor RegionData) (w : RegionData)
-    → IsDistinct nat_eq (keys_of rs.entries) → option_copied_mut lent ≡ lookup (nat_eq n) rs.entries → lent ≡ Some r → fs ≡ set_value (nat_eq n) rs.entries w
-    → w ≡ change r.now → record rs { entries = fs } ≡ changed change n rs
-written_over change n rs fs lent r w distinct found is written same =
+-- the regions after the one that the look-up found was written over
+pub written_over : (change : RegionData → RegionData) (n : ℕ) (rs : Regions) (fs : List Entry) (r w : RegionData)
+    → IsDistinct nat_eq (keys_of rs.entries) → lookup (nat_eq n) rs.entries ≡ Some r → fs ≡ set_value (nat_eq n) rs.entries w
+    → w ≡ change r → record rs { entries = fs } ≡ changed change n rs
+written_over change n rs fs r w distinct there written same =
     ap (λ es. record rs { entries = es })
-    (written ∙ ap (set_value (nat_eq n) rs.entries) same ∙ changed_by_write change n rs.entries r.now distinct (lent_is n rs lent r found is))
+    (written ∙ ap (set_value (nat_eq n) rs.entries) same ∙ changed_by_write change n rs.entries r distinct there)
 
 -- and after it was left as it was
-pub written_back : (n : ℕ) (rs : Regions) (fs : List Entry) (lent : Option (MutBor RegionData)) (r : MutBor RegionData) (w : RegionData)
-    → option_copied_mut lent ≡ lookup (nat_eq n) rs.entries → lent ≡ Some r → fs ≡ set_value (nat_eq n) rs.entries w → w ≡ r.now → record rs { entries = fs } ≡ rs
-written_back n rs fs lent r w found is written same =
+pub written_back : (n : ℕ) (rs : Regions) (fs : List Entry) (r w : RegionData)
+    → lookup (nat_eq n) rs.entries ≡ Some r → fs ≡ set_value (nat_eq n) rs.entries w → w ≡ r → record rs { entries = fs } ≡ rs
+written_back n rs fs r w there written same =
     ap (λ es. record rs { entries = es })
-    (written ∙ ap (set_value (nat_eq n) rs.entries) same ∙ set_value_same (nat_eq n) rs.entries r.now (lent_is n rs lent r found is))
+    (written ∙ ap (set_value (nat_eq n) rs.entries) same ∙ set_value_same (nat_eq n) rs.entries r there)
 
--- the region that the map lent is the one of the number
-pub lent_region : (n : ℕ) (rs : Regions) (lent : Option (MutBor RegionData)) (r : MutBor RegionData)
-    → option_copied_mut lent ≡ lookup (nat_eq n) rs.entries → lent ≡ Some r → region_at rs n ≡ Some r.now
+-- the region that the look-up found is the one of the number
+pub found_region : (n : ℕ) (rs : Regions) (r : RegionData) → lookup (nat_eq n) rs.entries ≡ Some r → region_at rs n ≡ Some r
 unfolding region_at
-lent_region n rs lent r found is = sym (lookup_is n rs.entries) ∙ lent_is n rs lent r found is
+found_region n rs r there = sym (lookup_is n rs.entries) ∙ there
 
 -- two numbers are the same, or one is another
 pub same_or_other : (m n : ℕ) → (m ≡ n) ⊎ (m ≢ n)

@@ -1,10 +1,13 @@
 pub mod Alphabet
 pub mod Ancestry
 pub mod Association
+pub mod BlockSharing
+pub mod Blocks
 pub mod Forest
 pub mod IdIndex
 pub mod IdUpdates
 pub mod Laws
+pub mod ListSharing
 pub mod Regions
 pub mod RegionsLaws
 pub mod SameRegions

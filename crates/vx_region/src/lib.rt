@@ -2,11 +2,13 @@
 //! world.
 #![tactic(auto)]
 
+mod block;
 mod id;
 mod id_numbers;
 mod laws;
 mod name;
 mod region;
+mod region_list;
 mod region_no;
 mod region_set;
 mod role;

@@ -1,6 +1,5 @@
-ghost use Rattle.std.specs.List.{list_any};
-ghost use Rattle.std.specs.Prelude.{◌≡◌, ◌+◌, ◌-◌, ◌^◌, ◌<◌, false, length, slice_get, option_map, option_copied, None, Some, IsSome, IfOk, IfSome, OnOk, OnErr};
-ghost use Rattle.vx_region.specs.Ancestry.{ancestors, is_under, is_above};
+ghost use Rattle.std.specs.Prelude.{◌≡◌, ◌+◌, ◌-◌, ◌^◌, ◌<◌, false, length, slice_get, option_map, option_copied, None, Some, IsSome, IfOk, OnOk, OnErr};
+ghost use Rattle.vx_region.specs.Ancestry.{is_under, is_above};
 ghost use Rattle.vx_region.specs.Association.{has_name, has_name_along, player_association, machine_association, holds_place, association};
 ghost use Rattle.vx_region.specs.Forest.{IsForest};
 ghost use Rattle.vx_region.specs.IdIndex.{HaveOwnIds, NoneIsGlobal};
@@ -16,22 +15,22 @@ use crate::id::Id;
 use crate::id_numbers::IdNumbers;
 use crate::name::Name;
 use crate::region::Region;
+use crate::region_list::RegionList;
 use crate::region_no::RegionNo;
 use crate::role::Role;
 use crate::shared_region::SharedRegion;
 use crate::subject::Subject;
-use indexmap::IndexMap;
 use std::alloc::{AllocError, Global};
 use std::marker::Model;
 use vx_flag::{Association, Flag, Setting, Settings};
 use vx_geom::{Pos, Shape};
 
 /// The regions of a world, in order of their numbers, and the flags of the world at large, which is
-/// `__global__` and has number 0. A number is never given twice. Copies share each region until one
-/// of them changes it.
+/// `__global__` and has number 0. A number is never given twice. Copies share regions in blocks: a
+/// change copies the region and its block.
 pub struct RegionSet {
     last: u32,
-    regions: IndexMap<u32, SharedRegion>,
+    regions: RegionList,
     numbers: IdNumbers,
     global: Settings,
 }
@@ -42,10 +41,9 @@ impl Model for RegionSet {
 
     ghost Value = { Regions };
 
-    ghost view = { λ a. regions_of a.last a.regions.entries a.global };
+    ghost view = { λ a. regions_of a.last a.regions a.global };
 
-    ghost invariant = { λ a. IsSound
-        (regions_of a.last a.regions.entries a.global) a.numbers };
+    ghost invariant = { λ a. IsSound (regions_of a.last a.regions a.global) a.numbers };
 }
 
 // Written out, so that what is above this crate need not prove how its parts are let go.
@@ -67,7 +65,7 @@ impl RegionSet {
     {
         RegionSet {
             last: 0,
-            regions: IndexMap::new(alloc),
+            regions: RegionList::new(alloc),
             numbers: IdNumbers::new(),
             global: Settings::new(),
         }
@@ -104,22 +102,7 @@ impl RegionSet {
     pub fn get(&self, number: RegionNo) -> Option<&Region>
         ensures { option_copied result ≡ region_at self.now number.0 }
     {
-        if let Some(region) = self.in_place(number) {
-            return Some(region);
-        }
-        Some(self.regions.get(&number.0)?.region())
-    }
-
-    // The region of that number, if it stands one place before its number. Each does until one
-    // before it is removed.
-    fn in_place(&self, number: RegionNo) -> Option<&Region>
-        ensures { IfSome result (λ region. region_at self.now number.0 ≡ Some region.now) }
-    {
-        let place = number.0.saturating_sub(1);
-        match self.regions.get_index(place as usize) {
-            Some((found, shared)) if *found == number.0 => Some(shared.region()),
-            _ => None,
-        }
+        self.regions.get(number.0)
     }
 
     /// The region at that place in order of number, counted from 0, with its number.
@@ -127,8 +110,8 @@ impl RegionSet {
         requires { index < length self.now.entries }
         ensures { slice_get self.now.entries index ≡ Some (result.0.0, result.1.now) }
     {
-        let (number, shared) = self.regions.get_index(index as usize).unwrap();
-        (RegionNo(*number), shared.region())
+        let (number, region) = self.regions.nth(index as usize).unwrap();
+        (RegionNo(number), region)
     }
 
     /// The number of the region with that id, 0 for `__global__`.
@@ -289,11 +272,13 @@ impl RegionSet {
     {
         let number = self.last + 1;
         let key = id;
-        // The room for the region comes first: once its id has a number, nothing can fail.
-        self.regions.reserve(1)?;
         let region = SharedRegion::new(alloc, Region::new(alloc, id, shape))?;
-        self.numbers.add(alloc, key, number)?;
-        let _replaced = self.regions.insert(number, region).unwrap();
+        // The index is changed last, and in a copy: once the region stands behind the others,
+        // nothing can fail.
+        let mut numbers = self.numbers.clone()?;
+        numbers.add(alloc, key, number)?;
+        self.regions.push(alloc, number, region)?;
+        self.numbers = numbers;
         self.last = number;
         Ok(RegionNo(number))
     }
@@ -311,11 +296,7 @@ impl RegionSet {
         if self.has_name(role, &name, number) {
             return Ok(());
         }
-        self.regions
-            .get_mut(&number.0)
-            .unwrap()
-            .own()?
-            .add_name(role, name)
+        self.regions.own(number.0)?.add_name(role, name)
     }
 }
 

@@ -18,11 +18,7 @@ impl RegionSet {
         ensures ok { OnOk result (self.new ≡ with_shape self.old number.0 shape) }
         ensures err { OnErr result (self.new ≡ self.old) }
     {
-        self.regions
-            .get_mut(&number.0)
-            .unwrap()
-            .own()?
-            .set_shape(shape);
+        self.regions.own(number.0)?.set_shape(shape);
         Ok(())
     }
 
@@ -32,11 +28,7 @@ impl RegionSet {
         ensures ok { OnOk result (self.new ≡ with_priority self.old number.0 priority) }
         ensures err { OnErr result (self.new ≡ self.old) }
     {
-        self.regions
-            .get_mut(&number.0)
-            .unwrap()
-            .own()?
-            .set_priority(priority);
+        self.regions.own(number.0)?.set_priority(priority);
         Ok(())
     }
 
@@ -56,11 +48,7 @@ impl RegionSet {
             self.global.set(flag, setting);
             return Ok(());
         }
-        self.regions
-            .get_mut(&number.0)
-            .unwrap()
-            .own()?
-            .set_flag(flag, setting);
+        self.regions.own(number.0)?.set_flag(flag, setting);
         Ok(())
     }
 
@@ -74,11 +62,7 @@ impl RegionSet {
             self.global.clear(flag);
             return Ok(());
         }
-        self.regions
-            .get_mut(&number.0)
-            .unwrap()
-            .own()?
-            .clear_flag(flag);
+        self.regions.own(number.0)?.clear_flag(flag);
         Ok(())
     }
 
@@ -90,11 +74,7 @@ impl RegionSet {
             (self.new ≡ without_name self.old number.0 role name.now.text.bytes) }
         ensures err { OnErr result (self.new ≡ self.old) }
     {
-        self.regions
-            .get_mut(&number.0)
-            .unwrap()
-            .own()?
-            .drop_name(role, name);
+        self.regions.own(number.0)?.drop_name(role, name);
         Ok(())
     }
 }

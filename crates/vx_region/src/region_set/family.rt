@@ -8,12 +8,11 @@ use std::alloc::AllocError;
 
 impl RegionSet {
     /// Whether some region has the region of that number as its parent.
+    #[tactic(auto, unfolding(crate::specs::Ancestry::has_child))]
     pub fn has_child(&self, number: RegionNo) -> bool
         ensures { result ≡ has_child self.now number.0 }
     {
-        self.regions
-            .iter()
-            .any(|(_, shared)| shared.region().parent() == Some(number))
+        self.regions.has_child(number)
     }
 
     /// Gives a region that is there another parent, or none. The parent has to be there, and to be
@@ -30,11 +29,7 @@ impl RegionSet {
             (self.new ≡ with_parent self.old number.0 (option_map (λ n. n.0) parent)) }
         ensures err { OnErr result (self.new ≡ self.old) }
     {
-        self.regions
-            .get_mut(&number.0)
-            .unwrap()
-            .own()?
-            .set_parent(parent);
+        self.regions.own(number.0)?.set_parent(parent);
         Ok(())
     }
 
@@ -45,9 +40,11 @@ impl RegionSet {
         ensures ok { OnOk result (self.new ≡ without_region self.old number.0) }
         ensures err { OnErr result (self.new ≡ self.old) }
     {
-        let id = *self.regions.get(&number.0).unwrap().region().id();
-        self.numbers.remove(&id)?;
-        let _removed = self.regions.shift_remove(&number.0);
+        let id = *self.regions.get(number.0).unwrap().id();
+        let mut numbers = self.numbers.clone()?;
+        numbers.remove(&id)?;
+        self.regions.remove(number.0)?;
+        self.numbers = numbers;
         Ok(())
     }
 }

@@ -4,4 +4,4 @@ use Rattle.vx_region.proofs.region_set.RegionSet.count.Goals as goal
 
 pub prove-unreachable-requires : goal.prove-unreachable-requires
 prove-unreachable-requires c =
-    omega (arith, count_below 0 c.self.inside.last c.self.inside.regions.entries c.self.invariant.forest.numbered.ascending c.self.invariant.forest.numbered.given)
+    omega (arith, count_below 0 c.self.inside.last c.self.inside.regions c.self.invariant.forest.numbered.ascending c.self.invariant.forest.numbered.given)

@@ -1,0 +1,12 @@
+use Rattle.std.proofs.Common.{◌≡◌, ◌/◌, List, Some, slice_get, subst}
+use Rattle.vx_region.specs.Blocks.{BlockData}
+use Rattle.vx_region.proofs.Blocks.{read_is, shown}
+use Rattle.vx_region.proofs.region_list.RegionList.in_full_blocks.Goals as goal
+
+pub returns : goal.returns
+returns c =
+    let k = c.args.place / 64 in
+    let b = c.in_ok-get.field-0.now in
+    let there = subst (λ (bs : List BlockData). slice_get bs k ≡ Some b) c.deref.ensures.value
+    (read_is c.deref.result.now k b c.in_ok-get.ensures.lookup.3.0 c.in_ok-get.ensures.lookup.1) in
+    rw (← c.self.view_is) (shown c.self.inside.blocks.items k b c.args.place c.at.result c.self.invariant.0 there c.at.ensures)

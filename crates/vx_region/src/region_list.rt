@@ -1,0 +1,184 @@
+ghost use Rattle.std.specs.Prelude.{◌≡◌, ◌+◌, ◌<◌, [], nat_eq, length, option_map, slice_get, Some, None, IfSome, IfNone};
+ghost use Rattle.std.specs.List.{list_any};
+ghost use Rattle.std.specs.Map.{lookup};
+ghost use Rattle.std.specs.Option.{option_copied};
+ghost use Rattle.vx_region.specs.Ancestry.{is_number};
+ghost use Rattle.vx_region.specs.Blocks.{joined, AreInPlace, Holds, AreBefore};
+ghost use Rattle.vx_region.specs.Forest.{IsAscending};
+
+mod edits;
+
+use crate::block::{Block, FULL};
+use crate::region::Region;
+use crate::region_no::RegionNo;
+use std::alloc::{AllocError, Global};
+use std::marker::Model;
+
+/// Regions with their numbers, one after another in blocks. Copies share each block until one of
+/// them changes it, and then the other regions of that block.
+#[derive(Drop)]
+pub(crate) struct RegionList {
+    len: usize,
+    blocks: Vec<Block>,
+}
+
+impl Model for RegionList {
+    ghost use Rattle.std.specs.Prelude.{List, ◌≡◌, length};
+    ghost use Rattle.vx_region.specs.Blocks.{joined, AreInPlace};
+    ghost use Rattle.vx_region.specs.Regions.{Entry};
+
+    ghost Value = { List Entry };
+
+    ghost view = { λ a. joined a.blocks.items };
+
+    ghost invariant = { λ a. AreInPlace 0 a.blocks.items
+        × (a.len ≡ length (joined a.blocks.items)) };
+}
+
+impl RegionList {
+    /// No regions.
+    pub(crate) fn new(alloc: Global) -> RegionList
+        ensures { result ≡ [] }
+    {
+        RegionList {
+            len: 0,
+            blocks: Vec::new(alloc),
+        }
+    }
+
+    /// How many regions there are.
+    pub(crate) fn len(&self) -> usize
+        ensures { result ≡ length self.now }
+    {
+        self.len
+    }
+
+    /// The region at that place with its number, `None` behind the last one.
+    pub(crate) fn nth(&self, place: usize) -> Option<(u32, &Region)>
+        ensures { option_map (λ e. (e.0, e.1.now)) result ≡ slice_get self.now place }
+    {
+        if let Some(entry) = self.in_full_blocks(place) {
+            return Some(entry);
+        }
+        if place >= self.len {
+            return None;
+        }
+        self.blocks[block_of(&self.blocks, place)].at(place)
+    }
+
+    // The region at that place with its number, if all blocks before it are full. They are until a
+    // region is removed.
+    fn in_full_blocks(&self, place: usize) -> Option<(u32, &Region)>
+        ensures { IfSome result (λ e. slice_get self.now place ≡ Some (e.0, e.1.now)) }
+    {
+        self.blocks.get(place / FULL)?.at(place)
+    }
+
+    /// The region of that number.
+    pub(crate) fn get(&self, number: u32) -> Option<&Region>
+        requires { IsAscending 0 self.now }
+        ensures { option_copied result ≡ lookup (nat_eq number) self.now }
+    {
+        if let Some(region) = self.in_place(number) {
+            return Some(region);
+        }
+        Some(self.nth(self.place_of(number)?)?.1)
+    }
+
+    // The region of that number, if it stands one place before its number. Each does until one
+    // before it is removed.
+    fn in_place(&self, number: u32) -> Option<&Region>
+        requires { IsAscending 0 self.now }
+        ensures { IfSome result (λ region. lookup (nat_eq number) self.now ≡ Some region.now) }
+    {
+        let place = number.checked_sub(1)?;
+        let (found, region) = self.in_full_blocks(place as usize)?;
+        if found == number { Some(region) } else { None }
+    }
+
+    // The place of the region of that number. It looks at a few places, since numbers ascend and
+    // only those that were removed are left out.
+    fn place_of(&self, number: u32) -> Option<usize>
+        requires { IsAscending 0 self.now }
+        ensures found { IfSome result (λ place.
+            option_map (λ e. e.0) (slice_get self.now place) ≡ Some number) }
+        ensures none { IfNone result (lookup (nat_eq number) self.now ≡ None) }
+    {
+        let mut low = self.first_place(number);
+        let mut high = self.len.min(number as usize);
+        while low < high {
+            let middle = low + (high - low) / 2;
+            let (found, _) = self.nth(middle)?;
+            if found == number {
+                return Some(middle);
+            }
+            if found < number {
+                low = middle + 1;
+            } else {
+                high = middle;
+            }
+        }
+        None
+    }
+
+    // A place before which no region has that number or a later one: one before its number, less as
+    // many as were removed.
+    fn first_place(&self, number: u32) -> usize
+        requires { IsAscending 0 self.now }
+        ensures { AreBefore result number self.now }
+    {
+        match self.nth(self.len.saturating_sub(1)) {
+            Some((last, _)) => {
+                let removed = (last as usize).saturating_sub(self.len);
+                (number as usize).saturating_sub(removed + 1)
+            }
+            None => 0,
+        }
+    }
+
+    /// Whether some region has the region of that number as its parent.
+    pub(crate) fn has_child(&self, number: RegionNo) -> bool
+        ensures { result ≡ list_any (λ e. is_number number.0 e.1.parent) self.now }
+    {
+        any_has_child(&self.blocks, number)
+    }
+}
+
+// Whether some region in these blocks has the region of that number as its parent.
+fn any_has_child(blocks: &[Block], number: RegionNo) -> bool
+    ensures { result ≡ list_any (λ b. list_any (λ e. is_number number.0 e.1.parent) b.entries)
+        blocks.now }
+{
+    blocks.iter().any(|block| block.has_child(number))
+}
+
+// The index of the block in which that place lies.
+fn block_of(blocks: &[Block], place: usize) -> usize
+    requires in_place { AreInPlace 0 blocks.now }
+    requires within { place < length (joined blocks.now) }
+    ensures within { result < length blocks.now }
+    ensures holds { IfSome (slice_get blocks.now result) (Holds place) }
+{
+    let mut low = 0;
+    let mut high = blocks.len();
+    while high - low > 1 {
+        let middle = low + (high - low) / 2;
+        if blocks[middle].start() <= place {
+            low = middle;
+        } else {
+            high = middle;
+        }
+    }
+    low
+}
+
+impl Clone for RegionList {
+    ghost is_clone = { λ regions copy. copy ≡ regions };
+
+    fn clone(&self) -> Result<RegionList, AllocError> {
+        Ok(RegionList {
+            len: self.len,
+            blocks: self.blocks.clone()?,
+        })
+    }
+}

@@ -6,6 +6,7 @@ pub mod Forests
 pub mod Globals
 pub mod IdChanges
 pub mod IdLemmas
+pub mod IdParts
 pub mod Indexing
 pub mod Lookups
 pub mod NameLemmas

@@ -9,7 +9,7 @@ use Rattle.std.proofs.lemmas.Map.Entries.{lookup_from_place}
 use Rattle.std.proofs.lemmas.Map.Keys.{IsDistinct-head, IsDistinct-tail}
 use Rattle.std.proofs.lemmas.Map.Steps.{set_value_same}
 use borrow.Author.Tests.{eqb-true}
-use Rattle.vx_region.specs.Forest.{IsBelow, IsNumbered}
+use Rattle.vx_region.specs.Forest.{IsNumbered}
 use Rattle.vx_region.specs.Regions.{RegionData, Entry, Regions, region_at, parent_of, changed, changed_at}
 use Rattle.vx_region.proofs.Numbers.{find_above, distinct_numbers}
 

@@ -5,6 +5,7 @@ pub mod BlockSharing
 pub mod Blocks
 pub mod Forest
 pub mod IdIndex
+pub mod IdParts
 pub mod IdUpdates
 pub mod Laws
 pub mod ListSharing

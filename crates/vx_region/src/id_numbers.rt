@@ -1,33 +1,47 @@
-ghost use Rattle.std.specs.Prelude.{◌≡◌, [], Some, None, IfOk, OnOk, OnErr};
+ghost use Rattle.std.specs.Prelude.{◌≡◌, ◌<◌, [], Some, None, IfOk, OnOk, OnErr};
 ghost use Rattle.std.specs.Arc.{arc_value};
 ghost use Rattle.std.specs.Map.{lookup};
 ghost use Rattle.vx_region.specs.IdIndex.{same_id};
+ghost use Rattle.vx_region.specs.IdParts.{part_of, ids_of, AreParted, HaveChanged};
 ghost use Rattle.vx_region.specs.IdUpdates.{IsUpdated};
 
 use crate::id::Id;
-use indexmap::IndexMap;
+use crate::id_part::IdPart;
 use std::alloc::{AllocError, Global};
 use std::marker::Model;
 use std::sync::Arc;
 
-/// The number of each region by its id. Copies share it until one of them changes it.
-#[derive(Drop)]
+// The ids stand in so many parts.
+const PARTS: usize = 64;
+
+/// The number of each region by its id, in parts by a hash of the id. A copy shares all parts, and
+/// a change copies one of them.
 pub(crate) struct IdNumbers {
     // `None` until there is an id, since an `Arc` takes memory.
-    numbers: Option<Arc<IndexMap<Id, u32>>>,
+    parts: Option<Arc<Vec<IdPart>>>,
 }
 
 impl Model for IdNumbers {
-    ghost use Rattle.std.specs.Prelude.{List, [], ℕ};
+    ghost use Rattle.std.specs.Prelude.{[]};
     ghost use Rattle.std.specs.Arc.{arc_value};
-    ghost use Rattle.std.specs.Option.{option_map_or};
-    ghost use Rattle.indexmap.specs.IndexMap.{IndexMap as Numbers};
-    ghost use Rattle.vx_region.specs.declared.id.Id.{Id as AnyId};
+    ghost use Rattle.std.specs.Global.{Vec as Parts};
+    ghost use Rattle.std.specs.Option.{IfSome, option_map_or};
+    ghost use Rattle.vx_region.specs.IdParts.{IdList, ids_of, AreParted};
 
-    ghost Value = { List (AnyId × ℕ) };
+    ghost Value = { IdList };
 
     ghost view = { λ a. option_map_or
-        (λ n. (arc_value {X = Numbers AnyId ℕ _} n).entries) a.numbers [] };
+        (λ p. ids_of (arc_value {X = Parts IdList} p).items) a.parts [] };
+
+    ghost invariant = { λ a. IfSome a.parts
+        (λ p. AreParted (arc_value {X = Parts IdList} p).items) };
+}
+
+// Written out, so that what replaces it need not prove how its parts are let go.
+impl Drop for IdNumbers {
+    fn drop(self) {
+        let IdNumbers { parts: _parts } = self;
+    }
 }
 
 impl IdNumbers {
@@ -35,17 +49,17 @@ impl IdNumbers {
     pub(crate) fn new() -> IdNumbers
         ensures { result ≡ [] }
     {
-        IdNumbers { numbers: None }
+        IdNumbers { parts: None }
     }
 
     /// The number of that id.
     pub(crate) fn get(&self, id: &Id) -> Option<u32>
         ensures { result ≡ lookup (same_id id.now) self.now }
     {
-        let Some(numbers) = &self.numbers else {
+        let Some(parts) = &self.parts else {
             return None;
         };
-        numbers.get(id).copied()
+        parts[part_of(id)].get(id)
     }
 
     /// Gives the id this number.
@@ -53,10 +67,10 @@ impl IdNumbers {
         ensures ok { OnOk result (IsUpdated id (Some number) self.old self.new) }
         ensures err { OnErr result (self.new ≡ self.old) }
     {
-        match &mut self.numbers {
-            Some(shared) => put(shared, id, number),
+        match &mut self.parts {
+            Some(shared) => put(shared, alloc, id, number),
             None => {
-                self.numbers = Some(first(alloc, id, number)?);
+                self.parts = Some(first(alloc, id, number)?);
                 Ok(())
             }
         }
@@ -67,11 +81,10 @@ impl IdNumbers {
         ensures ok { OnOk result (IsUpdated id.now None self.old self.new) }
         ensures err { OnErr result (self.new ≡ self.old) }
     {
-        let Some(shared) = &mut self.numbers else {
-            return Ok(());
-        };
-        let _number = Arc::make_mut(shared)?.swap_remove(id);
-        Ok(())
+        match &mut self.parts {
+            Some(shared) => take_out(shared, id),
+            None => Ok(()),
+        }
     }
 }
 
@@ -79,32 +92,71 @@ impl Clone for IdNumbers {
     ghost is_clone = { λ numbers copy. copy ≡ numbers };
 
     fn clone(&self) -> Result<IdNumbers, AllocError> {
-        let Some(numbers) = &self.numbers else {
+        let Some(parts) = &self.parts else {
             return Ok(IdNumbers::new());
         };
         Ok(IdNumbers {
-            numbers: Some(Arc::try_clone(numbers)?),
+            parts: Some(Arc::try_clone(parts)?),
         })
     }
 }
 
-// Gives the id this number among those that copies may share.
-fn put(shared: &mut Arc<IndexMap<Id, u32>>, id: Id, number: u32) -> Result<(), AllocError>
-    ensures ok { OnOk result (IsUpdated id (Some number)
-        (arc_value shared.old).entries (arc_value shared.new).entries) }
-    ensures err { OnErr result
-        ((arc_value shared.new).entries ≡ (arc_value shared.old).entries) }
+// The number of the part in which the id stands.
+#[tactic(auto, unfolding(crate::specs::IdParts::part_of))]
+fn part_of(id: &Id) -> usize
+    ensures value { result ≡ part_of id.now.text.bytes }
+    ensures within { result < 64 }
 {
-    let _replaced = Arc::make_mut(shared)?.insert(id, number)?;
-    Ok(())
+    let mut part = 0;
+    for byte in id.as_str().as_bytes() {
+        part = (part * 13 + *byte as usize) % PARTS;
+    }
+    part
 }
 
-// The number of the first id.
-fn first(alloc: Global, id: Id, number: u32) -> Result<Arc<IndexMap<Id, u32>>, AllocError>
-    ensures { IfOk result (λ numbers. IsUpdated id (Some number)
-        [] (arc_value numbers).entries) }
+// Gives the id this number in its part. Where copies share the parts, that part is copied.
+fn put(shared: &mut Arc<Vec<IdPart>>, alloc: Global, id: Id, number: u32) -> Result<(), AllocError>
+    requires { AreParted (arc_value shared.old).items }
+    ensures ok { OnOk result (HaveChanged id (Some number)
+        (arc_value shared.old).items (arc_value shared.new).items) }
+    ensures err { OnErr result ((arc_value shared.new).items ≡ (arc_value shared.old).items) }
 {
-    let mut numbers = IndexMap::new(alloc);
-    let _replaced = numbers.insert(id, number)?;
-    Ok(Arc::new(alloc, numbers)?)
+    let index = part_of(&id);
+    let parts = Arc::make_mut(shared)?;
+    parts[index].add(alloc, id, number)
+}
+
+// Takes the number from the id in its part. Where copies share the parts, that part is copied.
+fn take_out(shared: &mut Arc<Vec<IdPart>>, id: &Id) -> Result<(), AllocError>
+    requires { AreParted (arc_value shared.old).items }
+    ensures ok { OnOk result (HaveChanged id.now None
+        (arc_value shared.old).items (arc_value shared.new).items) }
+    ensures err { OnErr result ((arc_value shared.new).items ≡ (arc_value shared.old).items) }
+{
+    let index = part_of(id);
+    let parts = Arc::make_mut(shared)?;
+    parts[index].remove(id)
+}
+
+// The parts of the first id.
+fn first(alloc: Global, id: Id, number: u32) -> Result<Arc<Vec<IdPart>>, AllocError>
+    ensures parted { IfOk result (λ shared. AreParted (arc_value shared).items) }
+    ensures updated { IfOk result (λ shared. IsUpdated id (Some number)
+        [] (ids_of (arc_value shared).items)) }
+{
+    let mut shared = Arc::new(alloc, no_ids(alloc)?)?;
+    put(&mut shared, alloc, id, number)?;
+    Ok(shared)
+}
+
+// Parts without an id.
+fn no_ids(alloc: Global) -> Result<Vec<IdPart>, AllocError>
+    ensures parted { IfOk result (λ parts. AreParted parts.items) }
+    ensures none { IfOk result (λ parts. ids_of parts.items ≡ []) }
+{
+    let mut parts = Vec::with_capacity(alloc, PARTS)?;
+    for _ in 0..PARTS {
+        parts.push(IdPart::new())?;
+    }
+    Ok(parts)
 }

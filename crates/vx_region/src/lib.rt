@@ -5,6 +5,7 @@
 mod block;
 mod id;
 mod id_numbers;
+mod id_part;
 mod laws;
 mod name;
 mod region;

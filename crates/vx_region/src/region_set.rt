@@ -26,8 +26,8 @@ use vx_flag::{Association, Flag, Setting, Settings};
 use vx_geom::{Pos, Shape};
 
 /// The regions of a world, in order of their numbers, and the flags of the world at large, which is
-/// `__global__` and has number 0. A number is never given twice. Copies share regions in blocks: a
-/// change copies the region and its block.
+/// `__global__` and has number 0. A number is never given twice. Copies share regions in blocks and
+/// ids in parts: a change copies the region, its block and one part at most.
 pub struct RegionSet {
     last: u32,
     regions: RegionList,

@@ -1,31 +1,27 @@
-use Rattle.std.proofs.Common.{ℕ, Some, cond, is_ok, ap, ◌∙◌}
-use Rattle.std.proofs.lemmas.Result.{IfOk-from_err}
-use Rattle.std.specs.Map.{lookup}
-use Rattle.indexmap.specs.IndexMap.{IndexMap}
-use Rattle.vx_region.specs.declared.id.Id.{Id}
-use Rattle.vx_region.specs.IdIndex.{same_id}
-use Rattle.vx_region.proofs.IdChanges.{taken}
-use Rattle.vx_region.proofs.Lookups.{on_any_err}
-use Rattle.vx_region.proofs.Owning.{refused}
+use Rattle.std.proofs.Common.{Some, is_ok, ap, ◌∙◌, List, subst, sym}
+use Rattle.std.proofs.lemmas.Result.{on_ok_weaker, on_err_weaker}
+use Rattle.std.specs.Arc.{arc_value}
+use Rattle.std.specs.Global.{Vec}
+use Rattle.vx_region.specs.IdParts.{IdList, HaveChanged}
+use Rattle.vx_region.proofs.IdParts.{parts_taken, part_changed, part_left}
 use Rattle.vx_region.proofs.id_numbers.put.Goals as goal
 
-pub returns-in_err-make_mut-clause-ok : goal.returns-in_err-make_mut-clause-ok
-returns-in_err-make_mut-clause-ok c = IfOk-from_err c.from_residual.result _ c.from_residual.ensures.0
-
-pub returns-in_err-make_mut-clause-err : goal.returns-in_err-make_mut-clause-err
-returns-in_err-make_mut-clause-err c =
-    on_any_err c.from_residual.result (taken _ _ (refused c.make_mut.result _ c.in_err-make_mut.was c.make_mut.follows.holds-at-none))
-
-pub returns-in_err-_replaced-clause-ok : goal.returns-in_err-_replaced-clause-ok
-returns-in_err-_replaced-clause-ok c = IfOk-from_err c.from_residual-in_err-_replaced.result _ c.from_residual-in_err-_replaced.ensures.0
-
-pub returns-in_err-_replaced-clause-err : goal.returns-in_err-_replaced-clause-err
-returns-in_err-_replaced-clause-err c =
-    on_any_err c.from_residual-in_err-_replaced.result
-    (ap (λ (n : IndexMap Id ℕ _). n.entries) (c.make_mut.follows.holds c.insert.new.self (ap is_ok c.in_ok-make_mut.was))
-    ∙ c.in_err-_replaced.ensures.err ∙ taken _ _ c.in_ok-make_mut.ensures.value)
-
 pub returns-clause-ok : goal.returns-clause-ok
-returns-clause-ok c q =
-    ap (λ (n : IndexMap Id ℕ _). lookup (same_id q) n.entries) (c.make_mut.follows.holds c.insert.new.self (ap is_ok c.in_ok-make_mut.was)) ∙ c.in_ok-_replaced.ensures.updates.0 q
-    ∙ ap (λ es. cond (same_id c.args.id q) (Some c.args.number) (lookup (same_id q) es)) (taken _ _ c.in_ok-make_mut.ensures.value)
+returns-clause-ok c =
+    let old = (arc_value c.args.shared.now).items in
+    let own = c.in_ok-parts.parts.now.items in
+    let copied = parts_taken _ _ c.in_ok-parts.ensures.value in
+    on_ok_weaker c.add.result
+    (λ updated. subst (λ (ps : List IdList). HaveChanged c.args.id (Some c.args.number) old ps) (sym (ap (λ (v : Vec IdList). v.items) (c.make_mut.follows.holds _ (ap is_ok c.in_ok-parts.was))))
+    (part_changed old own c.args.id c.part_of-index.result _ c.add.new.self c.requires copied c.part_of-index.ensures.value c.index_mut.ensures.value (Some c.args.number) updated))
+    c.add.ensures.ok
+
+pub returns-clause-err : goal.returns-clause-err
+returns-clause-err c =
+    let old = (arc_value c.args.shared.now).items in
+    let own = c.in_ok-parts.parts.now.items in
+    let copied = parts_taken _ _ c.in_ok-parts.ensures.value in
+    on_err_weaker c.add.result
+    (λ same. ap (λ (v : Vec IdList). v.items) (c.make_mut.follows.holds _ (ap is_ok c.in_ok-parts.was))
+    ∙ part_left old own c.args.id c.part_of-index.result _ c.add.new.self c.requires copied c.part_of-index.ensures.value c.index_mut.ensures.value same)
+    c.add.ensures.err

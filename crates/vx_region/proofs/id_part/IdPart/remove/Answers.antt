@@ -4,7 +4,7 @@ use Rattle.indexmap.specs.IndexMap.{IndexMap}
 use Rattle.vx_region.specs.declared.id.Id.{Id}
 use Rattle.vx_region.specs.IdIndex.{same_id}
 use Rattle.vx_region.proofs.IdChanges.{taken}
-use Rattle.vx_region.proofs.id_numbers.IdNumbers.remove.Goals as goal
+use Rattle.vx_region.proofs.id_part.IdPart.remove.Goals as goal
 
 pub returns-clause-ok : goal.returns-clause-ok
 returns-clause-ok c q =

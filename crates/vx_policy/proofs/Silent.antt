@@ -1,8 +1,7 @@
 -- A flag that is set nowhere stays so behind each edit that does not set it.
-use Rattle.std.proofs.Common.{◌≡◌, ◌≢◌, ℕ, true, false, Bool, cond, not, ◌||◌, nat_eq, if◌then◌else◌, List, [], ◌∷◌, ◌++◌, filter, Option, Some, None, is_some, refl, ap, sym, ◌∙◌, inl, inr, subst}
+use Rattle.std.proofs.Common.{◌≡◌, ℕ, true, false, Bool, cond, ◌||◌, nat_eq, if◌then◌else◌, List, [], ◌∷◌, ◌++◌, filter, Option, Some, None, is_some, refl, ap, sym, ◌∙◌, inl, inr, subst}
 use Rattle.std.specs.List.{list_any}
-use Rattle.std.specs.Option.{option_and_then}
-use Rattle.std.proofs.lemmas.Bool.{cases_eq, eq-eqb}
+use Rattle.std.proofs.lemmas.Bool.{cases_eq}
 use Rattle.vx_flag.specs.declared.flag.Flag.{Flag}
 use Rattle.vx_flag.specs.declared.setting.Setting.{Setting}
 use Rattle.vx_flag.specs.Flag.{flag_index}
@@ -19,7 +18,7 @@ use Rattle.vx_region.specs.Regions.{RegionData, Entry, Regions, no_regions, sett
 use Rattle.vx_region.specs.Words.{read_id, read_name}
 use Rattle.vx_region.proofs.Globals.{flag_at_large, flag_of_region}
 use Rattle.vx_policy.specs.Asked.{Asked, Define, Reshape, Remove, Priority, Parent, SetFlag, ClearFlag, Listed}
-use Rattle.vx_policy.specs.Edits.{given, listed, edited}
+use Rattle.vx_policy.specs.Edits.{listed, edited}
 use Rattle.vx_policy.specs.Refusals.{numbered}
 use Rattle.vx_policy.specs.Silence.{LeavesUnset}
 use Rattle.vx_policy.specs.declared.listing.Listing.{Listing}

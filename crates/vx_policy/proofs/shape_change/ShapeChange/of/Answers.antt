@@ -1,10 +1,9 @@
 use Rattle.std.proofs.Common.{◌≡◌, ap, sym, ◌∙◌, subst, Some}
 use Rattle.std.specs.Prelude.{string_bytes}
-use Rattle.std.specs.List.{remove}
 use Rattle.std.proofs.lemmas.Option.{slice_get_within}
 use Rattle.vx_geom.specs.Written.{written}
 use Rattle.vx_index.specs.Shapes.{shapes_of}
-use Rattle.vx_policy.specs.Asked.{Define, Reshape, Remove, asked}
+use Rattle.vx_policy.specs.Asked.{Define, Reshape, asked}
 use Rattle.vx_policy.specs.Edits.{edited}
 use Rattle.vx_policy.specs.Outlines.{DefinesOne, Reshapes}
 use Rattle.vx_policy.specs.Refusals.{numbered}

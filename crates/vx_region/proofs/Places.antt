@@ -31,6 +31,10 @@ none_found number (e ∷ es) other =
     ap (λ b. cond b (Some e.1) (lookup (nat_eq number) es)) (ne_eqb number e.0 (λ same. other 0 e refl (sym same)))
     ∙ none_found number es (λ i d there. other (suc i) d there)
 
+-- no entry has number 0
+pub none_at_zero : (es : List Entry) → IsAscending 0 es → lookup (nat_eq 0) es ≡ None
+none_at_zero es up = none_found 0 es (λ i e there same. omega (arith, number_above 0 es i e up there))
+
 -- nor one that stands neither before a place nor from it on
 pub none_beside : (place number : ℕ) (es : List Entry) (low : ℕ) → AreBefore low number es → AreBehind place number es → place ≤ low → lookup (nat_eq number) es ≡ None
 none_beside place number es low before behind meet =

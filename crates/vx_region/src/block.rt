@@ -21,6 +21,8 @@ pub(crate) const FULL: usize = 64;
 pub(crate) struct Block {
     // The place of the first one in the list.
     start: usize,
+    // No number is lower. No clause says so: only costs rest on it.
+    first: u32,
     entries: Arc<Vec<(u32, SharedRegion)>>,
 }
 
@@ -51,6 +53,7 @@ impl Block {
         entries.push((number, region))?;
         Ok(Block {
             start,
+            first: number,
             entries: Arc::new(alloc, entries)?,
         })
     }
@@ -76,6 +79,18 @@ impl Block {
         let inside = place.checked_sub(self.start)?;
         let (number, region) = self.entries.get(inside)?;
         Some((*number, region.region()))
+    }
+
+    /// Whether the block begins with that number or a lower one.
+    pub(crate) fn begins_by(&self, number: u32) -> bool {
+        self.first <= number
+    }
+
+    /// The place of the list where the region of that number stands, if it stands in the block. No
+    /// clause says so: only costs rest on it.
+    pub(crate) fn place_near(&self, number: u32) -> usize {
+        let before = self.entries.partition_point(|entry| entry.0 < number);
+        self.start.wrapping_add(before)
     }
 
     /// Whether some region of the block has the region of that number as its parent.
@@ -149,6 +164,7 @@ impl Clone for Block {
     fn clone(&self) -> Result<Block, AllocError> {
         Ok(Block {
             start: self.start,
+            first: self.first,
             entries: Arc::try_clone(&self.entries)?,
         })
     }

@@ -79,7 +79,13 @@ impl RegionList {
         requires { IsAscending 0 self.now }
         ensures { option_copied result ≡ lookup (nat_eq number) self.now }
     {
+        if number == 0 {
+            return None;
+        }
         if let Some(region) = self.in_place(number) {
+            return Some(region);
+        }
+        if let Some(region) = self.in_order(number) {
             return Some(region);
         }
         Some(self.nth(self.place_of(number)?)?.1)
@@ -93,6 +99,18 @@ impl RegionList {
     {
         let place = number.checked_sub(1)?;
         let (found, region) = self.in_full_blocks(place as usize)?;
+        if found == number { Some(region) } else { None }
+    }
+
+    // The region of that number, if it stands in the last block that begins by it. It stands there
+    // if anywhere. No clause says so: only costs rest on it.
+    fn in_order(&self, number: u32) -> Option<&Region>
+        requires { IsAscending 0 self.now }
+        ensures { IfSome result (λ region. lookup (nat_eq number) self.now ≡ Some region.now) }
+    {
+        let behind = self.blocks.partition_point(|block| block.begins_by(number));
+        let block = self.blocks.get(behind.checked_sub(1)?)?;
+        let (found, region) = block.at(block.place_near(number))?;
         if found == number { Some(region) } else { None }
     }
 

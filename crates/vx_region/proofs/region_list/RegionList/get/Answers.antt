@@ -1,7 +1,12 @@
-use Rattle.std.proofs.Common.{sym}
+use Rattle.std.proofs.Common.{nat_eq, ap, sym, ◌∙◌}
+use Rattle.std.specs.Map.{lookup}
 use Rattle.vx_region.specs.Regions.{Entry}
-use Rattle.vx_region.proofs.Places.{found_at, same_number}
+use Rattle.vx_region.proofs.Places.{found_at, none_at_zero, same_number}
 use Rattle.vx_region.proofs.region_list.RegionList.get.Goals as goal
+
+pub returns-then-number-eq0 : goal.returns-then-number-eq0
+returns-then-number-eq0 c =
+    sym (ap (λ n. lookup (nat_eq n) c.args.self.now) c.if-number-eq0.true ∙ none_at_zero c.args.self.now c.requires)
 
 pub returns : goal.returns
 returns c =

@@ -1,6 +1,7 @@
-//! A plain program of the rules in docs/RULES.md and docs/FORMATS.md, without machines, to compare times with.
-//! It reads a script on standard input, writes the replies, and ends by the same faults. A tick closes the window and
-//! takes the newer policy; no signal and no piston is stepped. Nothing here is proved.
+//! A plain program of the rules in docs/RULES.md and docs/FORMATS.md, to measure beside. It reads a script on standard
+//! input, writes the replies, and ends by the same faults. It knows neither blocks (`together`) nor questions
+//! (`explain`), and has no options but `--anew`, by which each tick finds all levels and all parts anew, to check the
+//! ticks by that look only where something changed. Nothing here is proved. Machines are in the files of plain/.
 //!
 //!     rustc -O -C target-cpu=x86-64 plain.rs
 //!
@@ -14,6 +15,24 @@ use std::mem;
 use std::os::fd::AsFd;
 use std::process::ExitCode;
 use std::rc::Rc;
+
+#[path = "plain/cell_set.rs"]
+mod cell_set;
+#[path = "plain/dust.rs"]
+mod dust;
+#[path = "plain/machines.rs"]
+mod machines;
+#[path = "plain/natures.rs"]
+mod natures;
+#[path = "plain/pistons.rs"]
+mod pistons;
+#[path = "plain/signals.rs"]
+mod signals;
+
+use machines::Machines;
+use natures::OUTSIDE;
+use pistons::Fate;
+use signals::Steps;
 
 const MOST_SCRIPT_BYTES: usize = 16_777_216;
 const MOST_LINE_BYTES: usize = 4096;
@@ -101,7 +120,7 @@ fn part(word: &[u8]) -> Option<u8> {
     }
 }
 
-/// A piston that is out, or a head; without machines there are none.
+/// A piston that is out, or a head.
 fn is_extended(cell: u8) -> bool {
     cell >= HEAD || cell >= PISTON && (cell - PISTON) % 2 == 1
 }
@@ -119,11 +138,15 @@ type Slots = [Slot; 27];
 
 const HEIGHT: i32 = 64;
 
+/// So many cells outside the world stand round it, so that what is two steps off can be read without a test.
+const MARGIN: i32 = 2;
+
 struct World {
     width: i32,
     depth: i32,
     /// A sector has 2 to the power of so many columns on a side.
     sector_bits: u32,
+    /// By y, then z, then x, which is the order of positions.
     cells: Vec<u8>,
     /// What the chests hold, by the index of the cell. An entry of the record shares what it showed.
     chests: HashMap<usize, Rc<Slots>>,
@@ -133,20 +156,44 @@ impl World {
     fn new(east: i32, south: i32, chunks: i32) -> World {
         let sector_bits = if chunks == 1 { 4 } else { 5 };
         let (width, depth) = (east << sector_bits, south << sector_bits);
-        World {
-            width,
-            depth,
-            sector_bits,
-            cells: vec![AIR; (width * depth * HEIGHT) as usize],
-            chests: HashMap::new(),
+        let mut world = World { width, depth, sector_bits, cells: Vec::new(), chests: HashMap::new() };
+        world.cells = vec![OUTSIDE; (world.layer() * (HEIGHT + 2 * MARGIN)) as usize];
+        for (y, z) in (0..HEIGHT).flat_map(|y| (0..depth).map(move |z| (y, z))) {
+            let start = world.place(Pos { x: 0, y, z });
+            world.cells[start..start + width as usize].fill(AIR);
         }
+        world
+    }
+
+    /// How many cells lie between one and its neighbor to the south, and the one over it.
+    fn row(&self) -> i32 {
+        self.width + 2 * MARGIN
+    }
+
+    fn layer(&self) -> i32 {
+        self.row() * (self.depth + 2 * MARGIN)
+    }
+
+    fn steps(&self) -> Steps {
+        let (row, layer) = (self.row() as isize, self.layer() as isize);
+        Steps { by: [1, -1, layer, -layer, row, -row] }
+    }
+
+    fn place(&self, p: Pos) -> usize {
+        ((p.y + MARGIN) * self.layer() + (p.z + MARGIN) * self.row() + p.x + MARGIN) as usize
+    }
+
+    /// The position of a cell.
+    fn pos(&self, at: usize) -> Pos {
+        let (at, row, layer) = (at as i32, self.row(), self.layer());
+        Pos { x: at % row - MARGIN, y: at / layer - MARGIN, z: at % layer / row - MARGIN }
     }
 
     /// Where the cell of a position is, if it is in the world.
     fn index(&self, p: Pos) -> Option<usize> {
         let is_inside =
             (0..self.width).contains(&p.x) && (0..HEIGHT).contains(&p.y) && (0..self.depth).contains(&p.z);
-        is_inside.then(|| ((p.y * self.depth + p.z) * self.width + p.x) as usize)
+        is_inside.then(|| self.place(p))
     }
 
     fn sectors(&self) -> usize {
@@ -260,7 +307,11 @@ const FLAGS: [(&str, Flag); 7] = [
 #[derive(Clone, Copy, PartialEq)]
 enum State { Allow, Deny }
 
-/// What a player is to a region.
+/// Who asks: a player, or a machine by where it stands.
+#[derive(Clone, Copy)]
+enum Subject<'a> { Player(&'a Name), Machine(Pos) }
+
+/// What the subject is to a region.
 #[derive(Clone, Copy, PartialEq)]
 enum Standing { Owner, Member, Stranger }
 
@@ -642,8 +693,8 @@ impl Judge {
         }
     }
 
-    /// What the policy says to a player about an action, by its flag, at a place in the world.
-    fn verdict(&mut self, player: &Name, flag: Flag, p: Pos) -> Verdict {
+    /// What the policy says to a subject about an action, by its flag, at a place in the world.
+    fn verdict(&mut self, subject: Subject, flag: Flag, p: Pos) -> Verdict {
         let mut found = mem::take(&mut self.found);
         let mut tops = mem::take(&mut self.tops);
         found.clear();
@@ -651,7 +702,13 @@ impl Judge {
         for &number in &self.by_chunk[chunk] {
             let region = self.regions.there(number);
             if region.shape.contains(p) {
-                found.push(Found { number, priority: region.priority, standing: self.standing(region, player) });
+                let standing = match subject {
+                    Subject::Player(player) => self.standing(region, player),
+                    // It owns the land that it stands on itself.
+                    Subject::Machine(place) if region.shape.contains(place) => Standing::Owner,
+                    Subject::Machine(_) => Standing::Stranger,
+                };
+                found.push(Found { number, priority: region.priority, standing });
             }
         }
         let verdict = self.by_flag(&found, &mut tops, flag);
@@ -676,7 +733,7 @@ impl Judge {
         standing
     }
 
-    /// What the nearest region of the ancestry sets for a group that the player is of.
+    /// What the nearest region of the ancestry sets for a group that the subject is of.
     fn value(&self, number: u32, flag: Flag, standing: Standing) -> Option<Value> {
         let mut next = Some(number);
         while let Some(from) = next {
@@ -715,7 +772,7 @@ impl Judge {
             return ruled(value.state, Rule::Build { at, from: value.from });
         }
         let is_insider = |top: &&Top| top.standing != Standing::Stranger;
-        // An ancestor of a region that admits the player needs not admit them itself.
+        // An ancestor of a region that admits the subject needs not admit them itself.
         self.mark_ancestors(tops.iter().filter(is_insider).map(|top| top.number));
         if let Some(failing) = tops.iter().find(|top| !is_insider(top) && !self.is_marked(top.number)) {
             return Err(Rule::Member { at: failing.number });
@@ -941,6 +998,36 @@ fn write_answer(out: &mut Vec<u8>, answer: &Answer, cell_texts: &[String]) {
     out.push(b'\n');
 }
 
+fn write_pos(out: &mut Vec<u8>, p: Pos) {
+    for coordinate in [p.x, p.y, p.z] {
+        out.push(b' ');
+        write_number(out, coordinate as u64); // not below zero inside the world
+    }
+}
+
+fn write_fate(out: &mut Vec<u8>, world: &World, piston: usize, fate: Fate) {
+    out.extend_from_slice(match fate {
+        Fate::Moved => b"moved",
+        Fate::Denied(..) => b"denied",
+        Fate::Beaten(_) => b"beaten",
+    });
+    write_pos(out, world.pos(piston));
+    match fate {
+        Fate::Moved => {}
+        Fate::Denied(cell, rule) => {
+            out.extend_from_slice(b" at");
+            write_pos(out, world.pos(cell));
+            out.push(b' ');
+            write_rule(out, rule);
+        }
+        Fate::Beaten(first) => {
+            out.extend_from_slice(b" by");
+            write_pos(out, world.pos(first));
+        }
+    }
+    out.push(b'\n');
+}
+
 // ------------------------------------------------------------------------------------------------------------- Lines
 
 /// The words of a line, apart by spaces.
@@ -1139,6 +1226,8 @@ struct Opening {
     world: Option<World>,
     players: Vec<Name>,
     names: HashSet<Name>,
+    /// The cells that were set.
+    placed: Vec<usize>,
 }
 
 impl Opening {
@@ -1157,6 +1246,7 @@ impl Opening {
                 let world = self.world.as_mut()?;
                 let at = world.index(p)?;
                 world.put_cell(at, cell);
+                self.placed.push(at);
             }
             Line::Nothing => {}
             _ => return None,
@@ -1171,6 +1261,7 @@ struct Game {
     players: Vec<Name>,
     judge: Judge,
     desk: Desk,
+    machines: Machines,
     /// The commands of the window, by sector.
     records: Vec<Vec<Entry>>,
     cell_texts: Vec<String>,
@@ -1179,12 +1270,13 @@ struct Game {
 }
 
 impl Game {
-    fn new(world: World, players: Vec<Name>) -> Game {
+    fn new(world: World, players: Vec<Name>, placed: Vec<usize>, is_anew: bool) -> Game {
         let mut records = Vec::new();
         records.resize_with(world.sectors(), Vec::new);
         Game {
             judge: Judge::new(&world),
             desk: Desk::new(),
+            machines: Machines::new(&world, placed, is_anew),
             records,
             world,
             players,
@@ -1229,10 +1321,15 @@ impl Game {
             Action::Turn => Flag::Use,
             Action::Open | Action::Put { .. } | Action::Take { .. } => Flag::ChestAccess,
         };
-        match self.judge.verdict(&self.players[seat], flag, p) {
+        match self.judge.verdict(Subject::Player(&self.players[seat]), flag, p) {
             Err(rule) => Answer::Denied(rule),
             Ok(rule) => match self.world.act(index, action) {
-                Ok(None) => Answer::Done(rule),
+                Ok(None) => {
+                    if let Action::Place(_) | Action::Break | Action::Turn = action {
+                        self.machines.note(index);
+                    }
+                    Answer::Done(rule)
+                }
                 Ok(Some(slots)) => Answer::Opened(rule, slots),
                 Err(refusal) => Answer::Refused(refusal),
             },
@@ -1254,16 +1351,20 @@ impl Game {
         }
     }
 
-    /// Closes the window: its record is over, and the edits so far are in force.
+    /// Closes the window: its record is over, machines step under its policy, and then the edits so far are in force.
     fn tick(&mut self, out: &mut Vec<u8>) {
         self.ticks += 1;
         for record in &mut self.records {
             record.clear();
         }
-        self.judge.take_version(&mut self.desk);
         out.extend_from_slice(b"tick ");
         write_number(out, self.ticks);
         out.push(b'\n');
+        let fates = self.machines.tick(&mut self.world, &mut self.judge);
+        for &(piston, fate) in fates {
+            write_fate(out, &self.world, piston, fate);
+        }
+        self.judge.take_version(&mut self.desk);
     }
 }
 
@@ -1273,6 +1374,7 @@ enum Stage { Header(Opening), Body(Game) }
 struct Script {
     stage: Stage,
     lines: u64,
+    is_anew: bool,
 }
 
 impl Script {
@@ -1304,7 +1406,8 @@ impl Script {
                 return Err(Fault::Players);
             }
             if let Some(world) = opening.world.take() {
-                self.stage = Stage::Body(Game::new(world, mem::take(&mut opening.players)));
+                let (players, placed) = (mem::take(&mut opening.players), mem::take(&mut opening.placed));
+                self.stage = Stage::Body(Game::new(world, players, placed, self.is_anew));
             }
         }
         Ok(())
@@ -1421,7 +1524,8 @@ fn play() -> Result<(), Fault> {
     let mut input =
         Input { file: input.into(), buffer: vec![0; BUFFER_BYTES], start: 0, end: 0, bytes: 0, reads: 0 };
     let mut output = Output { file: output.into(), pending: Vec::with_capacity(2 * BUFFER_BYTES) };
-    let mut script = Script { stage: Stage::Header(Opening::default()), lines: 0 };
+    let is_anew = std::env::args().any(|word| word == "--anew");
+    let mut script = Script { stage: Stage::Header(Opening::default()), lines: 0, is_anew };
     // The fault that was met first is told, and what is pending is written all the same.
     let result = run(&mut input, &mut script, &mut output);
     result.and(output.flush())

@@ -20,8 +20,8 @@ pub struct Machines {
     wires: Wires,
     /// Cells that are others than at the last tick.
     changed: Vec<usize>,
-    /// Cells whose change is nothing to their neighbors, as that of a count.
-    counting: Vec<usize>,
+    /// Cells whose change is nothing to others, as that of a count.
+    alone: Vec<usize>,
     /// What is awake in this tick: dust, and parts that may become another part.
     dust: CellSet,
     parts: CellSet,
@@ -44,7 +44,7 @@ impl Machines {
             near: near(&steps),
             wires: Wires::new(count, steps),
             changed: Vec::new(),
-            counting: placed,
+            alone: placed,
             dust: CellSet::new(count),
             parts: CellSet::new(count),
             restless: Vec::new(),
@@ -90,7 +90,7 @@ impl Machines {
             }
         }
         self.near = near;
-        for at in std::mem::take(&mut self.counting) {
+        for at in std::mem::take(&mut self.alone) {
             self.wake(cells, at);
         }
     }
@@ -224,13 +224,16 @@ impl Machines {
 
     /// Puts down what parts become, and then what moves leave.
     fn put_down(&mut self, cells: &mut [u8]) {
-        for &(at, next) in &self.turned {
-            let (new, old) = (nature(next), nature(cells[at]));
-            if new.gives == old.gives { self.counting.push(at) } else { self.changed.push(at) }
+        let (changed, alone) = (&mut self.changed, &mut self.alone);
+        let mut put = |cells: &mut [u8], at: usize, next: u8| {
+            let is_alone = nature(next).is_same_to_others(nature(cells[at]));
+            if is_alone { alone.push(at) } else { changed.push(at) }
             cells[at] = next;
+        };
+        for &(at, next) in &self.turned {
+            put(cells, at, next);
         }
-        let changed = &mut self.changed;
-        self.moves.make(cells, |at| changed.push(at));
+        self.moves.make(cells, put);
     }
 }
 

@@ -50,6 +50,16 @@ pub struct Nature {
     pub facing: usize,
 }
 
+impl Nature {
+    /// Whether signals near by are the same by this cell as by another.
+    pub fn is_same_to_others(&self, other: &Nature) -> bool {
+        (self.kind == Kind::Dust) == (other.kind == Kind::Dust)
+            && self.conducts == other.conducts
+            && self.gives == other.gives
+            && self.joined == other.joined
+    }
+}
+
 const PLAIN: Nature =
     Nature { kind: Kind::Block, way: Way::Stays, conducts: false, gives: 0, drives: 0, joined: 0, facing: UP };
 

@@ -1,7 +1,5 @@
 //! The moves that pistons ask for, and what becomes of them.
 
-use std::mem;
-
 use crate::natures::{head_of, is_second, is_sticky, nature, Way};
 use crate::signals::Steps;
 use crate::{Flag, Judge, Rule, Subject, World, AIR, PISTON};
@@ -61,12 +59,11 @@ impl Moves {
         }
     }
 
-    /// Makes the moves that nothing stands against, and tells the cells that they took.
-    pub fn make(&self, cells: &mut [u8], mut changed: impl FnMut(usize)) {
+    /// Makes the moves that nothing stands against, by putting down each cell that they leave.
+    pub fn make(&self, cells: &mut [u8], mut put: impl FnMut(&mut [u8], usize, u8)) {
         for (asked, (_, fate)) in self.asked.iter().zip(&self.fates) {
             if let Fate::Moved = fate {
-                put_down(cells, *asked);
-                asked.cells().for_each(&mut changed);
+                put_down(cells, *asked, &mut put);
             }
         }
     }
@@ -110,19 +107,22 @@ fn denial(world: &World, judge: &mut Judge, asked: Move) -> Option<(usize, Rule)
 
 /// Puts down what a move leaves: a push its piston, the head, and each cell one further; a draw its piston, what it
 /// pulled in the place of the head, and air.
-fn put_down(cells: &mut [u8], asked: Move) {
+fn put_down(cells: &mut [u8], asked: Move, put: &mut impl FnMut(&mut [u8], usize, u8)) {
     let piston = cells[asked.piston];
     if asked.is_push {
         let mut pushed = head_of(piston);
         for cell in asked.cells().skip(1) {
-            pushed = mem::replace(&mut cells[cell], pushed);
+            let next = cells[cell];
+            put(cells, cell, pushed);
+            pushed = next;
         }
-        cells[asked.piston] = piston + 1;
+        put(cells, asked.piston, piston + 1);
     } else {
         for n in 2..asked.count {
-            cells[asked.cell(n - 1)] = cells[asked.cell(n)];
+            let pulled = cells[asked.cell(n)];
+            put(cells, asked.cell(n - 1), pulled);
         }
-        cells[asked.cell(asked.count - 1)] = AIR;
-        cells[asked.piston] = piston - 1;
+        put(cells, asked.cell(asked.count - 1), AIR);
+        put(cells, asked.piston, piston - 1);
     }
 }

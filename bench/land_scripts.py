@@ -1,0 +1,270 @@
+#!/usr/bin/env python3
+"""The scripts of bench/land.sh, the same at each call.
+
+    land_scripts.py NAME [NUMBER] DIRECTORY
+
+writes DIRECTORY/whole.vx and DIRECTORY/head.vx, the same script cut before the part that is measured. NUMBER is the point
+of a sweep. The names stand at the end of this file.
+"""
+import random
+import sys
+
+PLAYERS = ["ann", "bob", "cyd"]
+GROUPS = ["all", "members", "owners", "nonmembers", "nonowners"]
+FLAGS = ["build", "block-break", "block-place", "use", "chest-access", "passthrough", "pistons"]
+BLOCKS = ["stone", "dirt", "planks", "glass", "obsidian"]
+PARTS = BLOCKS + ["dust", "torch:down", "lever:up", "repeater:north:3", "lamp"]
+KINDS = ["define", "remove", "reshape", "priority", "parent", "flag", "clear", "owner", "member"]
+
+
+def world(sectors, chunks=2, players=PLAYERS):
+    """A square world of so many sectors a side, and its players."""
+    return [f"world {sectors} {sectors} {chunks}"] + [f"player {name}" for name in players]
+
+
+def shape(r, side):
+    """4 to 40 columns a side somewhere in a square of so many columns; of ten, one is a polygon of 4 to 8 corners."""
+    width, depth = r.randint(4, 40), r.randint(4, 40)
+    x, z = r.randrange(side - width + 1), r.randrange(side - depth + 1)
+    if r.random() < 0.9:
+        return f"cuboid {x} 0 {z} {x + width - 1} 63 {z + depth - 1}"
+    count = r.randint(4, 8)
+    # Corners on the four edges of the box, one after another round it.
+    edges = sorted(r.sample(range(2 * (width + depth) - 4), count))
+    return "polygon 0 63 " + " ".join(corner(edge, x, z, width - 1, depth - 1) for edge in edges)
+
+
+def corner(edge, x, z, width, depth):
+    if edge < width:
+        return f"{x + edge} {z}"
+    edge -= width
+    if edge < depth:
+        return f"{x + width} {z + edge}"
+    edge -= depth
+    if edge < width:
+        return f"{x + width - edge} {z + depth}"
+    return f"{x} {z + depth - (edge - width)}"
+
+
+def regions(r, count, side):
+    """So many regions, with owners, members, flags, priorities and a few parents."""
+    for n in range(count):
+        yield f"region define r{n} {shape(r, side)}"
+        yield from details(r, n)
+
+
+def details(r, n):
+    if r.random() < 0.6:
+        yield f"region owner r{n} add {r.choice(PLAYERS)}"
+    if r.random() < 0.5:
+        yield f"region member r{n} add {r.choice(PLAYERS)}"
+    if r.random() < 0.4:
+        yield f"region priority r{n} {r.randint(-2, 5)}"
+    if r.random() < 0.5:
+        yield flag(r, n)
+    if n and r.random() < 0.05:
+        yield f"region parent r{n} r{r.randrange(n)}"
+
+
+def flag(r, n):
+    return f"region flag r{n} {r.choice(FLAGS)} {r.choice(['allow', 'deny'])} {r.choice(GROUPS)}"
+
+
+def position(r, side):
+    return f"{r.randrange(side)} {r.randrange(64)} {r.randrange(side)}"
+
+
+def commands(r, count, side, players=PLAYERS):
+    for _ in range(count):
+        kind, who, at = r.random(), r.choice(players), position(r, side)
+        if kind < 0.4:
+            yield f"as {who} place {at} {r.choice(PARTS)}"
+        else:
+            verb = "break" if kind < 0.7 else "look" if kind < 0.8 else "open" if kind < 0.9 else "turn"
+            yield f"as {who} {verb} {at}"
+
+
+def chest_commands(r, count, side, chests):
+    """Commands of which a fifth are for chests that stand there."""
+    usual = commands(r, count, side)
+    for n, line in enumerate(usual):
+        if n % 5:
+            yield line
+            continue
+        who, at, slot, kind = r.choice(PLAYERS), r.choice(chests), r.randrange(27), r.random()
+        if kind < 0.4:
+            yield f"as {who} put {at} {slot} 7 {r.randint(1, 16)}"
+        elif kind < 0.7:
+            yield f"as {who} take {at} {slot} {r.randint(1, 16)}"
+        else:
+            yield f"as {who} open {at}"
+
+
+def clock(x, z, delay, is_running=True):
+    """A torch, three dust and a repeater in a ring over columns x .. x + 1, z .. z + 2. What stands at x + 2, z + 1 is
+    beside its dust. Without the torch it stands still."""
+    yield f"set {x} 1 {z} stone"
+    if is_running:
+        yield f"set {x + 1} 1 {z} torch:west"
+    for at in (f"{x + 1} 1 {z + 1}", f"{x + 1} 1 {z + 2}", f"{x} 1 {z + 2}"):
+        yield f"set {at} dust"
+    yield f"set {x} 1 {z + 1} repeater:north:{delay}"
+
+
+def clocked_pistons(r, count, side):
+    """By tens under dust that a clock drives, every other to the north, with a stone before each. The wind of a tile of 16
+    by 6 columns."""
+    tiles = [(16 * k, 6 * j) for j in range(side // 6) for k in range(side // 16)]
+    r.shuffle(tiles)
+    for n in range(0, count, 10):
+        x, z = tiles[n // 10]
+        yield from clock(x, z + 1, 1 + n // 10 % 4)
+        for k in range(10):
+            at, turn = x + 2 + k, k % 2
+            yield f"set {at} 1 {z + 2} dust"
+            yield f"set {at} 0 {z + 2} {r.choice(['piston', 'sticky'])}:{'south' if turn else 'north'}"
+            yield f"set {at} 0 {z + 3 if turn else z + 1} stone"
+
+
+def ticks(count):
+    return ["tick"] * count
+
+
+def edit(r, ids, side, names):
+    """An edit of any kind; `ids` are those of the regions that were defined so far and not removed on purpose."""
+    kind, n = r.choice(KINDS), r.choice(ids)
+    if kind == "define":
+        n = names[0]
+        names[0] += 1
+        ids.append(n)
+        return f"region define r{n} {shape(r, side)}"
+    if kind == "remove":
+        ids.remove(n)
+        return f"region remove r{n}"
+    if kind == "reshape":
+        return f"region reshape r{n} {shape(r, side)}"
+    if kind == "priority":
+        return f"region priority r{n} {r.randint(-5, 5)}"
+    if kind == "parent":
+        return f"region parent r{n} " + (f"r{r.choice(ids)}" if r.random() < 0.3 else "*")
+    if kind == "flag":
+        return flag(r, n)
+    if kind == "clear":
+        return f"region clear r{n} {r.choice(FLAGS)}"
+    return f"region {kind} r{n} {r.choice(['add', 'drop'])} {r.choice(PLAYERS)}"
+
+
+def crowded(r):
+    head = world(8) + list(regions(r, 4000, 256)) + ["tick"]
+    return head, list(commands(r, 100_000, 256))
+
+
+def plots(r):
+    head = world(6) + list(clocked_pistons(r, 2300, 192)) + list(regions(r, 100, 192)) + ["tick"]
+    return head, ticks(200)
+
+
+def edits(r):
+    head = world(8) + list(regions(r, 4000, 256)) + ["tick"]
+    ids, names, body = list(range(4000)), [4000], []
+    others = commands(r, 15_000, 256)
+    for n in range(150_000):
+        if n % 100 == 99:
+            body.append("tick")
+        elif n % 10 == 0:
+            body.append(next(others))
+        else:
+            body.append(edit(r, ids, 256, names))
+    return head, body
+
+
+def idle(r):
+    head = world(8) + [f"set {position(r, 256)} {r.choice(BLOCKS)}" for _ in range(100_000)]
+    return head + ["tick"], ticks(20_000)
+
+
+def no_region(r):
+    return world(8), list(commands(r, 400_000, 256))
+
+
+def fifty_regions(r):
+    return world(8) + list(regions(r, 50, 256)) + ["tick"], list(commands(r, 400_000, 256))
+
+
+def five_hundred_regions(r):
+    return world(8) + list(regions(r, 500, 256)) + ["tick"], list(commands(r, 100_000, 256))
+
+
+def chests(r):
+    at = sorted({position(r, 256) for _ in range(1000)})
+    return world(8) + [f"set {p} chest" for p in at], list(chest_commands(r, 400_000, 256, at))
+
+
+def sweep_place(r, count):
+    """So many regions over one square of 32 columns, where 20,000 commands are given."""
+    head = world(2)
+    for n in range(count):
+        low, high = r.randint(0, 4), r.randint(27, 31)
+        head.append(f"region define r{n} cuboid {low} 0 {low} {high} 63 {high}")
+        head += details(r, n)
+    return head + ["tick"], list(commands(r, 20_000, 32))
+
+
+def sweep_pistons(r, count):
+    """So many regions over 1,000 pistons, and 50 ticks."""
+    return world(8) + list(clocked_pistons(r, 1000, 256)) + list(regions(r, count, 256)) + ["tick"], ticks(50)
+
+
+def sweep_edits(r, count):
+    """So many edits before each of 200 ticks, among 4,000 regions."""
+    head = world(8) + list(regions(r, 4000, 256)) + ["tick"]
+    ids, names, body = list(range(4000)), [4000], []
+    for _ in range(200):
+        body += [edit(r, ids, 256, names) for _ in range(count)] + ["tick"]
+    return head, body
+
+
+def sweep_sectors(r, count):
+    """So many sectors, and 10,000 ticks in which nothing happens."""
+    return world(int(count ** 0.5)) + ["tick"], ticks(10_000)
+
+
+def sweep_awake(r, share):
+    """960 rings of five dust, of which so many of a hundred run, and 200 ticks."""
+    tiles = [(4 * k, 4 * j) for j in range(30) for k in range(32)]
+    r.shuffle(tiles)
+    running = max(1, round(960 * share / 100))
+    head = world(8)
+    for n, (x, z) in enumerate(tiles):
+        head += clock(x, z, 1, n < running)
+        head += [f"set {x + 2} 1 {z + 1} dust", f"set {x + 2} 1 {z + 2} dust"]
+    return head + ["tick"], ticks(200)
+
+
+SCRIPTS = {
+    "crowded": crowded,
+    "plots": plots,
+    "edits": edits,
+    "idle": idle,
+    "no_region": no_region,
+    "50_regions": fifty_regions,
+    "500_regions": five_hundred_regions,
+    "chests": chests,
+    "sweep_place": sweep_place,
+    "sweep_pistons": sweep_pistons,
+    "sweep_edits": sweep_edits,
+    "sweep_sectors": sweep_sectors,
+    "sweep_awake": sweep_awake,
+}
+
+
+def main():
+    name, *point, directory = sys.argv[1:]
+    r = random.Random(" ".join([name] + point))
+    head, body = SCRIPTS[name](r, *map(float if name == "sweep_awake" else int, point))
+    for file, lines in (("head.vx", head), ("whole.vx", head + body)):
+        with open(f"{directory}/{file}", "w") as out:
+            out.write("\n".join(lines) + "\n")
+
+
+main()

@@ -8,6 +8,7 @@ of a sweep. The names stand at the end of this file.
 """
 import random
 import sys
+from collections import Counter
 
 PLAYERS = ["ann", "bob", "cyd"]
 GROUPS = ["all", "members", "owners", "nonmembers", "nonowners"]
@@ -61,13 +62,13 @@ def details(r, n):
     if r.random() < 0.4:
         yield f"region priority r{n} {r.randint(-2, 5)}"
     if r.random() < 0.5:
-        yield flag(r, n)
+        yield flag(r, f"r{n}")
     if n and r.random() < 0.05:
         yield f"region parent r{n} r{r.randrange(n)}"
 
 
-def flag(r, n):
-    return f"region flag r{n} {r.choice(FLAGS)} {r.choice(['allow', 'deny'])} {r.choice(GROUPS)}"
+def flag(r, region):
+    return f"region flag {region} {r.choice(FLAGS)} {r.choice(['allow', 'deny'])} {r.choice(GROUPS)}"
 
 
 def position(r, side):
@@ -112,7 +113,7 @@ def clock(x, z, delay, is_running=True):
 
 
 def clocked_pistons(r, count, side):
-    """By tens under dust that a clock drives, every other to the north, with a stone before each. The wind of a tile of 16
+    """By tens under dust that a clock drives, every other to the north, with a stone before each. A tile has 16
     by 6 columns."""
     tiles = [(16 * k, 6 * j) for j in range(side // 6) for k in range(side // 16)]
     r.shuffle(tiles)
@@ -130,28 +131,59 @@ def ticks(count):
     return ["tick"] * count
 
 
-def edit(r, ids, side, names):
-    """An edit of any kind; `ids` are those of the regions that were defined so far and not removed on purpose."""
-    kind, n = r.choice(KINDS), r.choice(ids)
-    if kind == "define":
-        n = names[0]
-        names[0] += 1
-        ids.append(n)
-        return f"region define r{n} {shape(r, side)}"
-    if kind == "remove":
-        ids.remove(n)
-        return f"region remove r{n}"
-    if kind == "reshape":
-        return f"region reshape r{n} {shape(r, side)}"
-    if kind == "priority":
-        return f"region priority r{n} {r.randint(-5, 5)}"
-    if kind == "parent":
-        return f"region parent r{n} " + (f"r{r.choice(ids)}" if r.random() < 0.3 else "*")
-    if kind == "flag":
-        return flag(r, n)
-    if kind == "clear":
-        return f"region clear r{n} {r.choice(FLAGS)}"
-    return f"region {kind} r{n} {r.choice(['add', 'drop'])} {r.choice(PLAYERS)}"
+class Editor:
+    """Edits of every kind of regions that the head of a script has defined. It knows which are there, and their parents, so
+    that few edits are refused: a removal where the region has children, a parent where that is a cycle."""
+
+    def __init__(self, r, head, side):
+        self.r, self.side = r, side
+        self.parents = {line.split()[2]: None for line in head if line.startswith("region define ")}
+        self.parents.update(line.split()[2:4] for line in head if line.startswith("region parent "))
+        self.children = Counter(parent for parent in self.parents.values() if parent)
+        self.ids = list(self.parents)
+        self.first_count = self.next = len(self.ids)
+
+    def line(self):
+        r, region = self.r, self.r.choice(self.ids)
+        kind = r.choice(KINDS)
+        if kind in ("define", "remove"):
+            return self.removal(region) if len(self.ids) >= self.first_count else self.definition()
+        if kind == "reshape":
+            return f"region reshape {region} {shape(r, self.side)}"
+        if kind == "priority":
+            return f"region priority {region} {r.randint(-5, 5)}"
+        if kind == "parent":
+            return self.adoption(region, r.choice(self.ids) if r.random() < 0.3 else None)
+        if kind == "flag":
+            return flag(r, region)
+        if kind == "clear":
+            return f"region clear {region} {r.choice(FLAGS)}"
+        return f"region {kind} {region} {r.choice(['add', 'drop'])} {r.choice(PLAYERS)}"
+
+    def definition(self):
+        region = f"r{self.next}"
+        self.next += 1
+        self.ids.append(region)
+        self.parents[region] = None
+        return f"region define {region} {shape(self.r, self.side)}"
+
+    def removal(self, region):
+        if not self.children[region]:
+            self.ids.remove(region)
+            self.children[self.parents.pop(region)] -= 1
+        return f"region remove {region}"
+
+    def adoption(self, region, parent):
+        if not self.is_above(region, parent):
+            self.children[self.parents[region]] -= 1
+            self.children[parent] += 1
+            self.parents[region] = parent
+        return f"region parent {region} {parent or '*'}"
+
+    def is_above(self, region, other):
+        while other and other != region:
+            other = self.parents[other]
+        return other == region
 
 
 def crowded(r):
@@ -166,15 +198,14 @@ def plots(r):
 
 def edits(r):
     head = world(8) + list(regions(r, 4000, 256)) + ["tick"]
-    ids, names, body = list(range(4000)), [4000], []
-    others = commands(r, 15_000, 256)
+    editor, others, body = Editor(r, head, 256), commands(r, 15_000, 256), []
     for n in range(150_000):
         if n % 100 == 99:
             body.append("tick")
         elif n % 10 == 0:
             body.append(next(others))
         else:
-            body.append(edit(r, ids, 256, names))
+            body.append(editor.line())
     return head, body
 
 
@@ -216,21 +247,21 @@ def sweep_pistons(r, count):
 
 
 def sweep_edits(r, count):
-    """So many edits before each of 200 ticks, among 4,000 regions."""
+    """So many edits before each of 2,000 ticks, among 4,000 regions."""
     head = world(8) + list(regions(r, 4000, 256)) + ["tick"]
-    ids, names, body = list(range(4000)), [4000], []
-    for _ in range(200):
-        body += [edit(r, ids, 256, names) for _ in range(count)] + ["tick"]
+    editor, body = Editor(r, head, 256), []
+    for _ in range(2000):
+        body += [editor.line() for _ in range(count)] + ["tick"]
     return head, body
 
 
 def sweep_sectors(r, count):
-    """So many sectors, and 10,000 ticks in which nothing happens."""
-    return world(int(count ** 0.5)) + ["tick"], ticks(10_000)
+    """So many sectors, and 40,000 ticks in which nothing happens."""
+    return world(int(count ** 0.5)) + ["tick"], ticks(40_000)
 
 
 def sweep_awake(r, share):
-    """960 rings of five dust, of which so many of a hundred run, and 200 ticks."""
+    """960 rings of five dust, of which so many of a hundred run, and 1,000 ticks."""
     tiles = [(4 * k, 4 * j) for j in range(30) for k in range(32)]
     r.shuffle(tiles)
     running = max(1, round(960 * share / 100))
@@ -238,7 +269,7 @@ def sweep_awake(r, share):
     for n, (x, z) in enumerate(tiles):
         head += clock(x, z, 1, n < running)
         head += [f"set {x + 2} 1 {z + 1} dust", f"set {x + 2} 1 {z + 2} dust"]
-    return head + ["tick"], ticks(200)
+    return head + ["tick"], ticks(1000)
 
 
 SCRIPTS = {

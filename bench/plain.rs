@@ -337,21 +337,30 @@ type Settings = [Option<Setting>; 7];
 
 // ----------------------------------------------------------------------------------------------------------- Regions
 
+/// A box from its lowest to its highest corner.
+#[derive(Clone, Copy, PartialEq, Eq)]
+struct Bounds { low: Pos, high: Pos }
+
+impl Bounds {
+    fn contains(&self, p: Pos) -> bool {
+        let (a, b) = (self.low, self.high);
+        // All six at once: no guess which of them fails.
+        (p.x >= a.x) & (p.x <= b.x) & (p.z >= a.z) & (p.z <= b.z) & (p.y >= a.y) & (p.y <= b.y)
+    }
+}
+
 /// The box round the shape, and the points of a polygon.
 #[derive(Clone)]
 struct Shape {
-    low: Pos,
-    high: Pos,
+    bounds: Bounds,
     outline: Option<Rc<[(i32, i32)]>>,
 }
 
 impl Shape {
     fn cuboid(a: Pos, b: Pos) -> Shape {
-        Shape {
-            low: Pos { x: a.x.min(b.x), y: a.y.min(b.y), z: a.z.min(b.z) },
-            high: Pos { x: a.x.max(b.x), y: a.y.max(b.y), z: a.z.max(b.z) },
-            outline: None,
-        }
+        let low = Pos { x: a.x.min(b.x), y: a.y.min(b.y), z: a.z.min(b.z) };
+        let high = Pos { x: a.x.max(b.x), y: a.y.max(b.y), z: a.z.max(b.z) };
+        Shape { bounds: Bounds { low, high }, outline: None }
     }
 
     /// None where this is no polygon.
@@ -364,22 +373,18 @@ impl Shape {
             values.fold((i32::MAX, i32::MIN), |(least, most), n| (least.min(n), most.max(n)))
         };
         let ((west, east), (north, south)) = (ends(|point| point.0), ends(|point| point.1));
-        Some(Shape {
-            low: Pos { x: west, y: low, z: north },
-            high: Pos { x: east, y: high, z: south },
-            outline: Some(points.into()),
-        })
+        let low = Pos { x: west, y: low, z: north };
+        let high = Pos { x: east, y: high, z: south };
+        Some(Shape { bounds: Bounds { low, high }, outline: Some(points.into()) })
     }
 
     fn contains(&self, p: Pos) -> bool {
-        let (a, b) = (self.low, self.high);
-        if p.x < a.x || p.x > b.x || p.z < a.z || p.z > b.z || p.y < a.y || p.y > b.y {
-            return false;
-        }
-        match &self.outline {
-            None => true,
-            Some(points) => is_in_polygon(points, p.x as i64, p.z as i64),
-        }
+        self.bounds.contains(p) && self.holds_within(p)
+    }
+
+    /// Whether it contains a position of the box round it.
+    fn holds_within(&self, p: Pos) -> bool {
+        self.outline.as_ref().map_or(true, |points| is_in_polygon(points, p.x as i64, p.z as i64))
     }
 }
 
@@ -613,10 +618,14 @@ fn is_state(value: Option<Value>, state: State) -> bool {
 }
 
 /// A region that contains the place.
-struct Found { number: u32, priority: i32, standing: Standing }
+struct Found { number: u32, priority: i32 }
 
-/// One of the regions of the highest priority that count, with its value, if it has one.
-struct Top { number: u32, standing: Standing, value: Option<Value> }
+/// A region near a place, with the box round its shape, so that most are passed over without a look at the region.
+struct Near { number: u32, bounds: Bounds }
+
+/// One of the regions of the highest priority that count, with its value, if it has one. Whether the subject is its
+/// owner or a member is found where membership decides.
+struct Top { number: u32, value: Option<Value>, is_insider: bool }
 
 /// The version that judges the window, with the regions over each chunk. The lists and the marks are kept from one
 /// decision to the next, so that none takes memory.
@@ -624,8 +633,8 @@ struct Judge {
     regions: Regions,
     chunks_east: i32,
     chunks_south: i32,
-    /// The numbers of the regions whose box meets the chunk, in order.
-    by_chunk: Vec<Vec<u32>>,
+    /// The regions whose box meets the chunk, in the order of their numbers.
+    by_chunk: Vec<Vec<Near>>,
     found: Vec<Found>,
     tops: Vec<Top>,
     /// By number, the last round in which the region was marked as an ancestor.
@@ -640,7 +649,7 @@ impl Judge {
             regions: Regions::default(),
             chunks_east: east,
             chunks_south: south,
-            by_chunk: vec![Vec::new(); (east * south) as usize],
+            by_chunk: (0..east * south).map(|_| Vec::new()).collect(),
             found: Vec::new(),
             tops: Vec::new(),
             marks: Vec::new(),
@@ -656,39 +665,38 @@ impl Judge {
         self.regions.at_large = desk.regions.at_large;
         for number in desk.changed.drain(..) {
             let new = desk.regions.by_number[number as usize].clone();
-            let new_box = new.as_ref().and_then(|region| self.chunk_box(&region.shape));
+            let new_bounds = new.as_ref().map(|region| region.shape.bounds);
             let old = mem::replace(&mut self.regions.by_number[number as usize], new);
-            let old_box = old.as_ref().and_then(|region| self.chunk_box(&region.shape));
-            if old_box != new_box {
-                self.move_region(number, old_box, new_box);
+            let old_bounds = old.as_ref().map(|region| region.shape.bounds);
+            if old_bounds != new_bounds {
+                self.move_region(number, old_bounds, new_bounds);
             }
         }
     }
 
-    /// The first and the last chunk that a shape meets, from the north west, if it meets the world.
-    fn chunk_box(&self, shape: &Shape) -> Option<(i32, i32, i32, i32)> {
-        let west = shape.low.x.div_euclid(16).max(0);
-        let north = shape.low.z.div_euclid(16).max(0);
-        let east = shape.high.x.div_euclid(16).min(self.chunks_east - 1);
-        let south = shape.high.z.div_euclid(16).min(self.chunks_south - 1);
-        (west <= east && north <= south).then_some((west, north, east, south))
+    /// The chunks that a box meets, row by row.
+    fn chunks(&self, bounds: Bounds) -> impl Iterator<Item = usize> {
+        let (row, low, high) = (self.chunks_east, bounds.low, bounds.high);
+        let (west, east) = (low.x.div_euclid(16).max(0), high.x.div_euclid(16).min(row - 1));
+        let (north, south) = (low.z.div_euclid(16).max(0), high.z.div_euclid(16).min(self.chunks_south - 1));
+        (north..=south).flat_map(move |z| (west..=east).map(move |x| (z * row + x) as usize))
     }
 
-    fn move_region(&mut self, number: u32, old: Option<(i32, i32, i32, i32)>, new: Option<(i32, i32, i32, i32)>) {
-        let row = self.chunks_east;
-        let chunks = |(west, north, east, south): (i32, i32, i32, i32)| {
-            (north..=south).flat_map(move |z| (west..=east).map(move |x| (z * row + x) as usize))
-        };
-        for chunk in old.into_iter().flat_map(chunks) {
-            let numbers = &mut self.by_chunk[chunk];
-            if let Ok(at) = numbers.binary_search(&number) {
-                numbers.remove(at);
+    fn move_region(&mut self, number: u32, old: Option<Bounds>, new: Option<Bounds>) {
+        if let Some(bounds) = old {
+            for chunk in self.chunks(bounds) {
+                let list = &mut self.by_chunk[chunk];
+                if let Ok(at) = list.binary_search_by_key(&number, |near| near.number) {
+                    list.remove(at);
+                }
             }
         }
-        for chunk in new.into_iter().flat_map(chunks) {
-            let numbers = &mut self.by_chunk[chunk];
-            if let Err(at) = numbers.binary_search(&number) {
-                numbers.insert(at, number);
+        if let Some(bounds) = new {
+            for chunk in self.chunks(bounds) {
+                let list = &mut self.by_chunk[chunk];
+                if let Err(at) = list.binary_search_by_key(&number, |near| near.number) {
+                    list.insert(at, Near { number, bounds });
+                }
             }
         }
     }
@@ -699,26 +707,33 @@ impl Judge {
         let mut tops = mem::take(&mut self.tops);
         found.clear();
         let chunk = (p.z / 16 * self.chunks_east + p.x / 16) as usize;
-        for &number in &self.by_chunk[chunk] {
+        for &Near { number, bounds } in &self.by_chunk[chunk] {
+            if !bounds.contains(p) {
+                continue;
+            }
             let region = self.regions.there(number);
-            if region.shape.contains(p) {
-                let standing = match subject {
-                    Subject::Player(player) => self.standing(region, player),
-                    // It owns the land that it stands on itself.
-                    Subject::Machine(place) if region.shape.contains(place) => Standing::Owner,
-                    Subject::Machine(_) => Standing::Stranger,
-                };
-                found.push(Found { number, priority: region.priority, standing });
+            if region.shape.holds_within(p) {
+                found.push(Found { number, priority: region.priority });
             }
         }
-        let verdict = self.by_flag(&found, &mut tops, flag);
+        let verdict = self.by_flag(&found, &mut tops, flag, subject);
         self.found = found;
         self.tops = tops;
         verdict
     }
 
+    /// What the subject is to a region: a machine owns the land that it stands on itself.
+    fn standing(&self, number: u32, subject: Subject) -> Standing {
+        let region = self.regions.there(number);
+        match subject {
+            Subject::Player(player) => self.player_standing(region, player),
+            Subject::Machine(place) if region.shape.contains(place) => Standing::Owner,
+            Subject::Machine(_) => Standing::Stranger,
+        }
+    }
+
     /// An owner where some region of the ancestry names the player as one, else a member likewise.
-    fn standing(&self, region: &Region, player: &Name) -> Standing {
+    fn player_standing(&self, region: &Region, player: &Name) -> Standing {
         let mut standing = Standing::Stranger;
         let mut next = Some(region);
         while let Some(region) = next {
@@ -733,12 +748,14 @@ impl Judge {
         standing
     }
 
-    /// What the nearest region of the ancestry sets for a group that the subject is of.
-    fn value(&self, number: u32, flag: Flag, standing: Standing) -> Option<Value> {
+    /// What the nearest region of the ancestry sets for a group that the subject is of, as it is to the region.
+    fn value(&self, number: u32, flag: Flag, subject: Subject) -> Option<Value> {
+        let mut standing = None; // only asked where something is set
         let mut next = Some(number);
         while let Some(from) = next {
             let region = self.regions.there(from);
             if let Some(setting) = region.flags[flag as usize] {
+                let standing = *standing.get_or_insert_with(|| self.standing(number, subject));
                 if setting.group.fits(standing) {
                     return Some(Value { state: setting.state, from });
                 }
@@ -755,30 +772,24 @@ impl Judge {
     }
 
     /// The action's own flag decides, and where that is not set, building.
-    fn by_flag(&mut self, found: &[Found], tops: &mut Vec<Top>, flag: Flag) -> Verdict {
-        self.find_tops(found, tops, flag);
+    fn by_flag(&mut self, found: &[Found], tops: &mut Vec<Top>, flag: Flag, subject: Subject) -> Verdict {
+        self.find_tops(found, tops, flag, subject);
         if let Some((at, value)) = self.answer(tops) {
             return ruled(value.state, Rule::Flag { flag, at, from: value.from });
         }
         if let Some(value) = self.value_at_large(flag) {
             return ruled(value.state, Rule::Flag { flag, at: 0, from: 0 });
         }
-        self.by_building(found, tops)
+        self.by_building(found, tops, subject)
     }
 
-    fn by_building(&mut self, found: &[Found], tops: &mut Vec<Top>) -> Verdict {
-        self.find_tops(found, tops, Flag::Build);
+    fn by_building(&mut self, found: &[Found], tops: &mut Vec<Top>, subject: Subject) -> Verdict {
+        self.find_tops(found, tops, Flag::Build, subject);
         if let Some((at, value)) = self.answer(tops) {
             return ruled(value.state, Rule::Build { at, from: value.from });
         }
-        let is_insider = |top: &&Top| top.standing != Standing::Stranger;
-        // An ancestor of a region that admits the subject needs not admit them itself.
-        self.mark_ancestors(tops.iter().filter(is_insider).map(|top| top.number));
-        if let Some(failing) = tops.iter().find(|top| !is_insider(top) && !self.is_marked(top.number)) {
-            return Err(Rule::Member { at: failing.number });
-        }
-        if let Some(home) = tops.iter().find(is_insider) {
-            return Ok(Rule::Member { at: home.number });
+        if let Some(verdict) = self.by_membership(tops, subject) {
+            return verdict;
         }
         if let Some(value) = self.value_at_large(Flag::Build) {
             return ruled(value.state, Rule::Build { at: 0, from: 0 });
@@ -789,25 +800,37 @@ impl Judge {
         Ok(Rule::Default)
     }
 
+    /// The subject has to be an owner or a member of each of the regions, or of one that it is an ancestor of.
+    fn by_membership(&mut self, tops: &mut Vec<Top>, subject: Subject) -> Option<Verdict> {
+        for top in tops.iter_mut() {
+            top.is_insider = self.standing(top.number, subject) != Standing::Stranger;
+        }
+        self.mark_ancestors(tops.iter().filter(|top| top.is_insider).map(|top| top.number));
+        if let Some(failing) = tops.iter().find(|top| !top.is_insider && !self.is_marked(top.number)) {
+            return Some(Err(Rule::Member { at: failing.number }));
+        }
+        tops.iter().find(|top| top.is_insider).map(|home| Ok(Rule::Member { at: home.number }))
+    }
+
     /// Of the regions that count those of the highest priority, in the order of their numbers. A region counts that has
     /// a value for the flag, and on building one that does not let pass.
-    fn find_tops(&self, found: &[Found], tops: &mut Vec<Top>, flag: Flag) {
+    fn find_tops(&self, found: &[Found], tops: &mut Vec<Top>, flag: Flag, subject: Subject) {
         tops.clear();
         let mut highest = i32::MIN;
-        for &Found { number, priority, standing } in found {
+        for &Found { number, priority } in found {
             if priority < highest {
                 continue;
             }
-            let value = self.value(number, flag, standing);
+            let value = self.value(number, flag, subject);
             let counts = value.is_some()
                 || flag == Flag::Build
-                    && !is_state(self.value(number, Flag::Passthrough, standing), State::Allow);
+                    && !is_state(self.value(number, Flag::Passthrough, subject), State::Allow);
             if counts {
                 if priority > highest {
                     tops.clear();
                     highest = priority;
                 }
-                tops.push(Top { number, standing, value });
+                tops.push(Top { number, value, is_insider: false });
             }
         }
     }

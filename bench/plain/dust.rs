@@ -1,5 +1,5 @@
-//! Dust: what it links to and where it points, kept by cell, and its levels, which stand in the cells themselves and are
-//! repaired where something changed: what has lost its support is lowered first, and then levels rise again.
+//! Dust: what it links to and where it points, kept by cell, and its levels, which stand in the cells themselves. They
+//! are repaired where something changed: what has lost its support is put out first, and then levels rise again.
 
 use crate::cell_set::CellSet;
 use crate::natures::{bit, is_dust, nature, opposite, DOWN, EAST, NORTH, SIDE_DIRECTIONS, SOUTH, UP, WEST};

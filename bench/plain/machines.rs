@@ -1,6 +1,8 @@
 //! A tick of machines. It looks only where something changed: what stands near a changed cell wakes, and what dust
 //! reaches whose power comes or goes.
 
+use std::mem;
+
 use crate::cell_set::CellSet;
 use crate::dust::Wires;
 use crate::natures::{
@@ -8,7 +10,7 @@ use crate::natures::{
 };
 use crate::pistons::{Fate, Moves};
 use crate::signals::{activates, is_powered, Steps};
-use crate::{Judge, World, LAMP, PISTON, TORCH};
+use crate::{Judge, World, DUST, LAMP, PISTON, TORCH};
 
 const LAMP_LIT: u8 = LAMP + 1;
 const LAMP_COOLING: u8 = LAMP + 2;
@@ -82,17 +84,19 @@ impl Machines {
     }
 
     fn wake_changed(&mut self, cells: &[u8]) {
-        let near = std::mem::take(&mut self.near);
-        for at in std::mem::take(&mut self.changed) {
+        let near = mem::take(&mut self.near);
+        let mut changed = mem::take(&mut self.changed);
+        for at in changed.drain(..) {
             self.wake(cells, at);
             for &step in &near {
                 self.wake(cells, at.wrapping_add_signed(step));
             }
         }
-        self.near = near;
-        for at in std::mem::take(&mut self.alone) {
+        let mut alone = mem::take(&mut self.alone);
+        for at in alone.drain(..) {
             self.wake(cells, at);
         }
+        (self.near, self.changed, self.alone) = (near, changed, alone);
     }
 
     fn wake_all(&mut self, cells: &mut [u8]) {
@@ -100,7 +104,7 @@ impl Machines {
             self.wake(cells, at);
         }
         for &at in &self.dust.list {
-            cells[at] = crate::DUST;
+            cells[at] = DUST;
         }
     }
 
@@ -125,7 +129,7 @@ impl Machines {
 
     /// Gives all dust its level.
     fn settle_dust(&mut self, cells: &mut [u8]) {
-        let dust = std::mem::take(&mut self.dust);
+        let dust = mem::take(&mut self.dust);
         let mut reaching = Vec::new();
         for &at in &dust.list {
             if self.wires.lay(cells, at) {
@@ -143,7 +147,7 @@ impl Machines {
     /// Finds what the parts that are awake become, and which pistons are restless.
     fn turn_parts(&mut self, cells: &[u8]) {
         self.turned.clear();
-        let mut parts = std::mem::take(&mut self.parts);
+        let mut parts = mem::take(&mut self.parts);
         self.restless.retain(|&at| nature(cells[at]).kind == Kind::Piston && !parts.contains(at));
         for &at in &parts.list {
             if nature(cells[at]).kind == Kind::Piston {

@@ -1,0 +1,4 @@
+mod Judged
+mod MovedCells
+mod ToldFates
+mod ToldInOrder

@@ -1,6 +1,7 @@
 pub mod Counting
 pub mod Deciding
 pub mod Locking
+pub mod NearLevels
 pub mod Nexts
 pub mod Powering
 pub mod Pushing

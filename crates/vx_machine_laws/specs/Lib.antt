@@ -2,6 +2,7 @@ pub mod Blocks
 pub mod Dust
 pub mod Exactly
 pub mod Lamps
+pub mod Nearby
 pub mod Pistons
 pub mod Repeaters
 pub mod Rivals

@@ -4,6 +4,7 @@
 
 mod blocks;
 mod lamps;
+mod levels;
 mod movers;
 mod repeaters;
 mod rivals;
@@ -12,6 +13,7 @@ mod wires;
 
 pub use blocks::{blocks_conduct_and_move, sides_lie_and_delays_last};
 pub use lamps::{lamps_light_and_go_out, levers_and_pistons_stay};
+pub use levels::levels_near_are_those_of_the_map;
 pub use movers::{
     active_pistons_push, each_move_is_a_piston, others_do_not_move, unpowered_pistons_draw,
 };

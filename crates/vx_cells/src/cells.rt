@@ -233,10 +233,10 @@ impl Cells {
         marked_places(alloc, self.bounds, self.sector, &self.devices)
     }
 
-    /// How many words of marks have one of a component: about what going over all components
-    /// costs. No clause tells the number, since nothing but costs rests on it.
-    pub fn component_words(&self) -> u32 {
-        self.components.filled_words()
+    /// How many components of machines stand in this sector. No clause tells the number, since
+    /// nothing but costs rests on it.
+    pub fn component_count(&self) -> u32 {
+        self.components.count()
     }
 
     /// Whether a device stands in this sector. Where none was ever placed it costs a look.

@@ -177,15 +177,15 @@ impl<'a> Frozen<'a> {
         self.sector_at(sector).devices(alloc)
     }
 
-    /// About what going over all components of the map costs, in words of marks that have one.
-    /// No clause tells the number, since nothing but costs rests on it.
-    pub fn component_words(&self) -> u32 {
+    /// How many components of machines stand on the map. No clause tells the number, since nothing
+    /// but costs rests on it.
+    pub fn component_count(&self) -> u32 {
         self.soundness();
-        let mut words = 0_u32;
+        let mut count = 0_u32;
         for sector in 0..self.bounds().sectors() {
-            words = words.saturating_add(self.sector_at(sector).component_words());
+            count = count.saturating_add(self.sector_at(sector).component_count());
         }
-        words
+        count
     }
 
     /// Whether a device stands in a sector. Where none was ever placed it costs a look.

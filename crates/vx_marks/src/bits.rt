@@ -68,15 +68,6 @@ impl Bits {
         self.words[word] = with_bit(self.words[word], index % 64, marked);
     }
 
-    /// How many bits are set. No clause tells the number, since nothing but costs rests on it.
-    pub fn count_ones(&self) -> u32 {
-        let mut count = 0_u32;
-        for word in &self.words {
-            count = count.saturating_add(word.count_ones());
-        }
-        count
-    }
-
     /// The first index from this one on, in the same word, whose bit is set.
     pub fn first_in_word(&self, from: u32) -> Option<u32>
         requires { from < 64 * length self.now }

@@ -13,6 +13,8 @@ pub struct Marks {
     bits: Bits,
     filled: Bits,
     has_any: bool,
+    // How many are marked. No clause says so: only costs rest on it.
+    count: u32,
 }
 
 impl Model for Marks {
@@ -38,6 +40,7 @@ impl Marks {
             bits: Bits::new(alloc, words)?,
             filled: Bits::new(alloc, words.div_ceil(64))?,
             has_any: false,
+            count: 0,
         })
     }
 
@@ -53,6 +56,11 @@ impl Marks {
         }
         self.bits.set(index, marked);
         self.has_any = self.has_any || marked;
+        self.count = if marked {
+            self.count.saturating_add(1)
+        } else {
+            self.count.saturating_sub(1)
+        };
         let word = index / 64;
         self.filled.set(word, self.bits.has_marks(word));
     }
@@ -81,10 +89,10 @@ impl Marks {
         Some(self.bits.first_of_word(word))
     }
 
-    /// How many words of 64 indices have a mark: about what going over all marks costs. No clause
-    /// tells the number, since nothing but costs rests on it.
-    pub fn filled_words(&self) -> u32 {
-        self.filled.count_ones()
+    /// How many indices are marked: what going over all marks costs. No clause tells the number,
+    /// since nothing but costs rests on it.
+    pub fn count(&self) -> u32 {
+        self.count
     }
 
     /// A copy.
@@ -95,6 +103,7 @@ impl Marks {
             bits: self.bits.try_clone()?,
             filled: self.filled.try_clone()?,
             has_any: self.has_any,
+            count: self.count,
         })
     }
 }

@@ -59,9 +59,9 @@ read_most layer is p = by (is_place p)
     by false = omega arith
 
 -- one position of a layer has another level, and all others have what they had
-module _ (layer : List ℕ) (p : Pos) (level : ℕ) (place : is_place p ≡ true) (is : IsLayer layer) where
+module _ (layer : List ℕ) (p : Pos) (level : ℕ) (place : is_place p ≡ true) (whole : length layer ≡ columns) where
   near : column p < length layer
-  near = omega (arith, is.whole, column_below p place)
+  near = omega (arith, whole, column_below p place)
 
   abbrev new : List ℕ
   new = set layer (column p) level
@@ -92,9 +92,9 @@ module _ (layer : List ℕ) (p : Pos) (level : ℕ) (place : is_place p ≡ true
         ]
   ]
 
-  pub layer_is : level ≤ 15 → IsLayer new
-  layer_is most = record {
-    whole = length-set layer (column p) level ∙ is.whole;
+  pub layer_is : IsLayer layer → level ≤ 15 → IsLayer new
+  layer_is is most = record {
+    whole = length-set layer (column p) level ∙ whole;
     most = λ i. elim (cases_eq i (column p)) [
       | inl same ↦
           subst (λ v. v ≤ 15) (sym (ap (λ j. get_or new j 0) same ∙ get_or-set_same layer (column p) level 0 near)) most

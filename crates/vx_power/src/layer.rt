@@ -68,17 +68,17 @@ pub fn layer_number(p: Pos) -> usize
     p.y.unsigned_abs() as usize
 }
 
-// Whether the widest world has a cell there.
+/// Whether the widest world has a cell there.
 #[tactic(auto, using(vx_base::proofs::Signed::signed))]
-fn is_place(p: Pos) -> bool
+pub fn is_place(p: Pos) -> bool
     ensures { result ≡ is_place p }
 {
     is_between(0, p.x, 256) && is_between(0, p.y, 64) && is_between(0, p.z, 256)
 }
 
-// The number of the column of a position, row by row from the north west.
+/// The number of the column of a position, row by row from the north west.
 #[tactic(auto, using(vx_base::proofs::Signed::signed))]
-fn column(p: Pos) -> usize
+pub fn column(p: Pos) -> usize
     requires { is_place p ≡ true }
     ensures value { result ≡ column p }
     ensures within { result < columns }

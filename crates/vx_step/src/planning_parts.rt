@@ -26,7 +26,8 @@ use vx_power::{Leveled, all_levels};
 use vx_tick::{Found, Plan, at_rest, finished};
 use vx_wake::{Settling, Waking, unsettled};
 
-// A further thread pays where it has so many moves to judge.
+// A further thread pays where it has so many components to look at, or so many moves to judge.
+const COMPONENTS_EACH: usize = 2_048;
 const MOVES_EACH: usize = 64;
 
 /// The same as `plan_woken`, its sectors worked by 1 to 8 threads, as `step_parts` shares them out.
@@ -111,7 +112,8 @@ fn plan_all<R: Threads + Sync, G: Gate + Sync>(
     ensures { IfOk result (λ done. IsPlanned version.now.policy map.now done) }
 {
     let levels = all_levels(alloc, map)?;
-    let found = found(workers, alloc, map, &levels, None)?;
+    let looking = workers.at_most(1 + map.component_count() as usize / COMPONENTS_EACH);
+    let found = found(&looking, alloc, map, &levels, None)?;
     ended(workers, alloc, map, version, &levels, found)
 }
 

@@ -24,11 +24,9 @@ const CELLS_OFF: u8 = 4;
 // It reads levels that at most so many lead to, and so far dust sees cells.
 const LEVELS_OFF: u8 = 2;
 
-// So many changes are few, whatever the map has.
-const FEW: usize = 256;
-
-// What one change wakes costs about as much as so many words of marks.
-const WORDS_EACH: usize = 16;
+// To look at one place near what was changed costs about as much as to look at so many components
+// among all.
+const COMPONENTS_EACH: usize = 12;
 
 /// The places of a map outside which all rests, where it rests but for what is told, and but for
 /// what was written since; `None` where so much was changed that to look at all components costs
@@ -46,18 +44,15 @@ pub fn unsettled(
         IsSettled map.now (is_at places))) }
 {
     let changed = joined(alloc, &waking.changed, written)?;
-    if is_much(map, changed.len()) {
+    let most = map.component_count() as usize / COMPONENTS_EACH;
+    if most < changed.len() {
         return Ok(None);
     }
-    let mut places = woken(alloc, map, changed.as_slice())?;
+    let Some(mut places) = woken(alloc, map, changed.as_slice(), most)? else {
+        return Ok(None);
+    };
     places.mark_all(alloc, waking.besides.as_slice())?;
     Ok(Some(places))
-}
-
-// Whether so much was changed that to look at all components costs less than at what is woken.
-// Only costs rest on it.
-fn is_much(map: &Frozen<'_>, changed: usize) -> bool {
-    FEW < changed && map.component_words() as usize <= changed.saturating_mul(WORDS_EACH)
 }
 
 // The first of these positions, and then the others.
@@ -69,20 +64,29 @@ fn joined(alloc: Global, first: &[Pos], others: &[Pos]) -> Result<Vec<Pos>, Allo
     Ok(all)
 }
 
-// The components that changes at these positions wake, and some others near them.
-fn woken(alloc: Global, map: &Frozen<'_>, changed: &[Pos]) -> Result<Places, AllocError>
-    ensures sizes { IfOk result (λ places. places.sizes ≡ map.now.sizes) }
-    ensures woken { IfOk result (λ places. (p : Pos)
+// The components that changes at these positions wake, and some others near them; `None` where more
+// than so many are dust.
+fn woken(
+    alloc: Global,
+    map: &Frozen<'_>,
+    changed: &[Pos],
+    most: usize,
+) -> Result<Option<Places>, AllocError>
+    ensures sizes { IfOk result (λ woken. IfSome woken (λ places.
+        places.sizes ≡ map.now.sizes)) }
+    ensures woken { IfOk result (λ woken. IfSome woken (λ places. (p : Pos)
         → is_component (cell_on map.now p) ≡ true
-        → is_woken (cell_on map.now) (has changed.now) p ≡ true → is_at places p ≡ true) }
+        → is_woken (cell_on map.now) (has changed.now) p ≡ true → is_at places p ≡ true)) }
 {
     map.soundness();
     let seen = in_sight(alloc, map, changed)?;
-    let near = dust_near(alloc, map, seen.as_slice())?;
+    let Some(near) = dust_near(alloc, map, seen.as_slice(), most)? else {
+        return Ok(None);
+    };
     let mut places = Places::new(alloc, map.bounds())?;
     mark_around_all(alloc, map, &mut places, changed, CELLS_OFF)?;
     mark_around_all(alloc, map, &mut places, near.as_slice(), LEVELS_OFF)?;
-    Ok(places)
+    Ok(Some(places))
 }
 
 // The components from which one of these positions can be seen as dust sees.

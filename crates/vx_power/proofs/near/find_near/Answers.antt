@@ -59,4 +59,4 @@ returns c =
     let inside = is_in c.args.columns in
     let touched = touched_in w inside (has c.args.places.now) in
     let all : c.loop-links.links ≡ 14 = omega arith in
-    λ p. c.loop-links.invariant.found p ∙ ap (λ n. within touched (links_in w inside) n p) all
+    λ _ p. c.loop-links.invariant.found p ∙ ap (λ n. within touched (links_in w inside) n p) all

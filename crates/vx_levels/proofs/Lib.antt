@@ -1,0 +1,4 @@
+pub mod Agreeing
+pub mod Keeping
+pub mod Mending
+pub mod Packing

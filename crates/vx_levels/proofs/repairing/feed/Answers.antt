@@ -1,0 +1,70 @@
+use Rattle.std.proofs.Common.{◌≡◌, ◌+◌, ◌-◌, ◌++◌, ◌∷◌, [], ◌==◌, ◌<◌, true, false, refl, sym, ap, ◌∙◌, arith}
+use Rattle.std.proofs.lemmas.Bool.{false≢true, eqb-true}
+use Rattle.std.proofs.lemmas.Result.{on_ok_weaker}
+use Rattle.vx_block.specs.Components.{is_dust}
+use Rattle.vx_cells.specs.Maps.{cell_on}
+use Rattle.vx_levels.specs.Consistency.{greatest}
+use Rattle.vx_levels.specs.Linked.{level_at, linked, links_at, KnowsLinks}
+use Rattle.vx_levels.specs.Pending.{PendingData, is_pending}
+use Rattle.vx_levels.proofs.Agreeing.{told_fed, told_unfed}
+use Rattle.vx_levels.proofs.Keeping.{not_15, just_15, under_15, on_ok_both, on_ok_three, own_fed, own_right, taken_unsure, taken_falling, taken_rising, now_falling, now_rising}
+use Rattle.vx_levels.proofs.Mending.{left_right, moved_right, fallen_right, risen_right, follows_put}
+use Rattle.vx_power.specs.Dust.{links}
+use Rattle.vx_power.specs.Levels.{has}
+use Rattle.vx_power.specs.Signals.{is_fed}
+use Rattle.vx_levels.proofs.repairing.feed.Goals as goal
+
+pub returns-then-is_fed-clause-right : goal.returns-then-is_fed-clause-right
+returns-then-is_fed-clause-right c =
+    let w = cell_on c.args.map.now in
+    let p = c.args.p in
+    let old = c.args.levels.now in
+    let pending = c.args.pending.now in
+    let before : PendingData = record pending { unsure = pending.unsure ++ p ∷ [] } in
+    let fed : is_fed w p ≡ true = cc in
+    let new = c.rise.new.levels in
+    on_ok_three c.rise.result
+    (λ stay put is. risen_right w old before pending p (taken_unsure pending p) c.requires.right c.requires.linked
+    new c.rise.new.pending stay c.requires.dust 15 put (c.requires.right.kept.low p) (omega arith)
+    (sym fed) (own_fed w (level_at old) (level_at new) p 15 put fed refl) is)
+    c.rise.ensures.links c.rise.ensures.levels c.rise.ensures.pending
+
+pub returns-then-is_fed-clause-follows : goal.returns-then-is_fed-clause-follows
+returns-then-is_fed-clause-follows c =
+    on_ok_both c.rise.result
+    (λ is put. follows_put c.args.put.now.items c.rise.new.put.items c.args.levels.now c.rise.new.levels c.args.p 15 is put)
+    c.rise.ensures.put c.rise.ensures.levels
+
+pub returns-then-was-eq-FED-clause-right : goal.returns-then-was-eq-FED-clause-right
+returns-then-was-eq-FED-clause-right c =
+    let w = cell_on c.args.map.now in
+    let p = c.args.p in
+    let old = c.args.levels.now in
+    let pending = c.args.pending.now in
+    let before : PendingData = record pending { unsure = pending.unsure ++ p ∷ [] } in
+    let unfed : is_fed w p ≡ false = cc in
+    on_ok_three c.fall.result
+    (λ stay put is. fallen_right w old before pending p (taken_unsure pending p) c.requires.right c.requires.linked
+    c.fall.new.levels c.fall.new.pending stay c.requires.dust c.at-was.result c.at-was.ensures.value unfed put is)
+    c.fall.ensures.links c.fall.ensures.levels c.fall.ensures.pending
+
+pub returns-then-was-eq-FED-clause-follows : goal.returns-then-was-eq-FED-clause-follows
+returns-then-was-eq-FED-clause-follows c =
+    on_ok_both c.fall.result
+    (λ is put. follows_put c.args.put.now.items c.fall.new.put.items c.args.levels.now c.fall.new.levels c.args.p 0 is put)
+    c.fall.ensures.put c.fall.ensures.levels
+
+pub returns-else-was-eq-FED-clause-right : goal.returns-else-was-eq-FED-clause-right
+returns-else-was-eq-FED-clause-right c =
+    let w = cell_on c.args.map.now in
+    let p = c.args.p in
+    let old = c.args.levels.now in
+    let pending = c.args.pending.now in
+    let before : PendingData = record pending { unsure = pending.unsure ++ p ∷ [] } in
+    let unfed : is_fed w p ≡ false = cc in
+    let other : (level_at old p == 15) ≡ false = not_15 _ (level_at old p) c.at-was.ensures.value c.if-was-eq-FED.false in
+    on_ok_weaker c.add_falling.result
+    (λ is. moved_right w old before pending p (taken_unsure pending p) c.requires.right c.requires.linked
+    c.add_falling.new.self (ap (λ d. d.unsure) is) (other ∙ sym unfed)
+    (λ q none. now_falling pending p q (sym (ap (λ d. is_pending d q) is) ∙ none)))
+    c.add_falling.ensures

@@ -1,0 +1,4 @@
+pub mod Consistency
+pub mod Linked
+pub mod Pending
+pub mod Repairs

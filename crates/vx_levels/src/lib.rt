@@ -1,0 +1,14 @@
+//! Levels of dust that are kept and made right again where something changed.
+#![tactic(auto)]
+
+mod laws;
+mod linked_levels;
+mod links;
+mod pending;
+mod repairing;
+mod word_layer;
+mod words;
+
+pub use laws::levels_agree;
+pub use linked_levels::LinkedLevels;
+pub use repairing::repair;

@@ -1,0 +1,235 @@
+//! Levels that were right before some cells changed, made right again in place.
+ghost use Rattle.std.specs.Prelude.{◌≡◌, ◌≤◌, ◌+◌, ◌++◌, ◌∷◌, [], true, OnOk, IfOk, IfSome};
+ghost use Rattle.std.specs.List.{filter};
+ghost use Rattle.vx_block.specs.Components.{is_dust};
+ghost use Rattle.vx_cells.specs.Maps.{cell_on};
+ghost use Rattle.vx_levels.specs.Linked.{level_at, linked, links_at, KnowsLinks};
+ghost use Rattle.vx_levels.specs.Pending.{IsPut, is_between};
+ghost use Rattle.vx_levels.specs.Repairs.{ChangesAt, Follows, IsRight, IsRightBut, IsUnderRepair};
+ghost use Rattle.vx_power.specs.Levels.{is_place};
+
+use crate::linked_levels::LinkedLevels;
+use crate::links::{greatest_linked, links_of};
+use crate::pending::Pending;
+use std::alloc::{AllocError, Global};
+use vx_cells::Frozen;
+use vx_geom::Pos;
+use vx_power::{FED, Leveled, is_fed};
+
+/// Makes levels right again that are right but at these positions: where a cell changed, and dust
+/// in sight of one that did. It tells where levels changed, or `None` where it took more turns than
+/// are allowed; then nothing is known of the levels. It costs what dust gets another level.
+pub fn repair(
+    alloc: Global,
+    map: &Frozen<'_>,
+    levels: &mut LinkedLevels,
+    unsure: Vec<Pos>,
+    turns: usize,
+) -> Result<Option<Vec<Pos>>, AllocError>
+    requires { IsRightBut (cell_on map.now) levels.old unsure.items }
+    ensures right { IfOk result (λ done. IfSome done (λ put.
+        IsRight (cell_on map.now) levels.new)) }
+    ensures changes { IfOk result (λ done. IfSome done (λ put.
+        ChangesAt put.items levels.old levels.new)) }
+{
+    let mut pending = Pending::at(alloc, unsure);
+    let mut put = Vec::new(alloc);
+    for _ in 0..turns {
+        if pending.is_empty() {
+            return Ok(Some(put));
+        }
+        turn(map, levels, &mut pending, &mut put)?;
+    }
+    Ok(None)
+}
+
+// Looks at one position.
+fn turn(
+    map: &Frozen<'_>,
+    levels: &mut LinkedLevels,
+    pending: &mut Pending,
+    put: &mut Vec<Pos>,
+) -> Result<(), AllocError>
+    requires { IsUnderRepair (cell_on map.now) levels.old pending.old }
+    ensures right { OnOk result (IsUnderRepair (cell_on map.now) levels.new pending.new) }
+    ensures follows { OnOk result (Follows put.old.items levels.old put.new.items levels.new) }
+{
+    if let Some(p) = pending.next_unsure() {
+        return look_anew(map, levels, pending, put, p);
+    }
+    if let Some(p) = pending.next_falling() {
+        return lower(map, levels, pending, put, p);
+    }
+    if let Some(p) = pending.next_rising() {
+        return lift(map, levels, pending, put, p);
+    }
+    Ok(())
+}
+
+// Looks at a position of which nothing is known: what dust there links to, and whether it is fed.
+fn look_anew(
+    map: &Frozen<'_>,
+    levels: &mut LinkedLevels,
+    pending: &mut Pending,
+    put: &mut Vec<Pos>,
+    p: Pos,
+) -> Result<(), AllocError>
+    requires { IsUnderRepair (cell_on map.now) levels.old
+        (record pending.old { unsure = pending.old.unsure ++ p ∷ [] }) }
+    ensures right { OnOk result (IsUnderRepair (cell_on map.now) levels.new pending.new) }
+    ensures follows { OnOk result (Follows put.old.items levels.old put.new.items levels.new) }
+{
+    if !lies(map, p) {
+        return Ok(());
+    }
+    levels.put_links(p, links_of(map, p))?;
+    feed(map, levels, pending, put, p)
+}
+
+// Looks whether dust at a position is fed, whose links are known.
+fn feed(
+    map: &Frozen<'_>,
+    levels: &mut LinkedLevels,
+    pending: &mut Pending,
+    put: &mut Vec<Pos>,
+    p: Pos,
+) -> Result<(), AllocError>
+    requires place { is_place p ≡ true }
+    requires dust { is_dust (cell_on map.now p) ≡ true }
+    requires right { IsUnderRepair (cell_on map.now) levels.old
+        (record pending.old { unsure = pending.old.unsure ++ p ∷ [] }) }
+    requires linked { KnowsLinks (cell_on map.now) levels.old p }
+    ensures right { OnOk result (IsUnderRepair (cell_on map.now) levels.new pending.new) }
+    ensures follows { OnOk result (Follows put.old.items levels.old put.new.items levels.new) }
+{
+    let was = levels.at(p);
+    if is_fed(map, p) {
+        rise(levels, pending, put, p, FED)
+    } else if was == FED {
+        fall(levels, pending, put, p, was)
+    } else {
+        pending.add_falling(p)
+    }
+}
+
+// Lets the level of dust at a position fall that nothing supports.
+fn lower(
+    map: &Frozen<'_>,
+    levels: &mut LinkedLevels,
+    pending: &mut Pending,
+    put: &mut Vec<Pos>,
+    p: Pos,
+) -> Result<(), AllocError>
+    requires fed { pending.old.unsure ≡ [] }
+    requires right { IsUnderRepair (cell_on map.now) levels.old
+        (record pending.old { falling = pending.old.falling ++ p ∷ [] }) }
+    ensures right { OnOk result (IsUnderRepair (cell_on map.now) levels.new pending.new) }
+    ensures follows { OnOk result (Follows put.old.items levels.old put.new.items levels.new) }
+{
+    if !lies(map, p) {
+        return Ok(());
+    }
+    let was = levels.at(p);
+    if was == FED {
+        return Ok(());
+    }
+    let told = greatest_linked(levels, p).saturating_sub(1);
+    if told < was {
+        fall(levels, pending, put, p, was)
+    } else if was < told {
+        pending.add_rising(p)
+    } else {
+        Ok(())
+    }
+}
+
+// Lets the level of dust at a position rise to what it is told.
+fn lift(
+    map: &Frozen<'_>,
+    levels: &mut LinkedLevels,
+    pending: &mut Pending,
+    put: &mut Vec<Pos>,
+    p: Pos,
+) -> Result<(), AllocError>
+    requires fed { pending.old.unsure ≡ [] }
+    requires right { IsUnderRepair (cell_on map.now) levels.old
+        (record pending.old { rising = pending.old.rising ++ p ∷ [] }) }
+    ensures right { OnOk result (IsUnderRepair (cell_on map.now) levels.new pending.new) }
+    ensures follows { OnOk result (Follows put.old.items levels.old put.new.items levels.new) }
+{
+    if !lies(map, p) {
+        return Ok(());
+    }
+    let was = levels.at(p);
+    if was == FED {
+        return Ok(());
+    }
+    let told = greatest_linked(levels, p).saturating_sub(1);
+    if was < told {
+        rise(levels, pending, put, p, told)
+    } else if told < was {
+        pending.add_falling(p)
+    } else {
+        Ok(())
+    }
+}
+
+// Whether dust lies at a position, which is then one of the widest world.
+#[tactic(auto, using(vx_power::proofs::Stepping::dust_place))]
+fn lies(map: &Frozen<'_>, p: Pos) -> bool
+    ensures dust { result ≡ is_dust (cell_on map.now p) }
+    ensures place { result ≡ true → is_place p ≡ true }
+{
+    map.soundness();
+    map.has_dust(p)
+}
+
+// Takes the level of dust away. What that may have supported may be too high now, and its own is too
+// low perhaps.
+fn fall(
+    levels: &mut LinkedLevels,
+    pending: &mut Pending,
+    put: &mut Vec<Pos>,
+    p: Pos,
+    was: u8,
+) -> Result<(), AllocError>
+    requires place { is_place p ≡ true }
+    requires most { was ≤ 15 }
+    ensures levels { OnOk result (IsPut (level_at levels.old) (level_at levels.new) p 0) }
+    ensures links { OnOk result ((q : Pos) → links_at levels.new q ≡ links_at levels.old q) }
+    ensures pending { OnOk result (pending.new ≡ record pending.old {
+      falling = pending.old.falling
+          ++ filter (is_between (level_at levels.old) was (was + 1))
+          (linked (links_at levels.old p) p);
+      rising = pending.old.rising ++ p ∷ [];
+    }) }
+    ensures put { OnOk result (put.new.items ≡ put.old.items ++ p ∷ []) }
+{
+    pending.add_falling_below(levels, p, was, was + 1)?;
+    pending.add_rising(p)?;
+    put.push(p)?;
+    levels.put(p, 0)
+}
+
+// Gives dust a higher level. What it links to may be too low now.
+fn rise(
+    levels: &mut LinkedLevels,
+    pending: &mut Pending,
+    put: &mut Vec<Pos>,
+    p: Pos,
+    level: u8,
+) -> Result<(), AllocError>
+    requires place { is_place p ≡ true }
+    requires most { level ≤ 15 }
+    ensures levels { OnOk result (IsPut (level_at levels.old) (level_at levels.new) p level) }
+    ensures links { OnOk result ((q : Pos) → links_at levels.new q ≡ links_at levels.old q) }
+    ensures pending { OnOk result (pending.new ≡ record pending.old {
+      rising = pending.old.rising
+          ++ filter (is_between (level_at levels.old) 0 level) (linked (links_at levels.old p) p);
+    }) }
+    ensures put { OnOk result (put.new.items ≡ put.old.items ++ p ∷ []) }
+{
+    pending.add_rising_below(levels, p, 0, level)?;
+    put.push(p)?;
+    levels.put(p, level)
+}

@@ -1,23 +1,17 @@
 -- Levels that agree with one another are those of the shortest walks.
-use Rattle.std.proofs.Common.{◌≡◌, ℕ, zero, suc, ◌+◌, ◌-◌, ◌<◌, ◌≤◌, max, inl, inr, Bool, true, false, ◌||◌, ◌⊎◌, if◌then◌else◌, List, [], ◌∷◌, nat_lt, refl, sym, ap, ◌∙◌, subst, arith}
+use Rattle.std.proofs.Common.{◌≡◌, ℕ, zero, suc, ◌+◌, ◌-◌, ◌<◌, ◌≤◌, max, inl, inr, Bool, true, false, if◌then◌else◌, List, [], ◌∷◌, nat_lt, refl, sym, ap, ◌∙◌, subst, arith}
 use Rattle.std.specs.List.{list_any}
 use Rattle.std.proofs.Math.Nat.{le-max_left, le-max_right, max-eq_left, max-eq_right}
-use Rattle.std.proofs.lemmas.Bool.{cases_Bool, false≢true, ltb-true, ltb-false, or_cases, or_parts, or_left, or_right}
+use Rattle.std.proofs.lemmas.Bool.{cases_Bool, ltb-true, ltb-false, or_cases, or_left, or_right}
 use Rattle.vx_geom.specs.declared.pos.Pos.{Pos}
 use Rattle.vx_block.specs.declared.cell.Cell.{Cell}
 use Rattle.vx_block.specs.Components.{is_dust}
-use Rattle.vx_levels.specs.Consistency.{greatest, pulled, IsConsistent, IsConsistentOn, IsExactOn, ConsistentIsExact, ExactIsConsistent}
+use Rattle.vx_levels.specs.Consistency.{greatest, pulled, ConsistentIsExact, ExactIsConsistent}
 use Rattle.vx_power.specs.Dust.{links}
-use Rattle.vx_power.specs.Laws.{dust_level}
-use Rattle.vx_power.specs.Local.{sees, shown, ShowAlike}
-use Rattle.vx_power.specs.Nearness.{is_touched}
 use Rattle.vx_power.specs.Signals.{is_fed}
 use Rattle.vx_power.specs.Walks.{within, level_by, level_of, IsAmong}
 use Rattle.vx_power.proofs.Linking.{links_at, links_lead_back}
-use Rattle.vx_power.proofs.Local.{dust_sees_shown}
 use Rattle.vx_power.proofs.Reach.{any_at, any_from, tells, falls_by_one, within_more}
-use Rattle.vx_power.proofs.Showing.{same_dust}
-use Rattle.vx_power.proofs.Unchanged.{none_at}
 
 -- the greatest is no less than any of them
 pub greatest_least : {X : Type 0} (level : X → ℕ) (qs : List X) (q : X) → IsAmong qs q → level q ≤ greatest level qs

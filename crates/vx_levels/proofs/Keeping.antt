@@ -1,5 +1,5 @@
 -- Levels made right again in place: what another level at one position leaves of what agrees.
-use Rattle.std.proofs.Common.{◌≡◌, ◌≢◌, OnOk, Result, Ok, Err, ℕ, zero, suc, ◌+◌, ◌-◌, ◌<◌, ◌≤◌, ◌==◌, max, inl, inr, Bool, true, false, ◌&&◌, ◌||◌, ◌⊎◌, if◌then◌else◌, List, [], ◌∷◌, ◌++◌, nat_lt, nat_le, refl, sym, ap, ◌∙◌, subst, arith}
+use Rattle.std.proofs.Common.{◌≡◌, ◌≢◌, OnOk, Result, Ok, Err, ℕ, ◌+◌, ◌-◌, ◌<◌, ◌≤◌, ◌==◌, max, inl, inr, Bool, true, false, ◌||◌, if◌then◌else◌, List, [], ◌∷◌, ◌++◌, nat_lt, nat_le, refl, sym, ap, ◌∙◌, subst, arith}
 use Rattle.std.specs.List.{filter}
 use Rattle.std.proofs.Math.Nat.{le-max_left, le-max_right, max-le, zero-max}
 use Rattle.std.proofs.lemmas.Bool.{cases_Bool, false≢true, ltb-true, ltb-false, le-leb, eqb-true, or_parts, and_from}
@@ -11,7 +11,7 @@ use Rattle.vx_block.specs.declared.cell.Cell.{Cell}
 use Rattle.vx_block.specs.declared.side.Side.{Side}
 use Rattle.vx_block.specs.declared.side.Side.TheVariants.{East, West, South, North}
 use Rattle.vx_block.specs.Components.{is_dust}
-use Rattle.vx_levels.specs.Consistency.{greatest, pulled, IsConsistent, IsExactOn}
+use Rattle.vx_levels.specs.Consistency.{greatest, IsConsistent, IsExactOn}
 use Rattle.vx_power.specs.Dust.{beside, over, under, links, links_on}
 use Rattle.vx_power.specs.Levels.{has, same_place}
 use Rattle.vx_levels.specs.Pending.{PendingData, is_pending, AreKept, is_between, linked_below, IsPut}

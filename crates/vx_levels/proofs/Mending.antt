@@ -1,5 +1,5 @@
 -- One position looked at while levels are made right, over a table that keeps links too.
-use Rattle.std.proofs.Common.{◌≡◌, ℕ, ◌+◌, ◌-◌, ◌≤◌, ◌%◌, ◌==◌, inl, inr, Bool, true, false, if◌then◌else◌, List, [], ◌∷◌, ◌++◌, refl, sym, ap, ◌∙◌, subst, arith}
+use Rattle.std.proofs.Common.{◌≡◌, ℕ, ◌+◌, ◌≤◌, ◌==◌, inl, inr, true, false, if◌then◌else◌, List, [], ◌∷◌, ◌++◌, refl, sym, ap, ◌∙◌, subst, arith}
 use Rattle.std.specs.List.{filter}
 use Rattle.std.proofs.lemmas.Bool.{cases_Bool, or_parts}
 use Rattle.vx_geom.specs.declared.pos.Pos.{Pos}
@@ -7,10 +7,9 @@ use Rattle.vx_block.specs.declared.cell.Cell.{Cell}
 use Rattle.vx_block.specs.Components.{is_dust}
 use Rattle.vx_levels.specs.Consistency.{IsConsistent}
 use Rattle.vx_levels.specs.Linked.{level_at, links_at, linked, KnowsLinks}
-use Rattle.vx_levels.specs.Pending.{PendingData, is_pending, AreKept, is_between, linked_below, IsPut}
+use Rattle.vx_levels.specs.Pending.{PendingData, is_pending, AreKept, is_between, IsPut}
 use Rattle.vx_levels.specs.Repairs.{Follows, IsRight, IsRightBut, IsUnderRepair}
 use Rattle.vx_levels.proofs.Keeping.{IsTaken, none_in, left_out, moved_to, after_fall, after_rise, begun_at, all_exact}
-use Rattle.vx_power.specs.Dust.{links}
 use Rattle.vx_power.specs.Levels.{LevelTable, has, same_place}
 use Rattle.vx_power.specs.Signals.{is_fed}
 use Rattle.vx_power.proofs.Having.{place_is}

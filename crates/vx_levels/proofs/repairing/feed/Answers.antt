@@ -1,16 +1,10 @@
-use Rattle.std.proofs.Common.{◌≡◌, ◌+◌, ◌-◌, ◌++◌, ◌∷◌, [], ◌==◌, ◌<◌, true, false, refl, sym, ap, ◌∙◌, arith}
-use Rattle.std.proofs.lemmas.Bool.{false≢true, eqb-true}
+use Rattle.std.proofs.Common.{◌≡◌, ◌++◌, ◌∷◌, [], ◌==◌, true, false, refl, sym, ap, ◌∙◌, arith}
 use Rattle.std.proofs.lemmas.Result.{on_ok_weaker}
-use Rattle.vx_block.specs.Components.{is_dust}
 use Rattle.vx_cells.specs.Maps.{cell_on}
-use Rattle.vx_levels.specs.Consistency.{greatest}
-use Rattle.vx_levels.specs.Linked.{level_at, linked, links_at, KnowsLinks}
+use Rattle.vx_levels.specs.Linked.{level_at}
 use Rattle.vx_levels.specs.Pending.{PendingData, is_pending}
-use Rattle.vx_levels.proofs.Agreeing.{told_fed, told_unfed}
-use Rattle.vx_levels.proofs.Keeping.{not_15, just_15, under_15, on_ok_both, on_ok_three, own_fed, own_right, taken_unsure, taken_falling, taken_rising, now_falling, now_rising}
-use Rattle.vx_levels.proofs.Mending.{left_right, moved_right, fallen_right, risen_right, follows_put}
-use Rattle.vx_power.specs.Dust.{links}
-use Rattle.vx_power.specs.Levels.{has}
+use Rattle.vx_levels.proofs.Keeping.{not_15, on_ok_both, on_ok_three, own_fed, taken_unsure, now_falling}
+use Rattle.vx_levels.proofs.Mending.{moved_right, fallen_right, risen_right, follows_put}
 use Rattle.vx_power.specs.Signals.{is_fed}
 use Rattle.vx_levels.proofs.repairing.feed.Goals as goal
 

@@ -1,4 +1,4 @@
-use Rattle.std.proofs.Common.{sym, ap, subst, ◌∙◌, refl, false}
+use Rattle.std.proofs.Common.{sym, subst, ◌∙◌, refl}
 use Rattle.vx_cells.specs.Maps.{cell_on}
 use Rattle.vx_levels.specs.Repairs.{IsUnderRepair}
 use Rattle.vx_levels.proofs.Mending.{begun_right, all_right}

@@ -1,6 +1,4 @@
-use Rattle.std.proofs.Common.{◌≡◌, false}
 use Rattle.vx_cells.specs.Maps.{cell_on}
-use Rattle.vx_geom.specs.declared.pos.Pos.{Pos}
 use Rattle.vx_levels.specs.Repairs.{ChangesAt, IsUnderRepair}
 use Rattle.vx_levels.proofs.repairing.repair.Given as goal
 

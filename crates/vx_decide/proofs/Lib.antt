@@ -1,5 +1,5 @@
 pub mod Answering
-pub mod AtPlaces
+pub mod ByNumber
 pub mod Defaults
 pub mod Highest
 pub mod Inherited

@@ -1,29 +1,34 @@
-use Rattle.std.specs.Prelude.{◌≡◌, ℕ, ◌<◌, true, length, slice_get, List, Option, Some, None, Contains}
+use Rattle.std.specs.Prelude.{◌≡◌, ℕ, ◌<◌, true, List, Option, Some, None, IsSome, option_map, Contains}
 use Rattle.std.specs.List.{filter, filter_map, AllPairs}
 use Rattle.std.specs.List.Sorted.{IsStrictlyIncreasing}
 use Rattle.vx_geom.specs.declared.pos.Pos.{Pos}
 use Rattle.vx_geom.specs.Outline.{is_in}
-use Rattle.vx_region.specs.Regions.{Entry, Regions}
+use Rattle.vx_region.specs.Regions.{Entry, RegionData, Regions, region_at}
 
--- these are places of regions, as they are counted from 0
-abbrev pub ArePlaces : List Entry → List ℕ → Type 0
-ArePlaces es places = (i : ℕ) → Contains places i → i < length es
+-- each of these is the number of a region
+abbrev pub AreNumbers : Regions → List ℕ → Type 0
+AreNumbers rs numbers = (n : ℕ) → Contains numbers n → IsSome (region_at rs n)
 
--- the places of regions ascend, and each region that contains the position is at one of them
-pub record HoldCandidates (rs : Regions) (p : Pos) (places : List ℕ) : Type 0 where
-  pub ascending : IsStrictlyIncreasing places
-  pub named : ArePlaces rs.entries places
-  pub whole : (i : ℕ) (e : Entry) → slice_get rs.entries i ≡ Some e → is_in e.1.shape p ≡ true
-      → Contains places i
+-- the numbers of regions ascend, and each region that contains the position has its number among
+-- them
+pub record HoldCandidates (rs : Regions) (p : Pos) (numbers : List ℕ) : Type 0 where
+  pub ascending : IsStrictlyIncreasing numbers
+  pub named : AreNumbers rs numbers
+  pub whole : (n : ℕ) (r : RegionData) → region_at rs n ≡ Some r → is_in r.shape p ≡ true
+      → Contains numbers n
 
--- the regions at these places
-abbrev pub regions_at : List Entry → List ℕ → List Entry
-regions_at es places = filter_map (slice_get es) places
+-- the region of a number, with the number
+abbrev pub entry_at : Regions → ℕ → Option Entry
+entry_at rs n = option_map (λ r. (n, r)) (region_at rs n)
 
--- the regions at some places, or all
-abbrev pub candidates_of : List Entry → Option (List ℕ) → List Entry
-candidates_of es None = es
-candidates_of es (Some places) = regions_at es places
+-- the regions of these numbers
+abbrev pub regions_at : Regions → List ℕ → List Entry
+regions_at rs numbers = filter_map (entry_at rs) numbers
+
+-- the regions of some numbers, or all
+abbrev pub candidates_of : Regions → Option (List ℕ) → List Entry
+candidates_of rs None = rs.entries
+candidates_of rs (Some numbers) = regions_at rs numbers
 
 -- each number is below all later ones
 abbrev pub Ascend : List Entry → Type 0

@@ -12,19 +12,19 @@ use vx_flag::{Action, Flag};
 use vx_geom::Pos;
 use vx_region::{RegionSet, Subject};
 
-/// The verdict of the policy of these regions, asked of those at these places in their order alone.
-/// These flags are set nowhere. It takes no memory, and costs what those regions are and their
+/// The verdict of the policy of these regions, asked of those of these numbers alone. These flags
+/// are set nowhere. It takes no memory, and costs what those regions are and their
 /// ancestries.
 #[tactic(auto, unfolding(crate::specs::Verdict::verdict))]
 pub fn decide_among(
     regions: &RegionSet,
-    places: &[u32],
+    numbers: &[u32],
     unset: &[Flag],
     subject: &Subject,
     action: Action,
     p: Pos,
 ) -> Verdict
-    requires places { HoldCandidates regions.now p places.now }
+    requires numbers { HoldCandidates regions.now p numbers.now }
     requires unset { All (IsUnset regions.now) unset.now }
     ensures { result ≡ verdict regions.now (actor_of subject.now) action p }
 {
@@ -33,7 +33,7 @@ pub fn decide_among(
         regions,
         subject,
         place: p,
-        candidates: Candidates::at(regions, places),
+        candidates: Candidates::at(regions, numbers),
         unset,
     };
     inquiry.decided_by(action.flag())

@@ -1,29 +1,28 @@
-ghost use Rattle.std.specs.Prelude.{◌≡◌, ◌<◌, length, slice_get, slice_index_or, Some};
-ghost use Rattle.vx_decide.specs.Candidates.{ArePlaces, regions_at};
+ghost use Rattle.std.specs.Prelude.{◌≡◌, ◌<◌, length, slice_get, slice_index_or, IsSome, Some};
+ghost use Rattle.vx_decide.specs.Candidates.{AreNumbers, regions_at};
+ghost use Rattle.vx_region.specs.Regions.{region_at};
 
 use std::marker::Model;
 use vx_region::{Region, RegionNo, RegionSet};
 
-/// The regions that are looked at: all of a set, or those at some places of it, in order.
+/// The regions that are looked at: all of a set, or those of some numbers, in order.
 #[derive(Drop)]
 pub struct Candidates<'a> {
     regions: &'a RegionSet,
     // None for all.
-    places: Option<&'a [u32]>,
+    numbers: Option<&'a [u32]>,
 }
 
 impl<'a> Model for Candidates<'a> {
     ghost use Rattle.std.specs.Prelude.{List, option_map, IfSome};
     ghost use Rattle.vx_region.specs.Regions.{Entry};
-    ghost use Rattle.vx_decide.specs.Candidates.{ArePlaces, candidates_of};
+    ghost use Rattle.vx_decide.specs.Candidates.{AreNumbers, candidates_of};
 
     ghost Value = { List Entry };
 
-    ghost view = { λ a. candidates_of a.regions.now.entries
-        (option_map (λ s. s.now) a.places) };
+    ghost view = { λ a. candidates_of a.regions.now (option_map (λ s. s.now) a.numbers) };
 
-    ghost invariant = { λ a. IfSome a.places
-        (λ s. ArePlaces a.regions.now.entries s.now) };
+    ghost invariant = { λ a. IfSome a.numbers (λ s. AreNumbers a.regions.now s.now) };
 }
 
 impl<'a> Candidates<'a> {
@@ -33,40 +32,43 @@ impl<'a> Candidates<'a> {
     {
         Candidates {
             regions,
-            places: None,
+            numbers: None,
         }
     }
 
-    /// Those at these places.
-    pub fn at(regions: &'a RegionSet, places: &'a [u32]) -> Candidates<'a>
-        requires { ArePlaces regions.now.entries places.now }
-        ensures { result ≡ regions_at regions.now.entries places.now }
+    /// Those of these numbers.
+    pub fn at(regions: &'a RegionSet, numbers: &'a [u32]) -> Candidates<'a>
+        requires { AreNumbers regions.now numbers.now }
+        ensures { result ≡ regions_at regions.now numbers.now }
     {
         Candidates {
             regions,
-            places: Some(places),
+            numbers: Some(numbers),
         }
     }
 
     /// How many there are.
-    #[tactic(auto, using(crate::proofs::AtPlaces::regions_length))]
+    #[tactic(auto, using(crate::proofs::ByNumber::regions_length))]
     pub fn count(&self) -> usize
         ensures { result ≡ length self.now }
     {
-        match self.places {
-            Some(places) => places.len(),
+        match self.numbers {
+            Some(numbers) => numbers.len(),
             None => self.regions.count() as usize,
         }
     }
 
     /// The one of that index, counted from 0, with its number.
-    #[tactic(auto, using(crate::proofs::AtPlaces::regions_length, crate::proofs::AtPlaces::regions_read, crate::proofs::AtPlaces::place_below))]
+    #[tactic(auto, using(crate::proofs::ByNumber::regions_length, crate::proofs::ByNumber::regions_read, crate::proofs::ByNumber::number_named))]
     pub fn nth(&self, index: usize) -> (RegionNo, &Region)
         requires { index < length self.now }
         ensures { slice_get self.now index ≡ Some (result.0.0, result.1.now) }
     {
-        match self.places {
-            Some(places) => self.regions.nth(place_at(places, index)),
+        match self.numbers {
+            Some(numbers) => {
+                let number = number_at(numbers, index);
+                (RegionNo(number), region_of(self.regions, number))
+            }
             None => {
                 prove!(index < self.regions.count() as usize);
                 self.regions.nth(index as u32)
@@ -75,9 +77,18 @@ impl<'a> Candidates<'a> {
     }
 }
 
-fn place_at(places: &[u32], index: usize) -> u32
-    requires { index < length places.now }
-    ensures { result ≡ slice_index_or places.now index 0 }
+fn number_at(numbers: &[u32], index: usize) -> u32
+    requires { index < length numbers.now }
+    ensures { result ≡ slice_index_or numbers.now index 0 }
 {
-    places[index]
+    numbers[index]
+}
+
+// The region of a number that has one.
+#[tactic(auto, using(crate::proofs::ByNumber::some_read))]
+fn region_of(regions: &RegionSet, number: u32) -> &Region
+    requires { IsSome (region_at regions.now number) }
+    ensures { region_at regions.now number ≡ Some result.now }
+{
+    regions.get(RegionNo(number)).unwrap()
 }

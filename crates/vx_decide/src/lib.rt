@@ -14,7 +14,6 @@ mod plain;
 mod query;
 mod question;
 mod rule;
-mod unset;
 mod value;
 mod verdict;
 
@@ -27,5 +26,4 @@ pub use laws::{
 };
 pub use plain::Plain;
 pub use rule::Rule;
-pub use unset::unset_flags;
 pub use verdict::Verdict;

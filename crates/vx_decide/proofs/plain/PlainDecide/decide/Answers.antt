@@ -1,4 +1,4 @@
-use Rattle.vx_decide.proofs.AtPlaces.{all_suffice}
+use Rattle.vx_decide.proofs.ByNumber.{all_suffice}
 use Rattle.vx_decide.proofs.plain.PlainDecide.decide.Goals as goal
 
 pub invariant_of-inquiry-clause-whole : goal.invariant_of-inquiry-clause-whole

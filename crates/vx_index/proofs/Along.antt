@@ -1,5 +1,5 @@
 -- What holds of the chunks of a row, and of those of all rows of a land.
-use Rattle.std.proofs.Common.{◌≡◌, ℕ, ◌<◌, Bool, true, false, ◌&&◌, ◌||◌, List, [], ◌∷◌, ◌++◌, length, get_or, Result, IfOk, refl, ap, sym, ◌∙◌, subst}
+use Rattle.std.proofs.Common.{◌≡◌, ℕ, ◌<◌, Bool, true, false, ◌&&◌, ◌||◌, List, [], ◌∷◌, ◌++◌, length, get_or, Option, Some, None, Result, IfOk, refl, ap, sym, ◌∙◌, subst}
 use Rattle.std.specs.List.{All}
 use Rattle.std.proofs.lemmas.Bool.{or_parts}
 use Rattle.std.proofs.lemmas.List.Elements.{All-nil, All-cons, All-head, All-tail, All-append}
@@ -9,7 +9,7 @@ use Rattle.vx_geom.specs.Extent.{overlap, meets}
 use Rattle.vx_index.specs.Lands.{joined}
 use Rattle.vx_index.specs.Patches.{square}
 use Rattle.vx_index.specs.Plots.{LiesAlong}
-use Rattle.vx_index.specs.Touching.{share_row, touches, touches_row}
+use Rattle.vx_index.specs.Touching.{any_meets, any_shares_row, share_row, touches, touches_row}
 use Rattle.vx_index.specs.declared.chunk.Chunk.{Chunk}
 use Rattle.vx_index.specs.declared.touched.Touched.{Touched}
 
@@ -42,13 +42,18 @@ unfolding meets
 apart_along e columns chunk along apart = second_fails (overlap e.west e.east chunk.columns.west chunk.columns.east) (share_row e chunk.columns)
     (ap (λ n. overlap e.north e.south n chunk.columns.south) along.north ∙ ap (λ s. overlap e.north e.south columns.north s) along.south ∙ apart)
 
+any_apart_along : (o : Option Extent) (columns : Extent) (chunk : Chunk) → LiesAlong columns chunk → any_shares_row o columns ≡ false
+    → any_meets o chunk.columns ≡ false
+any_apart_along None columns chunk along apart = refl
+any_apart_along (Some e) columns chunk along apart = apart_along e columns chunk along apart
+
 -- so a change that touches no part of the row touches none of its chunks
 pub untouched_along : (touched : Touched) (columns : Extent) (chunk : Chunk) → LiesAlong columns chunk → touches_row touched columns ≡ false
     → touches touched chunk.columns ≡ false
 untouched_along touched columns chunk along apart =
-    let parts = or_parts (share_row touched.before columns) (share_row touched.after columns) apart in
-    none_holds (meets touched.before chunk.columns) (meets touched.after chunk.columns)
-    (apart_along touched.before columns chunk along parts.0) (apart_along touched.after columns chunk along parts.1)
+    let parts = or_parts (any_shares_row touched.before columns) (any_shares_row touched.after columns) apart in
+    none_holds (any_meets touched.before chunk.columns) (any_meets touched.after chunk.columns)
+    (any_apart_along touched.before columns chunk along parts.0) (any_apart_along touched.after columns chunk along parts.1)
 
 -- what holds of all of two lists holds of each
 all_parts : (P : Chunk → Type 0) (xs ys : List Chunk) → All P (xs ++ ys) → All P xs × All P ys

@@ -1,7 +1,7 @@
 pub mod Adding
 pub mod Along
+pub mod Beginning
 pub mod Edges
-pub mod Gathered
 pub mod Keeping
 pub mod Listed
 pub mod Orders

@@ -1,150 +1,181 @@
--- The places of the regions of a chunk, as its patches are gone through.
-use Rattle.std.proofs.Common.{◌≡◌, ◌⊎◌, inl, inr, ℕ, ◌+◌, ◌-◌, ◌<◌, ◌≤◌, true, false, nat_eq, length, get_or, take, drop, List, [], ◌∷◌, ◌++◌, Contains, refl, sym, ◌∙◌, subst, arith, add-one, drop-cons}
+-- The numbers of the regions of a chunk, as its patches are gone through.
+use Rattle.std.proofs.Common.{◌≡◌, ◌⊎◌, inl, inr, ℕ, pos, ◌+◌, ◌<◌, ◌≤◌, Bool, true, false, ◌&&◌, nat_eq, length, get_or, take, drop, List, [], ◌∷◌, ◌++◌, Contains, Option, Some, None, IsSome, option_map, refl, ap, sym, ◌∙◌, subst, arith, add-one, drop-cons}
 use Rattle.std.specs.List.{AllByRecursion, All, AllPairs}
-use Rattle.std.proofs.lemmas.Bool.{and_parts, both_ways, eq-eqb, eqb-true, or_cases, or_left, or_right}
+use Rattle.std.proofs.lemmas.Bool.{and_from, and_parts, both_ways, eq-eqb, eqb-true, or_cases, or_left, or_right}
 use Rattle.std.proofs.lemmas.List.{take_more, take_all}
 use Rattle.std.proofs.lemmas.List.Elements.{All-nil, All-push, All-weaker, Contains-append_left, Contains-push, Contains-push_cases}
 use Rattle.std.proofs.lemmas.List.Folds.{list_any-append}
 use Rattle.std.proofs.lemmas.List.Quantifiers.{all_pairs_push}
-use Rattle.std.proofs.lemmas.Option.{slice_get_within}
 use Rattle.vx_decide.specs.Candidates.{HoldCandidates}
+use Rattle.vx_decide.proofs.ByNumber.{above_zero}
+use Rattle.vx_geom.specs.declared.extent.Extent.{Extent}
 use Rattle.vx_geom.specs.declared.pos.Pos.{Pos}
 use Rattle.vx_geom.specs.Extent.{is_within}
 use Rattle.vx_index.specs.declared.chunk.Chunk.{Chunk}
 use Rattle.vx_index.specs.declared.patch.Patch.{Patch}
 use Rattle.vx_index.specs.Chunks.{IsChunk}
-use Rattle.vx_index.specs.Patches.{has_place, is_near, are_near, AreInOrder, ArePlacesOf}
-use Rattle.vx_index.specs.Shapes.{shapes_of}
+use Rattle.vx_index.specs.Patches.{has_such, has_number, AreInOrder, AreNumbersOf, IsMet}
+use Rattle.vx_index.specs.Shapes.{Shapes, shape_at}
 use Rattle.vx_index.proofs.Orders.{order_lower}
-use Rattle.vx_index.proofs.Shapes.{shape_at, shape_count}
-use Rattle.vx_region.specs.Regions.{Regions}
+use Rattle.vx_region.specs.Forest.{IsForest}
+use Rattle.vx_region.specs.Regions.{RegionData, Regions, region_at}
 
--- with one patch more the places are those before and its own
-has_more : (done : List Patch) (d : Patch) (i : ℕ) → has_place done i ≡ true → has_place (done ++ d ∷ []) i ≡ true
-has_more done d i has =
-    list_any-append (λ (x : Patch). nat_eq i x.place) done (d ∷ []) ∙ or_left (has_place done i) (has_place (d ∷ []) i) has
+module _ (test : Patch → Bool) where
+  -- the patch passes the test and is of that number
+  abbrev is_such : ℕ → Patch → Bool
+  is_such n d = test d && nat_eq n d.number
 
-has_own : (done : List Patch) (d : Patch) → has_place (done ++ d ∷ []) d.place ≡ true
-has_own done d =
-    list_any-append (λ (x : Patch). nat_eq d.place x.place) done (d ∷ [])
-    ∙ or_right (has_place done d.place) (has_place (d ∷ []) d.place) (or_left (nat_eq d.place d.place) false (eq-eqb d.place d.place refl))
+  -- with one patch more there are the numbers before and its own
+  has_more : (done : List Patch) (d : Patch) (n : ℕ) → has_such test done n ≡ true → has_such test (done ++ d ∷ []) n ≡ true
+  has_more done d n has = list_any-append (is_such n) done (d ∷ []) ∙ or_left (has_such test done n) (has_such test (d ∷ []) n) has
 
-has_parts : (done : List Patch) (d : Patch) (i : ℕ) → has_place (done ++ d ∷ []) i ≡ true → (has_place done i ≡ true) ⊎ (i ≡ d.place)
-has_parts done d i has =
-    elim (or_cases (has_place done i) (has_place (d ∷ []) i) (sym (list_any-append (λ (x : Patch). nat_eq i x.place) done (d ∷ [])) ∙ has)) [
-      | inl before ↦ inl before
-      | inr last ↦ elim (or_cases (nat_eq i d.place) false last) [
-        | inl own ↦ inr (eqb-true i d.place own)
-        | inr none ↦ absurd (both_ways false refl none)
+  has_own : (done : List Patch) (d : Patch) → test d ≡ true → has_such test (done ++ d ∷ []) d.number ≡ true
+  has_own done d passes =
+      list_any-append (is_such d.number) done (d ∷ [])
+      ∙ or_right (has_such test done d.number) (has_such test (d ∷ []) d.number)
+      (or_left (is_such d.number d) false (and_from (test d) (nat_eq d.number d.number) passes (eq-eqb d.number d.number refl)))
+
+  has_parts : (done : List Patch) (d : Patch) (n : ℕ) → has_such test (done ++ d ∷ []) n ≡ true
+      → (has_such test done n ≡ true) ⊎ ((test d ≡ true) × (n ≡ d.number))
+  has_parts done d n has =
+      elim (or_cases (has_such test done n) (has_such test (d ∷ []) n) (sym (list_any-append (is_such n) done (d ∷ [])) ∙ has)) [
+        | inl before ↦ inl before
+        | inr last ↦ elim (or_cases (is_such n d) false last) [
+          | inl own ↦ let both = and_parts (test d) (nat_eq n d.number) own in inr (both.0, eqb-true n d.number both.1)
+          | inr none ↦ absurd (both_ways false refl none)
+        ]
       ]
-    ]
 
--- what is listed of the patches that are done when others are left: places that ascend, the next one is no less than `next`, those of these patches and
--- no others
-pub record Listed (done rest : List Patch) (places : List ℕ) (next : ℕ) : Type 0 where
-  pub rising : AllPairs (λ i j. i < j) places
-  pub below : All (λ i. i < next) places
-  pub last : 0 < next → Contains places (next - 1)
-  pub ordered : AreInOrder (next - 1) rest
-  pub whole : (i : ℕ) → has_place done i ≡ true → Contains places i
-  pub own : (i : ℕ) → Contains places i → has_place done i ≡ true
+-- what is listed of the patches that are done when others are left: numbers that ascend to the last one, those from 1 on of the patches that pass the
+-- test, and none but those of these patches
+pub record Listed (test : Patch → Bool) (done rest : List Patch) (numbers : List ℕ) (last : ℕ) : Type 0 where
+  pub rising : AllPairs (λ m n. m < n) numbers
+  pub below : All (λ n. n ≤ last) numbers
+  pub there : 0 < last → Contains numbers last
+  pub ordered : AreInOrder last rest
+  pub whole : (n : ℕ) → 0 < n → has_such test done n ≡ true → Contains numbers n
+  pub own : (n : ℕ) → Contains numbers n → has_number done n ≡ true
 
 -- nothing is listed yet
-pub none_listed : (all : List Patch) (places : List ℕ) → places ≡ [] → AreInOrder 0 all → Listed [] all places 0
-none_listed all places none ordered = subst (λ ps. Listed [] all ps 0) (sym none) (record {
+pub none_listed : (test : Patch → Bool) (all : List Patch) (numbers : List ℕ) → numbers ≡ [] → AreInOrder 0 all → Listed test [] all numbers 0
+none_listed test all numbers none ordered = subst (λ ns. Listed test [] all ns 0) (sym none) (record {
   rising = λ i j d first below. absurd (omega (arith, below));
-  below = All-nil (λ i. i < 0);
-  last = λ some. absurd (omega (arith, some));
+  below = All-nil (λ n. n ≤ 0);
+  there = λ some. absurd (omega (arith, some));
   ordered = ordered;
-  whole = λ i has. absurd (both_ways false refl has);
-  own = λ i there. absurd (omega (arith, there.1));
+  whole = λ n above has. absurd (both_ways false refl has);
+  own = λ n there. absurd (omega (arith, there.1));
 })
 
 -- a patch of a region that is not there yet
-pub lists : (done : List Patch) (d : Patch) (rest : List Patch) (places new : List ℕ) (next : ℕ) → new ≡ places ++ d.place ∷ [] → next ≤ d.place
-    → Listed done (d ∷ rest) places next → Listed (done ++ d ∷ []) rest new (d.place + 1)
-lists done d rest places new next pushed from held = subst (λ ps. Listed (done ++ d ∷ []) rest ps (d.place + 1)) (sym pushed) (record {
-  rising = all_pairs_push (λ i j. i < j) places d.place held.rising
-      (All-weaker (λ i. i < next) (λ i. i < d.place) (λ i low. omega (arith, low, from)) places held.below);
-  below = All-push (λ i. i < d.place + 1) places d.place
-      (All-weaker (λ i. i < next) (λ i. i < d.place + 1) (λ i low. omega (arith, low, from)) places held.below) (omega arith);
-  last = λ some. subst (Contains (places ++ d.place ∷ [])) (omega arith) (Contains-push places d.place);
-  ordered = order_lower (d.place + 1 - 1) d.place rest (omega arith) held.ordered.1;
-  whole = λ i has. elim (has_parts done d i has) [
-    | inl before ↦ Contains-append_left places (d.place ∷ []) i (held.whole i before)
-    | inr same ↦ subst (Contains (places ++ d.place ∷ [])) (sym same) (Contains-push places d.place)
+pub lists : (test : Patch → Bool) (done : List Patch) (d : Patch) (rest : List Patch) (numbers new : List ℕ) (last : ℕ) → new ≡ numbers ++ d.number ∷ []
+    → last < d.number → Listed test done (d ∷ rest) numbers last → Listed test (done ++ d ∷ []) rest new d.number
+lists test done d rest numbers new last pushed above held = subst (λ ns. Listed test (done ++ d ∷ []) rest ns d.number) (sym pushed) (record {
+  rising = all_pairs_push (λ m n. m < n) numbers d.number held.rising
+      (All-weaker (λ n. n ≤ last) (λ n. n < d.number) (λ n low. omega (arith, low, above)) numbers held.below);
+  below = All-push (λ n. n ≤ d.number) numbers d.number
+      (All-weaker (λ n. n ≤ last) (λ n. n ≤ d.number) (λ n low. omega (arith, low, above)) numbers held.below) (omega arith);
+  there = λ some. Contains-push numbers d.number;
+  ordered = held.ordered.1;
+  whole = λ n from has. elim (has_parts test done d n has) [
+    | inl before ↦ Contains-append_left numbers (d.number ∷ []) n (held.whole n from before)
+    | inr both ↦ subst (Contains (numbers ++ d.number ∷ [])) (sym both.1) (Contains-push numbers d.number)
   ];
-  own = λ i there. elim (Contains-push_cases places d.place i there) [
-    | inl before ↦ has_more done d i (held.own i before)
-    | inr same ↦ subst (λ j. has_place (done ++ d ∷ []) j ≡ true) same (has_own done d)
+  own = λ n there. elim (Contains-push_cases numbers d.number n there) [
+    | inl before ↦ has_more (λ x. true) done d n (held.own n before)
+    | inr same ↦ subst (λ m. has_number (done ++ d ∷ []) m ≡ true) same (has_own (λ x. true) done d refl)
   ];
 })
 
--- and one of a region that is there
-pub lists_again : (done : List Patch) (d : Patch) (rest : List Patch) (places : List ℕ) (next : ℕ) → d.place < next
-    → Listed done (d ∷ rest) places next → Listed (done ++ d ∷ []) rest places next
-lists_again done d rest places next before held = record {
+-- and one that does not pass, or is of a region that is there
+pub passes : (test : Patch → Bool) (done : List Patch) (d : Patch) (rest : List Patch) (numbers : List ℕ) (last : ℕ) → (test d ≡ true → d.number ≤ last)
+    → Listed test done (d ∷ rest) numbers last → Listed test (done ++ d ∷ []) rest numbers last
+passes test done d rest numbers last known held = record {
   rising = held.rising;
   below = held.below;
-  last = held.last;
-  ordered = order_lower (next - 1) d.place rest held.ordered.0 held.ordered.1;
-  whole = λ i has. elim (has_parts done d i has) [
-    | inl earlier ↦ held.whole i earlier
-    | inr same ↦
-        let last : next - 1 ≡ i = omega (arith, same, before, held.ordered.0) in
-        subst (Contains places) last (held.last (omega (arith, before)))
+  there = held.there;
+  ordered = order_lower last d.number rest held.ordered.0 held.ordered.1;
+  whole = λ n from has. elim (has_parts test done d n has) [
+    | inl earlier ↦ held.whole n from earlier
+    | inr both ↦
+        let same : last ≡ n = omega (arith, both.1, known both.0, held.ordered.0) in
+        subst (Contains numbers) same (held.there (omega (arith, from, same)))
   ];
-  own = λ i there. has_more done d i (held.own i there);
+  own = λ n there. has_more (λ x. true) done d n (held.own n there);
+}
+
+-- what is read past the end of the patches
+abbrev pub no_patch : Patch
+no_patch = record {
+  number = 0;
+  columns = record { west = pos 0; east = pos 0; north = pos 0; south = pos 0 };
 }
 
 -- the patch at an index is the first of those that are left, and then the last of those that are done
-pub next_listed : (all : List Patch) (k : ℕ) (d : Patch) (places : List ℕ) (next : ℕ) → k < length all
-    → Listed (take k all) (drop k all) places next → Listed (take k all) (get_or all k d ∷ drop (k + 1) all) places next
-next_listed all k d places next below held =
-    let parts : drop k all ≡ get_or all k d ∷ drop (k + 1) all = rw add-one (drop-cons all k d below) in
-    subst (λ rest. Listed (take k all) rest places next) parts held
+pub turn : (test : Patch → Bool) (all items : List Patch) (k : ℕ) (numbers new : List ℕ) (last next : ℕ) → items ≡ all → k < length items
+    → (Listed test (take k all) (get_or items k no_patch ∷ drop (k + 1) all) numbers last
+    → Listed test (take k all ++ get_or items k no_patch ∷ []) (drop (k + 1) all) new next)
+    → Listed test (take k all) (drop k all) numbers last → Listed test (take (k + 1) all) (drop (k + 1) all) new next
+turn test all items k numbers new last next same below goes held =
+    subst (λ done. Listed test done (drop (k + 1) all) new next) (sym more)
+    (goes (subst (λ rest. Listed test (take k all) rest numbers last) parts held))
+  where
+    here : drop k items ≡ get_or items k no_patch ∷ drop (k + 1) items
+    here = rw add-one (drop-cons items k no_patch below)
 
-pub one_done : (all : List Patch) (k : ℕ) (d : Patch) (places : List ℕ) (next : ℕ) → k < length all
-    → Listed (take k all ++ get_or all k d ∷ []) (drop (k + 1) all) places next → Listed (take (k + 1) all) (drop (k + 1) all) places next
-one_done all k d places next below held =
-    subst (λ done. Listed done (drop (k + 1) all) places next) (sym (take_more all k d below)) held
+    parts : drop k all ≡ get_or items k no_patch ∷ drop (k + 1) all
+    parts = subst (λ ds. drop k ds ≡ get_or items k no_patch ∷ drop (k + 1) ds) same here
 
--- where all patches are done these are the places of all
-pub all_listed : (all : List Patch) (k : ℕ) (places : List ℕ) (next : ℕ) → length all ≤ k → Listed (take k all) (drop k all) places next
-    → ArePlacesOf all places
-all_listed all k places next past held =
-    let whole : take k all ≡ all = take_all k all past in
+    more : take (k + 1) all ≡ take k all ++ get_or items k no_patch ∷ []
+    more = subst (λ ds. take (k + 1) ds ≡ take k ds ++ get_or items k no_patch ∷ []) same (take_more items k no_patch below)
+
+-- where all patches are done these are the numbers of all
+pub all_listed : (test : Patch → Bool) (all items : List Patch) (k : ℕ) (numbers : List ℕ) (last : ℕ) → items ≡ all → length items ≤ k
+    → Listed test (take k all) (drop k all) numbers last → AreNumbersOf test all numbers
+all_listed test all items k numbers last same past held =
+    let whole : take k all ≡ all = take_all k all (omega (arith, past, ap length same)) in
     record {
       ascending = λ i below. held.rising i (i + 1) 0 (omega arith) below;
-      whole = λ i has. held.whole i (subst (λ ds. has_place ds i ≡ true) (sym whole) has);
-      own = λ i there. subst (λ ds. has_place ds i ≡ true) whole (held.own i there);
+      whole = λ n from has. held.whole n from (subst (λ ds. has_such test ds n ≡ true) (sym whole) has);
+      own = λ n there. subst (λ ds. has_number ds n ≡ true) whole (held.own n there);
     }
 
--- the place of a patch is below what all are below
-has_below : (n i : ℕ) (patches : List Patch) → AllByRecursion (λ d. d.place < n) patches → has_place patches i ≡ true → i < n
-has_below n i [] low has = absurd (both_ways false refl has)
-has_below n i (d ∷ ds) low has = elim (or_cases (nat_eq i d.place) (has_place ds i) has) [
-  | inl this ↦ omega (arith, eqb-true i d.place this, low.0)
-  | inr later ↦ has_below n i ds low.1 later
+-- a number that a patch has is that of a shape that lies there
+number_met : (shapes : Shapes) (columns : Extent) (n : ℕ) (patches : List Patch) → AllByRecursion (λ d. IsMet (shapes d.number) columns) patches
+    → has_number patches n ≡ true → IsMet (shapes n) columns
+number_met shapes columns n [] met has = absurd (both_ways false refl has)
+number_met shapes columns n (d ∷ ds) met has = elim (or_cases (nat_eq n d.number) (has_number ds n) has) [
+  | inl this ↦ subst (λ m. IsMet (shapes m) columns) (sym (eqb-true n d.number this)) met.0
+  | inr later ↦ number_met shapes columns n ds met.1 later
 ]
 
--- and where a patch is near it has a place
-near_has : (i : ℕ) (p : Pos) (patches : List Patch) → are_near patches i p ≡ true → has_place patches i ≡ true
-near_has i p [] near = near
-near_has i p (d ∷ ds) near = elim (or_cases (is_near i p d) (are_near ds i p) near) [
-  | inl this ↦ or_left (nat_eq i d.place) (has_place ds i) (and_parts (nat_eq i d.place) (is_within d.columns p) this).0
-  | inr later ↦ or_right (nat_eq i d.place) (has_place ds i) (near_has i p ds later)
+-- so it is that of a region
+region_met : (o : Option RegionData) (columns : Extent) → IsMet (option_map (λ r. r.shape) o) columns → IsSome o
+region_met None columns met = let none : None ≡ Some met.0 = met.1 in cc
+region_met (Some r) columns met = refl
+
+-- what passes a test passes a weaker one
+such_weaker : (f g : Patch → Bool) → ((d : Patch) → f d ≡ true → g d ≡ true) → (n : ℕ) (patches : List Patch) → has_such f patches n ≡ true
+    → has_such g patches n ≡ true
+such_weaker f g tells n [] has = has
+such_weaker f g tells n (d ∷ ds) has = elim (or_cases (is_such f n d) (has_such f ds n) has) [
+  | inl this ↦
+      let both = and_parts (f d) (nat_eq n d.number) this in
+      or_left (is_such g n d) (has_such g ds n) (and_from (g d) (nat_eq n d.number) (tells d both.0) both.1)
+  | inr later ↦ or_right (is_such g n d) (has_such g ds n) (such_weaker f g tells n ds later)
 ]
 
--- so the places of a chunk hold all regions that contain a position of it
-pub places_hold : (rs : Regions) (p : Pos) (chunk : Chunk) → IsChunk rs chunk → is_within chunk.columns p ≡ true → HoldCandidates rs p chunk.places.items
-places_hold rs p chunk is within = record {
-  ascending = is.places.ascending;
-  named = λ i there.
-      let low = has_below (length (shapes_of rs)) i chunk.patches.items is.patches.before (is.places.own i there) in
-      omega (arith, low, shape_count rs);
-  whole = λ i e item inside.
-      let shape = shape_at rs i e item in
-      is.places.whole i (near_has i p chunk.patches.items
-      (is.patches.told i e.1.shape p (slice_get_within (shapes_of rs) i e.1.shape shape) shape within inside));
+-- so the numbers of the patches of a chunk that have the position are those of all regions that contain it
+pub numbers_hold : (rs : Regions) (p : Pos) (chunk : Chunk) (test : Patch → Bool) (numbers : List ℕ) → IsForest rs → IsChunk rs chunk
+    → is_within chunk.columns p ≡ true → ((d : Patch) → is_within d.columns p ≡ true → test d ≡ true)
+    → AreNumbersOf test chunk.patches.items numbers → HoldCandidates rs p numbers
+numbers_hold rs p chunk test numbers forest is within tells of = record {
+  ascending = of.ascending;
+  named = λ n there.
+      region_met (region_at rs n) chunk.columns
+      (number_met (shape_at rs) chunk.columns n chunk.patches.items is.patches.met (of.own n there));
+  whole = λ n r there inside.
+      of.whole n (above_zero rs n r forest.numbered there)
+      (such_weaker (λ d. is_within d.columns p) test tells n chunk.patches.items
+      (is.patches.told n r.shape p (ap (option_map (λ (d : RegionData). d.shape)) there) within inside));
 }

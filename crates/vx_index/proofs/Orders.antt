@@ -1,39 +1,32 @@
--- Patches that are kept, moved and joined stay in order.
-use Rattle.std.proofs.Common.{◌≡◌, ℕ, zero, suc, ◌-◌, ◌<◌, ◌≤◌, Bool, true, false, cond, List, [], ◌∷◌, ◌++◌, map, filter, length, Some, refl, ap, arith}
-use Rattle.std.specs.List.{All, AllByRecursion, slice_get}
-use Rattle.std.proofs.lemmas.List.Elements.{All-from_recursion}
-use Rattle.std.proofs.lemmas.Option.{slice_get_within}
+-- Patches that are kept and joined stay in order.
+use Rattle.std.proofs.Common.{◌≡◌, ℕ, ◌≤◌, Bool, true, false, cond, List, [], ◌∷◌, ◌++◌, filter, refl, ap, ◌∙◌, arith}
+use Rattle.std.specs.List.{AllByRecursion}
 use Rattle.vx_index.specs.declared.patch.Patch.{Patch}
-use Rattle.vx_index.specs.Patches.{AreInOrder, moved_down}
+use Rattle.vx_index.specs.Patches.{AreInOrder}
 
--- an order from a later place on is one from an earlier place on
+-- an order from a later number on is one from an earlier number on
 pub order_lower : (a b : ℕ) (patches : List Patch) → a ≤ b → AreInOrder b patches → AreInOrder a patches
 order_lower a b [] low up = tt
 order_lower a b (d ∷ ds) low up = (omega (arith, low, up.0), up.1)
 
--- and one from any place that none is before
-pub order_raise : (a b : ℕ) (patches : List Patch) → AllByRecursion (λ patch. b ≤ patch.place) patches → AreInOrder a patches → AreInOrder b patches
+-- and one from any number that none is before
+pub order_raise : (a b : ℕ) (patches : List Patch) → AllByRecursion (λ patch. b ≤ patch.number) patches → AreInOrder a patches → AreInOrder b patches
 order_raise a b [] from up = tt
 order_raise a b (d ∷ ds) from up = (from.0, up.1)
 
 -- some of the patches stand in order
 pub order_filter : (f : Patch → Bool) (n : ℕ) (patches : List Patch) → AreInOrder n patches → AreInOrder n (filter f patches)
 order_filter f n [] up = tt
-order_filter f n (d ∷ ds) up = by (f d) (order_filter f d.place ds up.1)
+order_filter f n (d ∷ ds) up = by (f d) (order_filter f d.number ds up.1)
   where
-    by : (b : Bool) → AreInOrder d.place (filter f ds) → AreInOrder n (cond b (d ∷ filter f ds) (filter f ds))
+    by : (b : Bool) → AreInOrder d.number (filter f ds) → AreInOrder n (cond b (d ∷ filter f ds) (filter f ds))
     by true rest = (up.0, rest)
-    by false rest = order_lower n d.place (filter f ds) up.0 rest
+    by false rest = order_lower n d.number (filter f ds) up.0 rest
 
--- patches behind those that are at no later place
-pub order_join : (n p : ℕ) (xs ys : List Patch) → n ≤ p → AreInOrder n xs → AllByRecursion (λ patch. patch.place ≤ p) xs → AreInOrder p ys → AreInOrder n (xs ++ ys)
+-- patches behind those that are at no later number
+pub order_join : (n p : ℕ) (xs ys : List Patch) → n ≤ p → AreInOrder n xs → AllByRecursion (λ patch. patch.number ≤ p) xs → AreInOrder p ys → AreInOrder n (xs ++ ys)
 order_join n p [] ys low up most behind = order_lower n p ys low behind
-order_join n p (d ∷ ds) ys low up most behind = (up.0, order_join d.place p ds ys most.0 up.1 most.1 behind)
-
--- all moved down by a place
-pub order_moved : (n : ℕ) (patches : List Patch) → AreInOrder n patches → AreInOrder (n - 1) (map moved_down patches)
-order_moved n [] up = tt
-order_moved n (d ∷ ds) up = (omega (arith, up.0), order_moved d.place ds up.1)
+order_join n p (d ∷ ds) ys low up most behind = (up.0, order_join d.number p ds ys most.0 up.1 most.1 behind)
 
 -- what holds of all patches tells of those that are kept
 pub all_kept : (f : Patch → Bool) (P Q : Patch → Type 0) → ((d : Patch) → f d ≡ true → P d → Q d) → (patches : List Patch)
@@ -50,31 +43,11 @@ pub all_weaker : (P Q : Patch → Type 0) → ((d : Patch) → P d → Q d) → 
 all_weaker P Q tells [] all = tt
 all_weaker P Q tells (d ∷ ds) all = (tells d all.0, all_weaker P Q tells ds all.1)
 
--- the last of the patches is of no earlier place than any
-pub last_most : (n : ℕ) (patches : List Patch) (i : ℕ) (last : Patch) → AreInOrder n patches → suc i ≡ length patches → slice_get patches i ≡ Some last
-    → AllByRecursion (λ d. d.place ≤ last.place) patches
-last_most n [] i last up count at = tt
-last_most n (d ∷ []) zero last up count at = let same : d ≡ last = cc in (omega (arith, ap (λ (x : Patch). x.place) same), tt)
-last_most n (d ∷ []) (suc i) last up count at = absurd (omega (arith, count))
-last_most n (d ∷ (e ∷ es)) zero last up count at = absurd (omega (arith, count))
-last_most n (d ∷ (e ∷ es)) (suc i) last up count at =
-    let rest = last_most d.place (e ∷ es) i last up.1 (omega (arith, count)) at in
-    (omega (arith, up.1.0, rest.0), rest)
+-- where all pass a test all are kept, and where none does none
+pub kept_all : (f : Patch → Bool) (patches : List Patch) → AllByRecursion (λ d. f d ≡ true) patches → filter f patches ≡ patches
+kept_all f [] all = refl
+kept_all f (d ∷ ds) all = ap (λ b. cond b (d ∷ filter f ds) (filter f ds)) all.0 ∙ ap (λ es. d ∷ es) (kept_all f ds all.1)
 
--- so all stand before the place behind that of the last
-pub ends_before : (patches : List Patch) (last : Patch) (end : ℕ) → AreInOrder 0 patches → slice_get patches (length patches - 1) ≡ Some last → last.place < end
-    → All (λ d. d.place < end) patches
-ends_before patches last end up at past = All-from_recursion (λ (d : Patch). d.place < end) patches
-    (all_weaker (λ d. d.place ≤ last.place) (λ d. d.place < end) (λ d low. omega (arith, low, past)) patches
-    (last_most 0 patches (length patches - 1) last up (omega (arith, slice_get_within patches (length patches - 1) last at)) at))
-
--- and of those that are moved down
-pub all_moved : (P Q : Patch → Type 0) → ((d : Patch) → P d → Q (moved_down d)) → (patches : List Patch) → AllByRecursion P patches
-    → AllByRecursion Q (map moved_down patches)
-all_moved P Q tells [] all = tt
-all_moved P Q tells (d ∷ ds) all = (tells d all.0, all_moved P Q tells ds all.1)
-
--- of every patch something holds that always does
-pub all_always : (P : Patch → Type 0) → ((d : Patch) → P d) → (patches : List Patch) → AllByRecursion P patches
-all_always P holds [] = tt
-all_always P holds (d ∷ ds) = (holds d, all_always P holds ds)
+pub kept_none : (f : Patch → Bool) (patches : List Patch) → AllByRecursion (λ d. f d ≡ false) patches → filter f patches ≡ []
+kept_none f [] none = refl
+kept_none f (d ∷ ds) none = ap (λ b. cond b (d ∷ filter f ds) (filter f ds)) none.0 ∙ kept_none f ds none.1

@@ -1,21 +1,20 @@
 -- What a chunk tells of the regions, and what a cache keeps.
-use Rattle.std.specs.Prelude.{length, List}
-use Rattle.vx_geom.specs.Outline.{Outline}
+use Rattle.std.specs.Prelude.{true}
 use Rattle.vx_region.specs.Regions.{Regions}
 use Rattle.vx_index.specs.declared.cache.Cache.{Cache}
 use Rattle.vx_index.specs.declared.chunk.Chunk.{Chunk}
-use Rattle.vx_index.specs.Patches.{AreOf, ArePlacesOf}
-use Rattle.vx_index.specs.Shapes.{shapes_of}
+use Rattle.vx_index.specs.Patches.{AreOf, AreNumbersOf}
+use Rattle.vx_index.specs.Shapes.{Shapes, shape_at}
 use Rattle.vx_index.specs.Verdicts.{AreVerdicts}
 
 -- the chunk tells of all these shapes where they lie in its columns, and of no others
-pub record TellsOf (shapes : List Outline) (chunk : Chunk) : Type 0 where
-  pub patches : AreOf shapes chunk.columns (length shapes) chunk.patches.items
-  pub places : ArePlacesOf chunk.patches.items chunk.places.items
+pub record TellsOf (shapes : Shapes) (chunk : Chunk) : Type 0 where
+  pub patches : AreOf shapes chunk.columns chunk.patches.items
+  pub numbers : AreNumbersOf (λ d. true) chunk.patches.items chunk.numbers.items
 
 -- the chunk tells of all the regions where they lie in its columns, and of no others
 abbrev pub IsChunk : Regions → Chunk → Type 0
-IsChunk rs = TellsOf (shapes_of rs)
+IsChunk rs = TellsOf (shape_at rs)
 
 -- the verdicts that a cache keeps are those by these regions
 pub record IsCacheOf (rs : Regions) (cache : Cache) : Type 0 where

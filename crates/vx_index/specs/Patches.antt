@@ -1,11 +1,12 @@
 -- The regions of a chunk, kept as patches of columns.
-use Rattle.std.specs.Prelude.{◌≡◌, ℕ, pos, ◌+◌, ◌-◌, ◌^◌, ◌<◌, ◌≤◌, Bool, true, false, ◌&&◌, nat_eq, slice_get, List, [], ◌∷◌, ◌++◌, Contains, Option, Some, None}
+use Rattle.std.specs.Prelude.{◌≡◌, ℕ, pos, ◌+◌, ◌<◌, ◌≤◌, Bool, true, false, ◌&&◌, nat_eq, List, [], ◌∷◌, ◌++◌, Contains, Option, Some, None}
 use Rattle.std.specs.List.{list_any, AllByRecursion}
 use Rattle.std.specs.List.Sorted.{IsStrictlyIncreasing}
 use Rattle.vx_geom.specs.declared.extent.Extent.{Extent}
 use Rattle.vx_geom.specs.declared.pos.Pos.{Pos}
 use Rattle.vx_geom.specs.Extent.{is_within, extent_of, meets}
 use Rattle.vx_geom.specs.Outline.{Outline, is_in, has_column}
+use Rattle.vx_index.specs.Shapes.{Shapes}
 use Rattle.vx_index.specs.declared.patch.Patch.{Patch}
 
 -- 16 by 16 columns, from this one to the east and to the south
@@ -36,56 +37,60 @@ abbrev pub HoldsRow : Outline → Extent → Option Extent → Type 0
 HoldsRow shape columns row = (p : Pos) → is_within columns p ≡ true
     → has_column shape p.x p.z ≡ true → is_in_row row p ≡ true
 
--- the patch is of the region at that place, and has the column of the position
-abbrev pub is_near : ℕ → Pos → Patch → Bool
-is_near i p patch = nat_eq i patch.place && is_within patch.columns p
+-- some patch of the region of that number passes the test
+abbrev pub has_such : (Patch → Bool) → List Patch → ℕ → Bool
+has_such test patches n = list_any (λ d. test d && nat_eq n d.number) patches
 
--- some patch is
+-- some patch of that number has the column of the position
 abbrev pub are_near : List Patch → ℕ → Pos → Bool
-are_near patches i p = list_any (is_near i p) patches
+are_near patches n p = has_such (λ d. is_within d.columns p) patches n
 
--- patches stand in the order of their regions, the first of which is at the place i or after it
+-- some patch is of that number
+abbrev pub has_number : List Patch → ℕ → Bool
+has_number patches n = has_such (λ d. true) patches n
+
+-- patches stand in the order of their regions, the first of which has the number n or a later one
 abbrev pub AreInOrder : ℕ → List Patch → Type 0
-AreInOrder i [] = Unit {0}
-AreInOrder i (patch ∷ rest) = (i ≤ patch.place) × AreInOrder patch.place rest
+AreInOrder n [] = Unit {0}
+AreInOrder n (patch ∷ rest) = (n ≤ patch.number) × AreInOrder patch.number rest
 
--- some patch is of the region at that place
-abbrev pub has_place : List Patch → ℕ → Bool
-has_place patches i = list_any (λ patch. nat_eq i patch.place) patches
+-- the numbers of these patches, each once and in order: those from 1 on of all that pass the test,
+-- and perhaps others
+pub record AreNumbersOf (test : Patch → Bool) (patches : List Patch) (numbers : List ℕ) : Type 0 where
+  pub ascending : IsStrictlyIncreasing numbers
+  pub whole : (n : ℕ) → 0 < n → has_such test patches n ≡ true → Contains numbers n
+  pub own : (n : ℕ) → Contains numbers n → has_number patches n ≡ true
 
--- the places of the regions that these patches are of, each once and in order
-pub record ArePlacesOf (patches : List Patch) (places : List ℕ) : Type 0 where
-  pub ascending : IsStrictlyIncreasing places
-  pub whole : (i : ℕ) → has_place patches i ≡ true → Contains places i
-  pub own : (i : ℕ) → Contains places i → has_place patches i ≡ true
+-- where a shape contains a position of these columns, a patch of it is near
+abbrev pub AreTold : Shapes → Extent → List Patch → Type 0
+AreTold shapes columns patches = (n : ℕ) (o : Outline) (p : Pos) → shapes n ≡ Some o
+    → is_within columns p ≡ true → is_in o p ≡ true → are_near patches n p ≡ true
 
--- where a shape before the place i contains a position of these columns, a patch of it is near
-abbrev pub AreTold : List Outline → Extent → ℕ → List Patch → Type 0
-AreTold shapes columns i patches = (j : ℕ) (o : Outline) (p : Pos) → j < i → slice_get shapes j ≡ Some o
-    → is_within columns p ≡ true → is_in o p ≡ true → are_near patches j p ≡ true
+-- it is a shape that lies in columns that meet these
+abbrev pub IsMet : Option Outline → Extent → Type 0
+IsMet shape columns = (o : Outline) × (shape ≡ Some o) × (meets (extent_of o) columns ≡ true)
 
--- the shape at that place lies in columns that meet these
-abbrev pub IsMet : List Outline → Extent → ℕ → Type 0
-IsMet shapes columns j = (o : Outline) → slice_get shapes j ≡ Some o → meets (extent_of o) columns ≡ true
-
--- the shapes before the place i, as they lie in these columns and no others, where a place is a
--- number of 32 bits
-pub record AreOf (shapes : List Outline) (columns : Extent) (i : ℕ) (patches : List Patch) : Type 0 where
-  pub few : i < 2 ^ 32
+-- all these shapes, as they lie in these columns, and no others
+pub record AreOf (shapes : Shapes) (columns : Extent) (patches : List Patch) : Type 0 where
   pub ordered : AreInOrder 0 patches
-  pub before : AllByRecursion (λ patch. patch.place < i) patches
-  pub told : AreTold shapes columns i patches
-  pub met : AllByRecursion (λ patch. IsMet shapes columns patch.place) patches
+  pub told : AreTold shapes columns patches
+  pub met : AllByRecursion (λ patch. IsMet (shapes patch.number) columns) patches
 
--- patches of the region at that place were added, so that one is near wherever the shape contains a
--- position of these columns
-pub record Adds (place : ℕ) (shape : Outline) (columns : Extent) (old new : List Patch) : Type 0 where
+-- patches of that number were added, so that one is near wherever the shape contains a position of
+-- these columns
+pub record Adds (number : ℕ) (shape : Outline) (columns : Extent) (old new : List Patch) : Type 0 where
   pub added : List Patch
   pub after : new ≡ old ++ added
-  pub own : AllByRecursion (λ patch. patch.place ≡ place) added
+  pub own : AllByRecursion (λ patch. patch.number ≡ number) added
   pub whole : (p : Pos) → is_within columns p ≡ true → is_in shape p ≡ true
-      → are_near added place p ≡ true
+      → are_near added number p ≡ true
 
--- the patch of the place before
-abbrev pub moved_down : Patch → Patch
-moved_down patch = record { place = patch.place - 1; columns = patch.columns }
+-- patches of that number were added for a shape where there is one, and none where it lies in no
+-- columns that meet these
+pub record AddsAny (number : ℕ) (shape : Option Outline) (columns : Extent) (old new : List Patch) : Type 0 where
+  pub added : List Patch
+  pub after : new ≡ old ++ added
+  pub own : AllByRecursion (λ patch. patch.number ≡ number) added
+  pub whole : (o : Outline) (p : Pos) → shape ≡ Some o → is_within columns p ≡ true
+      → is_in o p ≡ true → are_near added number p ≡ true
+  pub met : AllByRecursion (λ patch. IsMet shape columns) added

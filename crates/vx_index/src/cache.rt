@@ -6,7 +6,7 @@ ghost use Rattle.vx_decide.specs.Unset.{IsUnset};
 ghost use Rattle.vx_decide.specs.Verdict.{verdict};
 ghost use Rattle.vx_index.specs.Chunks.{IsCacheOf};
 ghost use Rattle.vx_index.specs.Lands.{IsLandOf};
-ghost use Rattle.vx_index.specs.Shapes.{shapes_of};
+ghost use Rattle.vx_index.specs.Shapes.{shape_at};
 
 use crate::asked::Asked;
 use crate::kept::Kept;
@@ -59,7 +59,7 @@ impl Cache {
         p: Pos,
     ) -> Verdict
         requires kept { IsCacheOf regions.now self.old }
-        requires land { IsLandOf (shapes_of regions.now) land.now }
+        requires land { IsLandOf (shape_at regions.now) land.now }
         requires unset { All (IsUnset regions.now) unset.now }
         ensures verdict { result ≡ verdict regions.now (Named name.now.text.bytes) action p }
         ensures kept { IsCacheOf regions.now self.new }

@@ -1,25 +1,22 @@
-ghost use Rattle.std.specs.Prelude.{◌≡◌, ◌+◌, ◌^◌, ◌<◌, ◌≤◌, [], ◌++◌, true, nat_lt, length, filter, map, remove, unsigned_abs, List, IfOk, IfSome, OnOk};
+ghost use Rattle.std.specs.Prelude.{◌≡◌, ◌≤◌, [], ◌++◌, true, nat_lt, filter, option_copied, unsigned_abs, IfOk, IfSome, OnOk};
 ghost use Rattle.std.specs.List.{All};
 ghost use Rattle.vx_geom.specs.Extent.{is_within};
-ghost use Rattle.vx_geom.specs.Outline.{Outline};
 ghost use Rattle.vx_region.specs.Subjects.{actor_of};
-ghost use Rattle.vx_decide.specs.Candidates.{HoldCandidates};
 ghost use Rattle.vx_decide.specs.Unset.{IsUnset};
 ghost use Rattle.vx_decide.specs.Verdict.{verdict};
 ghost use Rattle.vx_index.specs.Chunks.{IsChunk, TellsOf};
-ghost use Rattle.vx_index.specs.Patches.{AreInOrder, AreOf, ArePlacesOf, square, moved_down};
-ghost use Rattle.vx_index.specs.Plots.{EndsBefore};
-ghost use Rattle.vx_index.specs.Shapes.{shapes_of, with_at};
+ghost use Rattle.vx_index.specs.Patches.{AreInOrder, AreNumbersOf, AreOf, square};
+ghost use Rattle.vx_index.specs.Shapes.{Shapes, renewed_at, shape_at};
 ghost use Rattle.vx_index.specs.Squares.{IsSquare};
 
 use crate::patch::Patch;
-use crate::patches::{add_patches, square};
+use crate::patches::{add_any, add_patches, square};
 use arrayvec::ArrayVec;
 use std::alloc::{AllocError, Global};
 use vx_decide::{Verdict, decide_among};
 use vx_flag::{Action, Flag};
 use vx_geom::{Extent, Pos, Shape};
-use vx_region::{RegionSet, Subject};
+use vx_region::{RegionNo, RegionSet, Subject};
 
 /// So many regions near a place are gathered before they are asked; where there are more, all
 /// regions of the chunk are asked.
@@ -34,7 +31,7 @@ pub(crate) struct Chunk {
     columns: Extent,
     patches: Vec<Patch>,
     // Those of all regions of the chunk, each once and in order.
-    places: Vec<u32>,
+    numbers: Vec<u32>,
 }
 
 impl Chunk {
@@ -51,25 +48,26 @@ impl Chunk {
         ensures of { IfOk result (IsChunk regions.now) }
         ensures columns { IfOk result (λ chunk. chunk.columns ≡ square west north) }
     {
+        regions.soundness();
         let mut patches = Vec::new(alloc);
         for place in 0..regions.count() {
-            let (_, region) = regions.nth(place);
-            add_patches(&mut patches, place, region.shape(), west, north)?;
+            let (number, region) = regions.nth(place);
+            add_patches(&mut patches, number.0, region.shape(), west, north)?;
         }
         Chunk::made(alloc, square(west, north), patches)
     }
 
     // The chunk of these columns in which these patches lie.
     fn made(alloc: Global, columns: Extent, patches: Vec<Patch>) -> Result<Chunk, AllocError>
-        ensures of { (shapes : List Outline) → AreOf shapes columns (length shapes) patches.items
+        ensures of { (shapes : Shapes) → AreOf shapes columns patches.items
             → IfOk result (TellsOf shapes) }
         ensures columns { IfOk result (λ chunk. chunk.columns ≡ columns) }
     {
-        let places = places_of(alloc, &patches)?;
+        let numbers = numbers_of(alloc, &patches)?;
         Ok(Chunk {
             columns,
             patches,
-            places,
+            numbers,
         })
     }
 
@@ -97,10 +95,11 @@ impl Chunk {
         ensures { result ≡ verdict regions.now (actor_of subject.now) action p }
     {
         let mut here: ArrayVec<u32, MAX_HERE> = ArrayVec::new();
-        if self.gather(&mut here, regions, p) {
-            return decide_among(regions, &here, unset, subject, action, p);
+        if let Some(verdict) = self.decide_near(&mut here, regions, unset, subject, action, p) {
+            return verdict;
         }
-        decide_among(regions, &self.places, unset, subject, action, p)
+        regions.soundness();
+        decide_among(regions, &self.numbers, unset, subject, action, p)
     }
 
     /// The verdict of these regions where few of them are near the place; `None` where more are.
@@ -119,33 +118,49 @@ impl Chunk {
             (λ answer. answer ≡ verdict regions.now (actor_of subject.now) action p) }
     {
         let mut here: ArrayVec<u32, FEW> = ArrayVec::new();
-        if !self.gather(&mut here, regions, p) {
-            return None;
-        }
-        Some(decide_among(regions, &here, unset, subject, action, p))
+        self.decide_near(&mut here, regions, unset, subject, action, p)
     }
 
-    // Adds the places of the regions that may contain a position of the chunk, in order. It stops
-    // and answers false where there is no room for all.
-    fn gather<const ROOM: usize>(
+    // The verdict of these regions, asked of those near the place, which are gathered first; `None`
+    // where there is no room for all of those.
+    fn decide_near<const ROOM: usize>(
         &self,
         here: &mut ArrayVec<u32, ROOM>,
         regions: &RegionSet,
+        unset: &[Flag],
+        subject: &Subject,
+        action: Action,
         p: Pos,
-    ) -> bool
+    ) -> Option<Verdict>
         requires of { IsChunk regions.now self.now }
         requires within { is_within self.now.columns p ≡ true }
         requires empty { here.old.items ≡ [] }
-        ensures { result ≡ true → HoldCandidates regions.now p here.new.items }
+        requires unset { All (IsUnset regions.now) unset.now }
+        ensures { IfSome result
+            (λ answer. answer ≡ verdict regions.now (actor_of subject.now) action p) }
     {
-        let _ = regions;
-        let mut next: u32 = 0;
+        if !self.gather(here, p) {
+            return None;
+        }
+        regions.soundness();
+        Some(decide_among(regions, here, unset, subject, action, p))
+    }
+
+    // Adds the numbers of the regions that may contain a position, in order. It stops and answers
+    // false where there is no room for all.
+    fn gather<const ROOM: usize>(&self, here: &mut ArrayVec<u32, ROOM>, p: Pos) -> bool
+        requires ordered { AreInOrder 0 self.now.patches.items }
+        requires empty { here.old.items ≡ [] }
+        ensures { result ≡ true
+            → AreNumbersOf (λ d. is_within d.columns p) self.now.patches.items here.new.items }
+    {
+        let mut last = 0;
         for patch in &self.patches {
-            if next <= patch.place && patch.columns.holds(p) {
-                let Ok(()) = here.try_push(patch.place) else {
+            if last < patch.number && patch.columns.holds(p) {
+                let Ok(()) = here.try_push(patch.number) else {
                     return false;
                 };
-                next = patch.place + 1;
+                last = patch.number;
             }
         }
         true
@@ -158,57 +173,25 @@ impl Chunk {
         &self.columns
     }
 
-    /// A place that all regions stand before that lie in the chunk: the next behind the last of
-    /// them, 0 where there is none. It looks at the last patch alone.
-    pub(crate) fn end(&self) -> u64
-        requires { AreInOrder 0 self.now.patches.items }
-        ensures { EndsBefore result self.now }
-    {
-        match self.patches.last() {
-            Some(patch) => behind(patch.place),
-            None => 0,
-        }
-    }
-
-    /// The chunk of the same columns, where that shape stands at a place of the regions or behind
-    /// all of them.
-    pub(crate) fn put(
+    /// The chunk of the same columns, where the region of that number has this shape, or is gone.
+    pub(crate) fn renewed(
         &self,
         alloc: Global,
         regions: &RegionSet,
-        place: u32,
-        shape: &Shape,
+        number: RegionNo,
+        shape: Option<&Shape>,
     ) -> Result<Chunk, AllocError>
         requires of { IsChunk regions.now self.now }
         requires square { IsSquare self.now.columns }
-        requires within { place ≤ length (shapes_of regions.now) }
-        requires few { length (with_at (shapes_of regions.now) place shape.now) < 2 ^ 32 }
-        ensures of { IfOk result (TellsOf (with_at (shapes_of regions.now) place shape.now)) }
+        ensures of { IfOk result (TellsOf
+            (renewed_at (shape_at regions.now) number.0 (option_copied shape.entry))) }
         ensures columns { IfOk result (λ chunk. chunk.columns ≡ self.now.columns) }
     {
         let _ = regions;
         let (west, north) = self.corner();
-        let mut patches = self.before(alloc, place)?;
-        add_patches(&mut patches, place, shape, west, north)?;
-        self.add_behind(&mut patches, place)?;
-        Chunk::made(alloc, self.columns, patches)
-    }
-
-    /// The chunk of the same columns without the region at that place. Those behind it move down.
-    pub(crate) fn without(
-        &self,
-        alloc: Global,
-        regions: &RegionSet,
-        place: u32,
-    ) -> Result<Chunk, AllocError>
-        requires of { IsChunk regions.now self.now }
-        requires within { place < length (shapes_of regions.now) }
-        ensures of { IfOk result (TellsOf (remove (shapes_of regions.now) place)) }
-        ensures columns { IfOk result (λ chunk. chunk.columns ≡ self.now.columns) }
-    {
-        let _ = regions;
-        let mut patches = self.before(alloc, place)?;
-        self.add_moved(&mut patches, place)?;
+        let mut patches = self.before(alloc, number.0)?;
+        add_any(&mut patches, number.0, shape, west, north)?;
+        self.add_behind(&mut patches, number.0)?;
         Chunk::made(alloc, self.columns, patches)
     }
 
@@ -224,67 +207,44 @@ impl Chunk {
         )
     }
 
-    // The patches of the regions before that place.
-    fn before(&self, alloc: Global, place: u32) -> Result<Vec<Patch>, AllocError>
+    // The patches of the regions before that number.
+    fn before(&self, alloc: Global, number: u32) -> Result<Vec<Patch>, AllocError>
         ensures { IfOk result (λ patches. patches.items
-            ≡ filter (λ d. nat_lt d.place place) self.now.patches.items) }
+            ≡ filter (λ d. nat_lt d.number number) self.now.patches.items) }
     {
         self.patches
             .iter()
             .copied()
-            .filter(|patch| patch.place < place)
+            .filter(|patch| patch.number < number)
             .collect(alloc)
     }
 
-    // Adds the patches of the regions behind that place.
-    fn add_behind(&self, patches: &mut Vec<Patch>, place: u32) -> Result<(), AllocError>
+    // Adds the patches of the regions behind that number.
+    fn add_behind(&self, patches: &mut Vec<Patch>, number: u32) -> Result<(), AllocError>
         ensures { OnOk result (patches.new.items
-            ≡ patches.old.items ++ filter (λ d. nat_lt place d.place) self.now.patches.items) }
+            ≡ patches.old.items ++ filter (λ d. nat_lt number d.number) self.now.patches.items) }
     {
         for patch in &self.patches {
-            if place < patch.place {
+            if number < patch.number {
                 patches.push(*patch)?;
             }
         }
         Ok(())
     }
-
-    // Adds the patches of the regions behind that place, each for the place before its own.
-    fn add_moved(&self, patches: &mut Vec<Patch>, place: u32) -> Result<(), AllocError>
-        ensures { OnOk result (patches.new.items ≡ patches.old.items
-            ++ map moved_down (filter (λ d. nat_lt place d.place) self.now.patches.items)) }
-    {
-        for patch in &self.patches {
-            if place < patch.place {
-                patches.push(Patch {
-                    place: patch.place - 1,
-                    columns: patch.columns,
-                })?;
-            }
-        }
-        Ok(())
-    }
 }
 
-// The places of the regions that these patches are of, each once and in order.
-fn places_of(alloc: Global, patches: &[Patch]) -> Result<Vec<u32>, AllocError>
-    ensures { IfOk result (λ places. AreInOrder 0 patches.now
-        → ArePlacesOf patches.now places.items) }
+// The numbers of the regions that these patches are of, each once and in order.
+fn numbers_of(alloc: Global, patches: &[Patch]) -> Result<Vec<u32>, AllocError>
+    ensures { IfOk result (λ numbers. AreInOrder 0 patches.now
+        → AreNumbersOf (λ d. true) patches.now numbers.items) }
 {
-    let mut places = Vec::new(alloc);
-    let mut next: u64 = 0;
+    let mut numbers = Vec::new(alloc);
+    let mut last = 0;
     for patch in patches {
-        if next <= u64::from(patch.place) {
-            places.push(patch.place)?;
-            next = behind(patch.place);
+        if last < patch.number {
+            numbers.push(patch.number)?;
+            last = patch.number;
         }
     }
-    Ok(places)
-}
-
-// The place behind that one.
-fn behind(place: u32) -> u64
-    ensures { result ≡ place + 1 }
-{
-    u64::from(place) + 1
+    Ok(numbers)
 }

@@ -1,10 +1,10 @@
-ghost use Rattle.std.specs.Prelude.{◌≡◌, ◌+◌, ◌^◌, ◌<◌, ◌≤◌, ◌++◌, ◌∷◌, [], true, length, remove, slice_set, Contains, IfOk, IfSome};
+ghost use Rattle.std.specs.Prelude.{◌≡◌, true, option_copied, Contains, IfOk, IfSome};
 ghost use Rattle.std.specs.List.{All};
 ghost use Rattle.vx_geom.specs.Extent.{is_within};
 ghost use Rattle.vx_decide.specs.Unset.{IsUnset};
 ghost use Rattle.vx_decide.specs.Verdict.{verdict};
 ghost use Rattle.vx_index.specs.Lands.{IsLandOf, joined};
-ghost use Rattle.vx_index.specs.Shapes.{shapes_of, with_at};
+ghost use Rattle.vx_index.specs.Shapes.{renewed_at, shape_at, with_at, without_at};
 ghost use Rattle.vx_region.specs.Subjects.{actor_of};
 
 use crate::chunk::Chunk;
@@ -17,7 +17,7 @@ use std::sync::Arc;
 use vx_decide::{Decide, Plain, Verdict};
 use vx_flag::{Action, Flag};
 use vx_geom::{Pos, Shape};
-use vx_region::{RegionSet, Subject};
+use vx_region::{RegionNo, RegionSet, Subject};
 
 /// Where regions lie in the widest world, chunk by chunk. It depends on their shapes alone. Copies
 /// share it, and a land that differs by one region shares the rows and the chunks that tell the
@@ -48,7 +48,7 @@ impl Drop for Land {
 impl Land {
     /// The land of these regions. It costs a look at each region for each chunk.
     pub fn of(alloc: Global, regions: &RegionSet) -> Result<Land, AllocError>
-        ensures { IfOk result (IsLandOf (shapes_of regions.now)) }
+        ensures { IfOk result (IsLandOf (shape_at regions.now)) }
     {
         let mut rows = Vec::with_capacity(alloc, ACROSS as usize)?;
         for row in 0..ACROSS {
@@ -75,75 +75,52 @@ impl Land {
         })
     }
 
-    /// The land of these regions and of one with this shape behind them. This one stays as it is.
-    /// Only the chunks in which the shape lies, and their rows, take memory of their own.
-    pub fn with(
+    /// The land of these regions where the one of that number, which may be new, has this shape.
+    /// This one stays as it is. Only the chunks in which the shape or the one before it lies, and
+    /// their rows, take memory of their own.
+    pub fn put(
         &self,
         alloc: Global,
         regions: &RegionSet,
+        number: RegionNo,
         shape: &Shape,
     ) -> Result<Land, AllocError>
-        requires of { IsLandOf (shapes_of regions.now) self.now }
-        requires room { length regions.now.entries + 1 < 2 ^ 32 }
-        ensures { IfOk result (IsLandOf (shapes_of regions.now ++ shape.now ∷ [])) }
+        requires { IsLandOf (shape_at regions.now) self.now }
+        ensures { IfOk result (IsLandOf (with_at (shape_at regions.now) number.0 shape.now)) }
     {
-        self.put(alloc, regions, regions.count(), shape)
+        self.renewed(alloc, regions, number, Some(shape))
     }
 
-    /// The land of these regions where the one at that place has another shape. This one stays as
-    /// it is. Only the chunks in which one of the two shapes lies, and their rows, take memory of
-    /// their own.
-    pub fn with_shape(
-        &self,
-        alloc: Global,
-        regions: &RegionSet,
-        place: u32,
-        shape: &Shape,
-    ) -> Result<Land, AllocError>
-        requires of { IsLandOf (shapes_of regions.now) self.now }
-        requires within { place < length regions.now.entries }
-        ensures { IfOk result (IsLandOf (slice_set (shapes_of regions.now) place shape.now)) }
-    {
-        prove!(place < regions.count());
-        self.put(alloc, regions, place, shape)
-    }
-
-    // The land of these regions where that shape stands at a place or behind all.
-    fn put(
-        &self,
-        alloc: Global,
-        regions: &RegionSet,
-        place: u32,
-        shape: &Shape,
-    ) -> Result<Land, AllocError>
-        requires of { IsLandOf (shapes_of regions.now) self.now }
-        requires within { place ≤ length (shapes_of regions.now) }
-        requires few { length (with_at (shapes_of regions.now) place shape.now) < 2 ^ 32 }
-        ensures { IfOk result (IsLandOf (with_at (shapes_of regions.now) place shape.now)) }
-    {
-        let touched = Touched::of(regions, place, shape);
-        let mut rows = Vec::with_capacity(alloc, self.rows.len())?;
-        for index in 0..self.rows.len() {
-            rows.push(self.rows[index].put(alloc, regions, place, shape, &touched)?)?;
-        }
-        Land::made(alloc, rows)
-    }
-
-    /// The land of these regions without the one at that place. This one stays as it is. Only the
-    /// chunks in which that region or one behind it lies, and their rows, take memory of their own.
+    /// The land of these regions without the one of that number. This one stays as it is. Only the
+    /// chunks in which that region lies, and their rows, take memory of their own.
     pub fn without(
         &self,
         alloc: Global,
         regions: &RegionSet,
-        place: u32,
+        number: RegionNo,
     ) -> Result<Land, AllocError>
-        requires of { IsLandOf (shapes_of regions.now) self.now }
-        requires within { place < length regions.now.entries }
-        ensures { IfOk result (IsLandOf (remove (shapes_of regions.now) place)) }
+        requires { IsLandOf (shape_at regions.now) self.now }
+        ensures { IfOk result (IsLandOf (without_at (shape_at regions.now) number.0)) }
     {
+        self.renewed(alloc, regions, number, None)
+    }
+
+    // The land of these regions where the one of that number has this shape, or is gone.
+    fn renewed(
+        &self,
+        alloc: Global,
+        regions: &RegionSet,
+        number: RegionNo,
+        shape: Option<&Shape>,
+    ) -> Result<Land, AllocError>
+        requires { IsLandOf (shape_at regions.now) self.now }
+        ensures { IfOk result (IsLandOf
+            (renewed_at (shape_at regions.now) number.0 (option_copied shape.entry))) }
+    {
+        let touched = Touched::of(regions, number, shape);
         let mut rows = Vec::with_capacity(alloc, self.rows.len())?;
         for index in 0..self.rows.len() {
-            rows.push(self.rows[index].without(alloc, regions, place)?)?;
+            rows.push(self.rows[index].renewed(alloc, regions, number, shape, &touched)?)?;
         }
         Land::made(alloc, rows)
     }
@@ -159,7 +136,7 @@ impl Land {
         action: Action,
         p: Pos,
     ) -> Verdict
-        requires land { IsLandOf (shapes_of regions.now) self.now }
+        requires land { IsLandOf (shape_at regions.now) self.now }
         requires unset { All (IsUnset regions.now) unset.now }
         ensures { result ≡ verdict regions.now (actor_of subject.now) action p }
     {
@@ -179,7 +156,7 @@ impl Land {
         action: Action,
         p: Pos,
     ) -> Option<Verdict>
-        requires land { IsLandOf (shapes_of regions.now) self.now }
+        requires land { IsLandOf (shape_at regions.now) self.now }
         requires unset { All (IsUnset regions.now) unset.now }
         ensures { IfSome result
             (λ answer. answer ≡ verdict regions.now (actor_of subject.now) action p) }

@@ -1,8 +1,8 @@
 //! The patches of a region in a chunk: all columns of a cuboid, and for each row those of a polygon from the first to the last.
-ghost use Rattle.std.specs.Prelude.{◌≡◌, ◌+◌, ◌-◌, ◌<◌, ◌≤◌, ℕ, pos, true, false, MatchOption, OnOk};
+ghost use Rattle.std.specs.Prelude.{◌≡◌, ◌+◌, ◌-◌, ◌<◌, ◌≤◌, ℕ, pos, true, false, option_copied, MatchOption, OnOk};
 ghost use Rattle.vx_geom.specs.Extent.{extent_of, meets};
 ghost use Rattle.vx_geom.specs.Outline.{has_column};
-ghost use Rattle.vx_index.specs.Patches.{square, row_of_square, HoldsRow, Adds};
+ghost use Rattle.vx_index.specs.Patches.{square, row_of_square, HoldsRow, Adds, AddsAny};
 
 use crate::patch::Patch;
 use std::alloc::AllocError;
@@ -25,11 +25,30 @@ pub(crate) fn square(west: u32, north: u32) -> Extent
     }
 }
 
+/// Adds the patches of a shape, if there is one, in the chunk that begins at `west` and `north`.
+pub(crate) fn add_any(
+    patches: &mut Vec<Patch>,
+    number: u32,
+    shape: Option<&Shape>,
+    west: u32,
+    north: u32,
+) -> Result<(), AllocError>
+    requires west { west ≤ 256 }
+    requires north { north ≤ 256 }
+    ensures { OnOk result (AddsAny number (option_copied shape.entry) (square west north)
+        patches.old.items patches.new.items) }
+{
+    let Some(shape) = shape else {
+        return Ok(());
+    };
+    add_patches(patches, number, shape, west, north)
+}
+
 /// Adds the patches of a shape in the chunk that begins at `west` and `north`; none where its
 /// columns don't meet the chunk's.
 pub(crate) fn add_patches(
     patches: &mut Vec<Patch>,
-    place: u32,
+    number: u32,
     shape: &Shape,
     west: u32,
     north: u32,
@@ -37,7 +56,7 @@ pub(crate) fn add_patches(
     requires west { west ≤ 256 }
     requires north { north ≤ 256 }
     ensures adds { OnOk result
-        (Adds place shape.now (square west north) patches.old.items patches.new.items) }
+        (Adds number shape.now (square west north) patches.old.items patches.new.items) }
     ensures apart { meets (extent_of shape.now) (square west north) ≡ false
         → patches.new.items ≡ patches.old.items }
 {
@@ -46,16 +65,16 @@ pub(crate) fn add_patches(
         return Ok(());
     }
     if shape.is_cuboid() {
-        patches.push(Patch { place, columns })?;
+        patches.push(Patch { number, columns })?;
         return Ok(());
     }
-    add_rows(patches, place, shape, west, north)
+    add_rows(patches, number, shape, west, north)
 }
 
 // Adds a patch for each row of the chunk in which the shape has columns.
 fn add_rows(
     patches: &mut Vec<Patch>,
-    place: u32,
+    number: u32,
     shape: &Shape,
     west: u32,
     north: u32,
@@ -63,11 +82,11 @@ fn add_rows(
     requires west { west ≤ 256 }
     requires north { north ≤ 256 }
     ensures { OnOk result
-        (Adds place shape.now (square west north) patches.old.items patches.new.items) }
+        (Adds number shape.now (square west north) patches.old.items patches.new.items) }
 {
     for z in north..north + SIDE {
         if let Some(columns) = row_of(shape, west, z) {
-            patches.push(Patch { place, columns })?;
+            patches.push(Patch { number, columns })?;
         }
     }
     Ok(())

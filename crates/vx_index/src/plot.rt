@@ -1,8 +1,6 @@
-ghost use Rattle.std.specs.Prelude.{◌≡◌, ◌^◌, ◌<◌, ◌≤◌, length, remove, IfOk};
+ghost use Rattle.std.specs.Prelude.{◌≡◌, option_copied, IfOk};
 ghost use Rattle.vx_index.specs.Chunks.{IsChunk, TellsOf};
-ghost use Rattle.vx_index.specs.Patches.{AreInOrder};
-ghost use Rattle.vx_index.specs.Plots.{EndsBefore};
-ghost use Rattle.vx_index.specs.Shapes.{shapes_of, with_at};
+ghost use Rattle.vx_index.specs.Shapes.{renewed_at, shape_at};
 ghost use Rattle.vx_index.specs.Squares.{IsSquare};
 ghost use Rattle.vx_index.specs.Touching.{AreTouched};
 
@@ -12,7 +10,7 @@ use std::alloc::{AllocError, Global};
 use std::marker::Model;
 use std::sync::Arc;
 use vx_geom::Shape;
-use vx_region::RegionSet;
+use vx_region::{RegionNo, RegionSet};
 
 /// A chunk as a land holds it: copies of the land share it. Contracts see it as the chunk.
 #[derive(Drop)]
@@ -22,21 +20,20 @@ pub(crate) struct Plot {
 
 impl Model for Plot {
     ghost use Rattle.std.specs.Arc.{arc_value};
-    ghost use Rattle.vx_index.specs.Plots.{IsPlot};
+    ghost use Rattle.vx_index.specs.Squares.{IsSquare};
     ghost use Rattle.vx_index.specs.declared.chunk.Chunk.{Chunk};
 
     ghost Value = { Chunk };
 
     ghost view = { λ a. arc_value a.chunk };
 
-    ghost invariant = { λ a. IsPlot (arc_value a.chunk) };
+    ghost invariant = { λ a. IsSquare (arc_value a.chunk).columns };
 }
 
 impl Plot {
     /// This chunk, which nothing shares yet.
     pub(crate) fn new(alloc: Global, chunk: Chunk) -> Result<Plot, AllocError>
         requires square { IsSquare chunk.columns }
-        requires ordered { AreInOrder 0 chunk.patches.items }
         ensures { IfOk result (λ plot. plot ≡ chunk) }
     {
         Ok(Plot {
@@ -51,13 +48,6 @@ impl Plot {
         &self.chunk
     }
 
-    /// A place that all regions stand before that lie in the chunk, 0 where there is none.
-    pub(crate) fn end(&self) -> u64
-        ensures { EndsBefore result self.now }
-    {
-        self.chunk.end()
-    }
-
     /// A copy, which shares the chunk.
     pub(crate) fn try_clone(&self) -> Result<Plot, AllocError>
         ensures { IfOk result (λ copy. copy ≡ self.now) }
@@ -67,46 +57,26 @@ impl Plot {
         })
     }
 
-    /// The plot of the same columns, where that shape stands at a place of the regions or behind
-    /// all of them. Where neither it nor the shape that stood there lies in the plot, the chunk is
-    /// shared.
-    pub(crate) fn put(
+    /// The plot of the same columns, where the region of that number has this shape, or is gone.
+    /// Where neither the shape nor the one before it lies in the plot, the chunk is shared.
+    pub(crate) fn renewed(
         &self,
         alloc: Global,
         regions: &RegionSet,
-        place: u32,
-        shape: &Shape,
+        number: RegionNo,
+        shape: Option<&Shape>,
         touched: &Touched,
     ) -> Result<Plot, AllocError>
         requires of { IsChunk regions.now self.now }
-        requires within { place ≤ length (shapes_of regions.now) }
-        requires few { length (with_at (shapes_of regions.now) place shape.now) < 2 ^ 32 }
-        requires touched { AreTouched (shapes_of regions.now) place shape.now touched.now }
-        ensures of { IfOk result (TellsOf (with_at (shapes_of regions.now) place shape.now)) }
+        requires touched { AreTouched (shape_at regions.now number.0)
+            (option_copied shape) touched.now }
+        ensures of { IfOk result (TellsOf
+            (renewed_at (shape_at regions.now) number.0 (option_copied shape.entry))) }
         ensures columns { IfOk result (λ plot. plot.columns ≡ self.now.columns) }
     {
         if !touched.touches(self.chunk.columns()) {
             return self.try_clone();
         }
-        Plot::new(alloc, self.chunk.put(alloc, regions, place, shape)?)
-    }
-
-    /// The plot of the same columns without the region at that place. Where neither it nor any
-    /// behind it lies in the plot, the chunk is shared.
-    pub(crate) fn without(
-        &self,
-        alloc: Global,
-        regions: &RegionSet,
-        place: u32,
-    ) -> Result<Plot, AllocError>
-        requires of { IsChunk regions.now self.now }
-        requires within { place < length (shapes_of regions.now) }
-        ensures of { IfOk result (TellsOf (remove (shapes_of regions.now) place)) }
-        ensures columns { IfOk result (λ plot. plot.columns ≡ self.now.columns) }
-    {
-        if self.end() <= u64::from(place) {
-            return self.try_clone();
-        }
-        Plot::new(alloc, self.chunk.without(alloc, regions, place)?)
+        Plot::new(alloc, self.chunk.renewed(alloc, regions, number, shape)?)
     }
 }

@@ -1,8 +1,8 @@
-ghost use Rattle.std.specs.Prelude.{◌≡◌, ◌^◌, ◌<◌, ◌≤◌, length, remove, Contains, IfOk, IfSome};
+ghost use Rattle.std.specs.Prelude.{◌≡◌, ◌≤◌, option_copied, Contains, IfOk, IfSome};
 ghost use Rattle.std.specs.List.{All};
 ghost use Rattle.vx_index.specs.Chunks.{IsChunk, TellsOf};
-ghost use Rattle.vx_index.specs.Plots.{EndsBefore, LiesAlong};
-ghost use Rattle.vx_index.specs.Shapes.{shapes_of, with_at};
+ghost use Rattle.vx_index.specs.Plots.{LiesAlong};
+ghost use Rattle.vx_index.specs.Shapes.{renewed_at, shape_at};
 ghost use Rattle.vx_index.specs.Touching.{AreTouched};
 
 use crate::chunk::Chunk;
@@ -13,7 +13,7 @@ use std::alloc::{AllocError, Global};
 use std::marker::Model;
 use std::sync::Arc;
 use vx_geom::{Extent, Shape};
-use vx_region::RegionSet;
+use vx_region::{RegionNo, RegionSet};
 
 /// The widest world has so many chunks from west to east, and from north to south.
 pub(crate) const ACROSS: u32 = 16;
@@ -24,8 +24,6 @@ pub(crate) const ACROSS: u32 = 16;
 pub(crate) struct Row {
     // They lie as far from the north as those of each chunk.
     columns: Extent,
-    // All regions that lie in the row stand before this place.
-    end: u64,
     plots: Arc<Vec<Plot>>,
 }
 
@@ -33,15 +31,14 @@ impl Model for Row {
     ghost use Rattle.std.specs.Prelude.{List};
     ghost use Rattle.std.specs.List.{All};
     ghost use Rattle.std.specs.Arc.{arc_value};
-    ghost use Rattle.vx_index.specs.Plots.{EndsBefore, LiesAlong};
+    ghost use Rattle.vx_index.specs.Plots.{LiesAlong};
     ghost use Rattle.vx_index.specs.declared.chunk.Chunk.{Chunk};
 
     ghost Value = { List Chunk };
 
     ghost view = { λ a. (arc_value a.plots).items };
 
-    ghost invariant = { λ a. All (LiesAlong a.columns) (arc_value a.plots).items
-        × All (EndsBefore a.end) (arc_value a.plots).items };
+    ghost invariant = { λ a. All (LiesAlong a.columns) (arc_value a.plots).items };
 }
 
 impl Row {
@@ -65,10 +62,8 @@ impl Row {
         requires { All (LiesAlong columns) plots.items }
         ensures { IfOk result (λ row. row ≡ plots.items) }
     {
-        let end = end_of(&plots);
         Ok(Row {
             columns,
-            end,
             plots: Arc::new(alloc, plots)?,
         })
     }
@@ -79,7 +74,6 @@ impl Row {
     {
         Ok(Row {
             columns: self.columns,
-            end: self.end,
             plots: Arc::try_clone(&self.plots)?,
         })
     }
@@ -91,22 +85,22 @@ impl Row {
         Some(self.plots.get(index)?.chunk())
     }
 
-    /// The row where that shape stands at a place of the regions or behind all of them. All chunks
-    /// are shared where neither it nor the shape that stood there lies in the row, else those in
-    /// which neither lies.
-    pub(crate) fn put(
+    /// The row where the region of that number has this shape, or is gone. All chunks are shared
+    /// where neither the shape nor the one before it lies in the row, else those in which neither
+    /// lies.
+    pub(crate) fn renewed(
         &self,
         alloc: Global,
         regions: &RegionSet,
-        place: u32,
-        shape: &Shape,
+        number: RegionNo,
+        shape: Option<&Shape>,
         touched: &Touched,
     ) -> Result<Row, AllocError>
         requires of { All (IsChunk regions.now) self.now }
-        requires within { place ≤ length (shapes_of regions.now) }
-        requires few { length (with_at (shapes_of regions.now) place shape.now) < 2 ^ 32 }
-        requires touched { AreTouched (shapes_of regions.now) place shape.now touched.now }
-        ensures { IfOk result (All (TellsOf (with_at (shapes_of regions.now) place shape.now))) }
+        requires touched { AreTouched (shape_at regions.now number.0)
+            (option_copied shape) touched.now }
+        ensures { IfOk result (All (TellsOf
+            (renewed_at (shape_at regions.now) number.0 (option_copied shape.entry)))) }
     {
         if !touched.touches_row(&self.columns) {
             return self.try_clone();
@@ -114,42 +108,8 @@ impl Row {
         let columns = self.columns;
         let mut plots = Vec::with_capacity(alloc, self.plots.len())?;
         for index in 0..self.plots.len() {
-            plots.push(self.plots[index].put(alloc, regions, place, shape, touched)?)?;
+            plots.push(self.plots[index].renewed(alloc, regions, number, shape, touched)?)?;
         }
         Row::made(alloc, columns, plots)
     }
-
-    /// The row without the region at that place. All chunks are shared where neither it nor any
-    /// behind it lies in the row, else those in which none of them lies.
-    pub(crate) fn without(
-        &self,
-        alloc: Global,
-        regions: &RegionSet,
-        place: u32,
-    ) -> Result<Row, AllocError>
-        requires of { All (IsChunk regions.now) self.now }
-        requires within { place < length (shapes_of regions.now) }
-        ensures { IfOk result (All (TellsOf (remove (shapes_of regions.now) place))) }
-    {
-        if self.end <= u64::from(place) {
-            return self.try_clone();
-        }
-        let columns = self.columns;
-        let mut plots = Vec::with_capacity(alloc, self.plots.len())?;
-        for index in 0..self.plots.len() {
-            plots.push(self.plots[index].without(alloc, regions, place)?)?;
-        }
-        Row::made(alloc, columns, plots)
-    }
-}
-
-// A place that all regions stand before that lie in one of the plots.
-fn end_of(plots: &[Plot]) -> u64
-    ensures { All (EndsBefore result) plots.now }
-{
-    let mut end = 0;
-    for plot in plots {
-        end = end.max(plot.end());
-    }
-    end
 }

@@ -1,34 +1,26 @@
-ghost use Rattle.std.specs.Prelude.{◌≡◌};
-ghost use Rattle.vx_index.specs.Shapes.{shapes_of};
-ghost use Rattle.vx_index.specs.Touching.{AreTouched, share_row, touches, touches_row};
+ghost use Rattle.std.specs.Prelude.{◌≡◌, option_copied, option_map};
+ghost use Rattle.vx_geom.specs.Extent.{extent_of};
+ghost use Rattle.vx_index.specs.Shapes.{shape_at};
+ghost use Rattle.vx_index.specs.Touching.{AreTouched, any_meets, any_shares_row, share_row, touches, touches_row};
 
 use vx_geom::{Extent, Shape};
-use vx_region::RegionSet;
+use vx_region::{RegionNo, RegionSet};
 
-/// The columns in which a region lies before its shape changes, and those after it. Where it is new
-/// the first are those of its own shape too.
+/// The columns in which a region lies before its shape changes, if it has one, and those after it.
 #[derive(Clone, Copy)]
 pub(crate) struct Touched {
-    before: Extent,
-    after: Extent,
+    before: Option<Extent>,
+    after: Option<Extent>,
 }
 
 impl Touched {
-    /// The columns of the region at that place, and of this shape, put there or behind all.
-    pub(crate) fn of(regions: &RegionSet, place: u32, shape: &Shape) -> Touched
-        ensures { AreTouched (shapes_of regions.now) place shape.now result }
+    /// The columns of the region of that number, and of this shape, if there is one.
+    pub(crate) fn of(regions: &RegionSet, number: RegionNo, shape: Option<&Shape>) -> Touched
+        ensures { AreTouched (shape_at regions.now number.0) (option_copied shape.entry) result }
     {
-        let after = shape.extent();
-        if regions.count() <= place {
-            return Touched {
-                before: after,
-                after,
-            };
-        }
-        let (_, region) = regions.nth(place);
         Touched {
-            before: region.shape().extent(),
-            after,
+            before: extent_at(regions, number),
+            after: extent_of(shape),
         }
     }
 
@@ -36,14 +28,48 @@ impl Touched {
     pub(crate) fn touches_row(&self, columns: &Extent) -> bool
         ensures { result ≡ touches_row self.now columns.now }
     {
-        share_row(&self.before, columns) || share_row(&self.after, columns)
+        any_shares_row(&self.before, columns) || any_shares_row(&self.after, columns)
     }
 
     /// Whether the region lies in one of these columns, before or after.
     pub(crate) fn touches(&self, columns: &Extent) -> bool
         ensures { result ≡ touches self.now columns.now }
     {
-        self.before.meets(columns) || self.after.meets(columns)
+        any_meets(&self.before, columns) || any_meets(&self.after, columns)
+    }
+}
+
+// The columns of the region of that number.
+fn extent_at(regions: &RegionSet, number: RegionNo) -> Option<Extent>
+    ensures { result ≡ option_map extent_of (shape_at regions.now number.0) }
+{
+    extent_of(Some(regions.get(number)?.shape()))
+}
+
+// The columns of a shape, if there is one.
+fn extent_of(shape: Option<&Shape>) -> Option<Extent>
+    ensures { result ≡ option_map extent_of (option_copied shape.entry) }
+{
+    Some(shape?.extent())
+}
+
+// Whether there are columns of which one is among those of the other.
+fn any_meets(extent: &Option<Extent>, columns: &Extent) -> bool
+    ensures { result ≡ any_meets extent.now columns.now }
+{
+    match extent {
+        Some(extent) => extent.meets(columns),
+        None => false,
+    }
+}
+
+// Whether there are columns of which one is as far from the north as one of the others.
+fn any_shares_row(extent: &Option<Extent>, columns: &Extent) -> bool
+    ensures { result ≡ any_shares_row extent.now columns.now }
+{
+    match extent {
+        Some(extent) => share_row(extent, columns),
+        None => false,
     }
 }
 

@@ -1,7 +1,9 @@
-use Rattle.std.proofs.Common.{length, drop}
-use Rattle.vx_index.proofs.Gathered.{Gathered}
+use Rattle.std.proofs.Common.{take, drop}
+use Rattle.vx_geom.specs.Extent.{is_within}
+use Rattle.vx_index.proofs.Listed.{Listed}
 use Rattle.vx_index.proofs.chunk.Chunk.gather.Given as goal
 
--- what is gathered so far
+-- the numbers of the patches so far that have the position are gathered
 abbrev pub invariant-loop-patch : goal.invariant-loop-patch
-invariant-loop-patch g l = Gathered (length l.regions.entries) l.p l.self.patches.items (drop l.patch-index l.self.patches.items) l.here.items l.next
+invariant-loop-patch g l =
+    Listed (λ d. is_within d.columns l.p) (take l.patch-index l.self.patches.items) (drop l.patch-index l.self.patches.items) l.here.items l.last

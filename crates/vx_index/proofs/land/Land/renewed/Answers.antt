@@ -1,31 +1,32 @@
+use Rattle.std.specs.Option.{option_copied}
 use Rattle.std.proofs.Common.{◌≡◌, ◌<◌, ◌++◌, [], ◌∷◌, List, length, get_or, rules}
 use Rattle.std.specs.Arc.{arc_value}
 use Rattle.std.specs.List.{All}
 use Rattle.std.proofs.lemmas.List.Elements.{All-push, All-same}
 use Rattle.vx_index.specs.Chunks.{IsChunk, TellsOf}
-use Rattle.vx_index.specs.Shapes.{shapes_of, with_at}
+use Rattle.vx_index.specs.Shapes.{renewed_at, shape_at}
 use Rattle.vx_index.specs.declared.chunk.Chunk.{Chunk}
 use Rattle.vx_index.proofs.Along.{made_holds, row_holds}
-use Rattle.vx_index.proofs.land.Land.put.Goals as goal
+use Rattle.vx_index.proofs.land.Land.renewed.Goals as goal
 
-pub put-requires-clause-of : goal.put-requires-clause-of
-put-requires-clause-of c =
+pub renewed-requires-clause-of : goal.renewed-requires-clause-of
+renewed-requires-clause-of c =
     let rows = (arc_value c.self.inside.rows).items in
     let row = c.index.result.now in
     let i = c.loop-index.index in
     let below : i < length rows = search rules in
     let read : row ≡ get_or rows i row = search rules in
-    row_holds (IsChunk c.args.regions.now) c.args.self.now rows i row c.self.view_is c.requires.of below read
+    row_holds (IsChunk c.args.regions.now) c.args.self.now rows i row c.self.view_is c.requires below read
 
 pub loop-index-preserved : goal.loop-index-preserved
 loop-index-preserved c =
     let rows = c.loop-index.rows.items in
-    let row = c.in_ok-put.field-0 in
-    let P = λ (cs : List Chunk). All (TellsOf (with_at (shapes_of c.args.regions.now) c.args.place c.args.shape.now)) cs in
+    let row = c.in_ok-renewed.field-0 in
+    let P = λ (cs : List Chunk). All (TellsOf (renewed_at (shape_at c.args.regions.now) c.args.number.0 (option_copied c.args.shape))) cs in
     let pushed : c.push.new.self.items ≡ rows ++ row ∷ [] = search rules in
-    All-same P c.push.new.self.items (rows ++ row ∷ []) pushed (All-push P rows row c.loop-index.invariant c.in_ok-put.ensures)
+    All-same P c.push.new.self.items (rows ++ row ∷ []) pushed (All-push P rows row c.loop-index.invariant c.in_ok-renewed.ensures)
 
 pub returns : goal.returns
 returns c =
-    made_holds (TellsOf (with_at (shapes_of c.args.regions.now) c.args.place c.args.shape.now)) c.loop-index.rows.items c.made.result c.made.ensures
+    made_holds (TellsOf (renewed_at (shape_at c.args.regions.now) c.args.number.0 (option_copied c.args.shape))) c.loop-index.rows.items c.made.result c.made.ensures
     c.loop-index.invariant

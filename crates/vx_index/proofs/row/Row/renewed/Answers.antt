@@ -1,41 +1,42 @@
+use Rattle.std.specs.Option.{option_copied}
 use Rattle.std.proofs.Common.{◌≡◌, ◌∙◌, [], ◌∷◌, ◌++◌, List, rules, sym, subst}
 use Rattle.std.specs.List.{All, slice_index_or}
 use Rattle.vx_index.specs.Chunks.{IsChunk, TellsOf}
 use Rattle.vx_index.specs.Plots.{LiesAlong}
-use Rattle.vx_index.specs.Shapes.{shapes_of, with_at}
+use Rattle.vx_index.specs.Shapes.{renewed_at, shape_at}
 use Rattle.vx_index.specs.declared.chunk.Chunk.{Chunk}
 use Rattle.vx_index.proofs.Along.{along_still, untouched_along}
-use Rattle.vx_index.proofs.Renewing.{put_elsewhere}
+use Rattle.vx_index.proofs.Renewing.{renewed_elsewhere}
 use Rattle.vx_index.proofs.Told.{copy_holds, push_holds}
-use Rattle.vx_index.proofs.row.Row.put.Goals as goal
+use Rattle.vx_index.proofs.row.Row.renewed.Goals as goal
 
 -- neither the shape nor the one before it lies in any chunk of the row
 pub returns-then-not-touches_row : goal.returns-then-not-touches_row
 returns-then-not-touches_row c =
-    let shapes = shapes_of c.args.regions.now in
+    let shapes = shape_at c.args.regions.now in
     let row = c.args.self.now in
     let columns = c.self.inside.columns in
-    let along : All (LiesAlong columns) row = subst (λ (cs : List Chunk). All (LiesAlong columns) cs) c.self.view_is c.self.invariant.0 in
-    copy_holds (All (TellsOf (with_at shapes c.args.place c.args.shape.now))) row c.try_clone.result c.try_clone.ensures
+    let along : All (LiesAlong columns) row = subst (λ (cs : List Chunk). All (LiesAlong columns) cs) c.self.view_is c.self.invariant in
+    copy_holds (All (TellsOf (renewed_at shapes c.args.number.0 (option_copied c.args.shape)))) row c.try_clone.result c.try_clone.ensures
     (λ k d below.
     let chunk = slice_index_or row k d in
     let tells : IsChunk c.args.regions.now chunk = c.requires.of k d below in
     record {
-      patches = put_elsewhere shapes chunk.columns c.args.place c.args.shape.now c.requires.within c.requires.few chunk.patches.items tells.patches
+      patches = renewed_elsewhere shapes chunk.columns c.args.number.0 (option_copied c.args.shape) chunk.patches.items tells.patches
           c.args.touched.now c.requires.touched
           (untouched_along c.args.touched.now columns chunk (along k d below) (sym c.touches_row.ensures ∙ c.if-not-touches_row.true));
-      places = tells.places;
+      numbers = tells.numbers;
     })
 
 pub loop-index-preserved : goal.loop-index-preserved
 loop-index-preserved c =
     let plots = c.loop-index.plots.items in
-    let plot = c.in_ok-put.field-0 in
+    let plot = c.in_ok-renewed.field-0 in
     let before = c.index.result.now in
     let columns = c.self.inside.columns in
     let pushed : c.push.new.self.items ≡ plots ++ plot ∷ [] = search rules in
     let along : LiesAlong columns before = search rules in (
-      push_holds (TellsOf (with_at (shapes_of c.args.regions.now) c.args.place c.args.shape.now)) plots c.push.new.self.items plot pushed c.loop-index.invariant.0 c.in_ok-put.ensures.of,
+      push_holds (TellsOf (renewed_at (shape_at c.args.regions.now) c.args.number.0 (option_copied c.args.shape))) plots c.push.new.self.items plot pushed c.loop-index.invariant.0 c.in_ok-renewed.ensures.of,
       push_holds (LiesAlong columns) plots c.push.new.self.items plot pushed c.loop-index.invariant.1
-          (along_still columns before plot c.in_ok-put.ensures.columns along),
+          (along_still columns before plot c.in_ok-renewed.ensures.columns along),
     )

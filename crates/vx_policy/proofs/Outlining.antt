@@ -1,9 +1,6 @@
 -- What an edit leaves of the shapes of the regions.
-use Rattle.std.proofs.Common.{◌≡◌, ℕ, zero, suc, ◌<◌, ◌≤◌, Bool, true, false, not, cond, if◌then◌else◌, nat_eq, List, [], ◌∷◌, ◌++◌, map, filter, length, slice_get, Some, None, Option, Result, IfOk, refl, ap, sym, ◌∙◌, subst, inl, inr, arith}
-use Rattle.std.specs.List.{remove, slice_set}
-use Rattle.std.proofs.lemmas.Bool.{cases_eq, eq-eqb, ne_eqb}
-use Rattle.std.proofs.lemmas.List.{map-append}
-use Rattle.std.proofs.lemmas.Option.{slice_get_within}
+use Rattle.std.proofs.Common.{◌≡◌, ◌≢◌, ℕ, ◌+◌, Bool, true, false, List, Some, None, Option, option_map, Result, IfOk, refl, ap, sym, ◌∙◌, subst, inl, inr}
+use Rattle.std.proofs.lemmas.Bool.{cases_eq}
 use Rattle.std.proofs.lemmas.Result.{IfOk-weaker}
 use Rattle.vx_flag.specs.declared.flag.Flag.{Flag}
 use Rattle.vx_flag.specs.declared.setting.Setting.{Setting}
@@ -11,46 +8,62 @@ use Rattle.vx_geom.specs.Outline.{Outline}
 use Rattle.vx_geom.specs.Written.{Written, outline_asked}
 use Rattle.vx_region.specs.declared.role.Role.{Role}
 use Rattle.vx_region.specs.declared.role.Role.TheVariants.{Owner, Member}
-use Rattle.vx_region.specs.Forest.{IsAscending}
-use Rattle.vx_region.specs.Regions.{RegionData, Entry, Regions, changed_at, gaining, losing, with_region, without_region, with_shape, with_priority, with_parent, with_flag, with_name, without_name}
+use Rattle.vx_region.specs.Regions.{RegionData, Regions, region_at, changed, gaining, losing, without_region, with_shape, with_priority, with_parent, with_flag, with_name, without_name}
 use Rattle.vx_region.specs.Words.{read_id, read_name}
+use Rattle.vx_region.proofs.Changes.{region_changed, region_elsewhere, region_kept}
 use Rattle.vx_region.proofs.Globals.{flag_at_large, flag_of_region}
+use Rattle.vx_region.proofs.Removals.{region_beside}
 use Rattle.vx_policy.specs.Asked.{Asked, Define, Reshape, Remove, Priority, Parent, SetFlag, ClearFlag, Listed}
 use Rattle.vx_policy.specs.Edits.{given, listed, edited}
+use Rattle.vx_policy.specs.Outlines.{ShapesStayBut}
 use Rattle.vx_policy.specs.Refusals.{numbered}
 use Rattle.vx_policy.specs.declared.listing.Listing.{Listing}
 use Rattle.vx_policy.specs.declared.listing.Listing.TheVariants.{Add, Drop}
 use Rattle.vx_policy.proofs.Parts.{kept_given}
 use Rattle.vx_index.specs.declared.chunk.Chunk.{Chunk}
 use Rattle.vx_index.specs.Lands.{IsLandOf}
-use Rattle.vx_index.specs.Shapes.{shapes_of}
-use Rattle.vx_policy.specs.Outlines.{keeps_shapes, DefinesOne, Reshapes}
+use Rattle.vx_index.specs.Shapes.{Shapes, renewed_at, shape_at}
+use Rattle.vx_index.proofs.Shapes.{at_number, elsewhere}
 
--- the shapes of these regions
-abbrev outlines : List Entry → List Outline
-outlines es = map (λ (e : Entry). e.1.shape) es
+-- the shape of a region that is there
+abbrev shaped : Option RegionData → Option Outline
+shaped o = option_map (λ r. r.shape) o
+
+-- an edit of another kind than a definition, a reshape and a removal
+abbrev pub keeps_shapes : Asked → Bool
+keeps_shapes (Define id shape) = false
+keeps_shapes (Reshape id shape) = false
+keeps_shapes (Remove id) = false
+keeps_shapes e = true
 
 -- all shapes are as before
 abbrev Keeps : Regions → Regions → Type 0
-Keeps rs after = shapes_of after ≡ shapes_of rs
+Keeps rs after = (n : ℕ) → shape_at after n ≡ shape_at rs n
+
+keeps_all : (rs : Regions) → Keeps rs rs
+keeps_all rs n = refl
 
 -- a change that leaves the shape leaves all of them
-module _ (change : RegionData → RegionData) (keeps : (r : RegionData) → (change r).shape ≡ r.shape) (n : ℕ) where
-  outlines_kept : (es : List Entry) → outlines (changed_at change n es) ≡ outlines es
-  outlines_kept [] = refl
-  outlines_kept (e ∷ es) = by (nat_eq n e.0) (outlines_kept es)
-    where
-      by : (b : Bool) → outlines (changed_at change n es) ≡ outlines es
-          → outlines ((if b then (e.0, change e.1) else e) ∷ changed_at change n es) ≡ e.1.shape ∷ outlines es
-      by true rest = ap (λ o. o ∷ outlines (changed_at change n es)) (keeps e.1) ∙ ap (λ os. e.1.shape ∷ os) rest
-      by false rest = ap (λ os. e.1.shape ∷ os) rest
+module _ (change : RegionData → RegionData) (keeps : (r : RegionData) → (change r).shape ≡ r.shape) (k : ℕ) (rs : Regions) where
+  still_shaped : (o : Option RegionData) → shaped (option_map change o) ≡ shaped o
+  still_shaped None = refl
+  still_shaped (Some r) = ap Some (keeps r)
+
+  shapes_kept : Keeps rs (changed change k rs)
+  shapes_kept n = elim (cases_eq n k) [
+    | inl same ↦
+        subst (λ m. shape_at (changed change k rs) m ≡ shape_at rs m) (sym same)
+        (ap shaped (region_changed change k rs) ∙ still_shaped (region_at rs k))
+    | inr other ↦ ap shaped (region_elsewhere change k n rs other)
+  ]
 
 module _ (rs : Regions) (n : ℕ) where
   flagged : (f : Flag) (o : Option Setting) → Keeps rs (with_flag rs n f o)
-  flagged f o =
+  unfolding region_at
+  flagged f o m =
       elim (cases_eq n 0) [
-        | inl at_large ↦ ap shapes_of (flag_at_large rs n f o at_large)
-        | inr region ↦ ap shapes_of (flag_of_region rs n f o region) ∙ outlines_kept _ (λ r. refl) n rs.entries
+        | inl at_large ↦ ap (λ after. shape_at after m) (flag_at_large rs n f o at_large)
+        | inr region ↦ ap (λ after. shape_at after m) (flag_of_region rs n f o region) ∙ shapes_kept _ (λ r. refl) n rs m
       ]
 
   gained : (role : Role) (name : List ℕ) (r : RegionData) → (gaining role name r).shape ≡ r.shape
@@ -63,141 +76,80 @@ module _ (rs : Regions) (n : ℕ) where
 
   name_listed : (role : Role) (listing : Listing) (name : List ℕ) → Keeps rs (listed rs n role listing name)
   unfolding with_name without_name
-  name_listed role Add name = outlines_kept (gaining role name) (gained role name) n rs.entries
-  name_listed role Drop name = outlines_kept (losing role name) (lost role name) n rs.entries
+  name_listed role Add name = shapes_kept (gaining role name) (gained role name) n rs
+  name_listed role Drop name = shapes_kept (losing role name) (lost role name) n rs
 
 -- an edit of another kind leaves all shapes
-pub kept_shapes : (rs : Regions) (e : Asked) → keeps_shapes e ≡ true → shapes_of (edited rs e) ≡ shapes_of rs
+kept_shapes : (rs : Regions) (e : Asked) → keeps_shapes e ≡ true → Keeps rs (edited rs e)
 unfolding edited with_priority with_parent
 kept_shapes rs (Define id shape) keeps = cc
 kept_shapes rs (Reshape id shape) keeps = cc
 kept_shapes rs (Remove id) keeps = cc
 kept_shapes rs (Priority id priority) keeps =
-    kept_given (Keeps rs) rs (numbered rs id) _ refl (λ n. outlines_kept _ (λ r. refl) n rs.entries)
+    kept_given (Keeps rs) rs (numbered rs id) _ (keeps_all rs) (λ n. shapes_kept _ (λ r. refl) n rs)
 kept_shapes rs (Parent id parent) keeps =
-    kept_given (Keeps rs) rs (numbered rs id) _ refl (λ n. outlines_kept _ (λ r. refl) n rs.entries)
-kept_shapes rs (SetFlag id flag setting) keeps = kept_given (Keeps rs) rs (numbered rs id) _ refl (λ n. flagged rs n flag (Some setting))
-kept_shapes rs (ClearFlag id flag) keeps = kept_given (Keeps rs) rs (numbered rs id) _ refl (λ n. flagged rs n flag None)
+    kept_given (Keeps rs) rs (numbered rs id) _ (keeps_all rs) (λ n. shapes_kept _ (λ r. refl) n rs)
+kept_shapes rs (SetFlag id flag setting) keeps = kept_given (Keeps rs) rs (numbered rs id) _ (keeps_all rs) (λ n. flagged rs n flag (Some setting))
+kept_shapes rs (ClearFlag id flag) keeps = kept_given (Keeps rs) rs (numbered rs id) _ (keeps_all rs) (λ n. flagged rs n flag None)
 kept_shapes rs (Listed role id listing name) keeps =
-    kept_given (Keeps rs) rs (numbered rs id) _ refl
-    (λ n. kept_given (Keeps rs) rs (read_name name) _ refl (λ word. name_listed rs n role listing word))
+    kept_given (Keeps rs) rs (numbered rs id) _ (keeps_all rs)
+    (λ n. kept_given (Keeps rs) rs (read_name name) _ (keeps_all rs) (λ word. name_listed rs n role listing word))
 
--- no region stands behind all
-none_behind : (rs : Regions) → DefinesOne rs rs
-none_behind rs e at = absurd (omega (arith, slice_get_within rs.entries (length rs.entries) e at))
+pub others_kept : (rs : Regions) (e : Asked) (o : Option ℕ) → keeps_shapes e ≡ true → ShapesStayBut o rs (edited rs e)
+others_kept rs e o keeps n other = kept_shapes rs e keeps n
 
--- the last of a list with one more
-last_at : (es : List Entry) (d e : Entry) → slice_get (es ++ d ∷ []) (length es) ≡ Some e → d ≡ e
-last_at [] d e at = cc
-last_at (x ∷ es) d e at = last_at es d e at
+-- a definition adds the shape of the next number
+pub defined : (rs : Regions) (id : List ℕ) (shape : Written) → ShapesStayBut (Some (rs.last + 1)) rs (edited rs (Define id shape))
+unfolding edited
+defined rs id shape =
+    kept_given (ShapesStayBut (Some (rs.last + 1)) rs) rs (read_id id) _ (λ n other. refl)
+    (λ word. kept_given (ShapesStayBut (Some (rs.last + 1)) rs) rs (outline_asked shape) _ (λ n other. refl)
+    (λ outline n other. ap shaped (region_kept rs word outline n (λ same. other (ap Some (sym same))))))
 
--- a definition leaves the shapes, with that of a new region behind them
-pub defined_one : (rs : Regions) (id : List ℕ) (shape : Written) → DefinesOne rs (edited rs (Define id shape))
-unfolding edited with_region
-defined_one rs id shape =
-    kept_given (DefinesOne rs) rs (read_id id) _ (none_behind rs)
-    (λ word. kept_given (DefinesOne rs) rs (outline_asked shape) _ (none_behind rs) (λ outline. one_more word outline))
+-- a reshape puts another shape at the number of its region
+pub reshaped_one : (rs : Regions) (id : List ℕ) (shape : Written) → ShapesStayBut (numbered rs id) rs (edited rs (Reshape id shape))
+unfolding edited with_shape
+reshaped_one rs id shape = by (numbered rs id)
   where
-    one_more : (word : List ℕ) (outline : Outline) → DefinesOne rs (with_region rs word outline)
-    one_more word outline e at =
-        map-append (λ (d : Entry). d.1.shape) rs.entries _ ∙ ap (λ (d : Entry). outlines rs.entries ++ d.1.shape ∷ []) (last_at rs.entries _ e at)
+    by : (o : Option ℕ) → ShapesStayBut o rs (given rs o (λ k. given rs (outline_asked shape) (with_shape rs k)))
+    by None n other = refl
+    by (Some k) n other =
+        kept_given (ShapesStayBut (Some k) rs) rs (outline_asked shape) (with_shape rs k) (λ m apart. refl)
+        (λ outline m apart. ap shaped (region_elsewhere _ k m rs (λ same. apart (ap Some (sym same))))) n other
 
--- where numbers ascend, those above a number are others
-module _ (change : RegionData → RegionData) (n : ℕ) where
-  none_changed : (m : ℕ) (es : List Entry) → n ≤ m → IsAscending m es → changed_at change n es ≡ es
-  none_changed m [] above up = refl
-  none_changed m (e ∷ es) above up =
-      let other : nat_eq n e.0 ≡ false = ne_eqb n e.0 (λ same. omega (arith, same, above, up.0)) in
-      ap (λ b. (if b then (e.0, change e.1) else e) ∷ changed_at change n es) other ∙ ap (λ ds. e ∷ ds) (none_changed e.0 es (omega (arith, above, up.0)) up.1)
-
-none_gone : (n m : ℕ) (es : List Entry) → n ≤ m → IsAscending m es → filter (λ e. not (nat_eq n e.0)) es ≡ es
-none_gone n m [] above up = refl
-none_gone n m (e ∷ es) above up =
-    let other : nat_eq n e.0 ≡ false = ne_eqb n e.0 (λ same. omega (arith, same, above, up.0)) in
-    ap (λ b. cond (not b) (e ∷ filter (λ d. not (nat_eq n d.0)) es) (filter (λ d. not (nat_eq n d.0)) es)) other
-    ∙ ap (λ ds. e ∷ ds) (none_gone n e.0 es (omega (arith, above, up.0)) up.1)
-
--- and those before it too
-later_above : (m i n : ℕ) (r : RegionData) (es : List Entry) → IsAscending m es → slice_get es i ≡ Some (n, r) → m < n
-later_above m i n r [] up at = cc
-later_above m zero n r (e ∷ es) up at =
-    let same : e ≡ (n, r) = cc in
-    omega (arith, ap (λ (d : Entry). d.0) same, up.0)
-later_above m (suc i) n r (e ∷ es) up at = omega (arith, later_above e.0 i n r es up.1 at, up.0)
-
--- one number changes, at its place
-module _ (n : ℕ) (r : RegionData) (outline : Outline) where
-  abbrev outlined : RegionData → RegionData
-  outlined d = record d { shape = outline }
-
-  set_at : (m i : ℕ) (es : List Entry) → IsAscending m es → slice_get es i ≡ Some (n, r)
-      → outlines (changed_at outlined n es) ≡ slice_set (outlines es) i outline
-  set_at m i [] up at = cc
-  set_at m zero (e ∷ es) up at =
-      let same : e ≡ (n, r) = cc in
-      let number : n ≡ e.0 = sym (ap (λ (d : Entry). d.0) same) in
-      ap (λ b. outlines ((if b then (e.0, outlined e.1) else e) ∷ changed_at outlined n es)) (eq-eqb n e.0 number)
-      ∙ ap (λ ds. outline ∷ outlines ds) (none_changed outlined n e.0 es (omega (arith, number)) up.1)
-  set_at m (suc i) (e ∷ es) up at =
-      let other : nat_eq n e.0 ≡ false = ne_eqb n e.0 (λ same. omega (arith, same, later_above e.0 i n r es up.1 at)) in
-      ap (λ b. outlines ((if b then (e.0, outlined e.1) else e) ∷ changed_at outlined n es)) other
-      ∙ ap (λ os. e.1.shape ∷ os) (set_at e.0 i es up.1 at)
-
-  gone_at : (m i : ℕ) (es : List Entry) → IsAscending m es → slice_get es i ≡ Some (n, r)
-      → outlines (filter (λ e. not (nat_eq n e.0)) es) ≡ remove (outlines es) i
-  gone_at m i [] up at = cc
-  gone_at m zero (e ∷ es) up at =
-      let same : e ≡ (n, r) = cc in
-      let number : n ≡ e.0 = sym (ap (λ (d : Entry). d.0) same) in
-      ap (λ b. outlines (cond (not b) (e ∷ filter (λ d. not (nat_eq n d.0)) es) (filter (λ d. not (nat_eq n d.0)) es))) (eq-eqb n e.0 number)
-      ∙ ap outlines (none_gone n e.0 es (omega (arith, number)) up.1)
-  gone_at m (suc i) (e ∷ es) up at =
-      let other : nat_eq n e.0 ≡ false = ne_eqb n e.0 (λ same. omega (arith, same, later_above e.0 i n r es up.1 at)) in
-      ap (λ b. outlines (cond (not b) (e ∷ filter (λ d. not (nat_eq n d.0)) es) (filter (λ d. not (nat_eq n d.0)) es))) other
-      ∙ ap (λ os. e.1.shape ∷ os) (gone_at e.0 i es up.1 at)
-
-  -- the shape that stands there then is the new one
-  read_at : (m i : ℕ) (es : List Entry) (e : Entry) → IsAscending m es → slice_get es i ≡ Some (n, r)
-      → slice_get (changed_at outlined n es) i ≡ Some e → e.1.shape ≡ outline
-  read_at m i [] e up at is = cc
-  read_at m zero (d ∷ es) e up at is =
-      let same : d ≡ (n, r) = cc in
-      let number : n ≡ d.0 = sym (ap (λ (x : Entry). x.0) same) in
-      let here : Some (if nat_eq n d.0 then (d.0, outlined d.1) else d) ≡ Some e = is in
-      let there : Some (d.0, outlined d.1) ≡ Some e =
-      sym (ap (λ b. Some (if b then (d.0, outlined d.1) else d)) (eq-eqb n d.0 number)) ∙ here in
-      let found : (d.0, outlined d.1) ≡ e = cc in
-      sym (ap (λ (x : Entry). x.1.shape) found)
-  read_at m (suc i) (d ∷ es) e up at is = read_at d.0 i es e up.1 at is
-
--- the same shape in its place changes nothing
-set_same : (es : List Entry) (i : ℕ) (e : Entry) → slice_get es i ≡ Some e → outlines es ≡ slice_set (outlines es) i e.1.shape
-set_same [] i e at = cc
-set_same (x ∷ es) zero e at = let same : x ≡ e = cc in ap (λ (d : Entry). d.1.shape ∷ outlines es) same
-set_same (x ∷ es) (suc i) e at = ap (λ os. x.1.shape ∷ os) (set_same es i e at)
-
-module _ (rs : Regions) (n place : ℕ) (r : RegionData) (ascending : IsAscending 0 rs.entries) (item : slice_get rs.entries place ≡ Some (n, r)) where
-  -- a reshape puts the new shape in the place of the old one
-  pub reshaped : (id : List ℕ) (shape : Written) → numbered rs id ≡ Some n → Reshapes rs (edited rs (Reshape id shape)) place
-  unfolding edited with_shape
-  reshaped id shape is =
-      subst (λ o. Reshapes rs (given rs o (λ k. given rs (outline_asked shape) (with_shape rs k))) place) (sym is)
-      (kept_given (λ after. Reshapes rs after place) rs (outline_asked shape) _ (λ e at. set_same rs.entries place e at) of)
-    where
-      of : (outline : Outline) → Reshapes rs (with_shape rs n outline) place
-      of outline e at =
-          set_at n r outline 0 place rs.entries ascending item
-          ∙ ap (slice_set (outlines rs.entries) place) (sym (read_at n r outline 0 place rs.entries e ascending item at))
-
-  -- a removal takes the shape out of its place
-  pub removed : (id : List ℕ) → numbered rs id ≡ Some n → shapes_of (edited rs (Remove id)) ≡ remove (shapes_of rs) place
-  unfolding edited without_region
-  removed id is =
-      ap (λ o. shapes_of (given rs o (without_region rs))) is ∙ gone_at n r r.shape 0 place rs.entries ascending item
+-- and a removal takes the shape of its region away
+pub removed_one : (rs : Regions) (id : List ℕ) → ShapesStayBut (numbered rs id) rs (edited rs (Remove id))
+unfolding edited
+removed_one rs id = by (numbered rs id)
+  where
+    by : (o : Option ℕ) → ShapesStayBut o rs (given rs o (without_region rs))
+    by None n other = refl
+    by (Some k) n other = ap shaped (region_beside rs k n (λ same. other (ap Some (sym same))))
 
 -- a copy of a land is one of the same shapes
-pub copy_tells : {E : Type 0} (old new : List Outline) (land : List Chunk) (given : Result (List Chunk) E) → new ≡ old → IsLandOf old land
-    → IfOk given (λ copy. copy ≡ land) → IfOk given (IsLandOf new)
-copy_tells old new land given same of copies =
-    IfOk-weaker given (λ copy. copy ≡ land) (IsLandOf new)
-    (λ copy is. subst (λ (cs : List Chunk). IsLandOf new cs) (sym is) (subst (λ (os : List Outline). IsLandOf os land) (sym same) of)) copies
+pub copy_tells : {E : Type 0} (before after : Regions) (land : List Chunk) (result : Result (List Chunk) E) → ShapesStayBut None before after
+    → IsLandOf (shape_at before) land → IfOk result (λ copy. copy ≡ land) → IfOk result (IsLandOf (shape_at after))
+copy_tells before after land result stay of copies =
+    IfOk-weaker result (λ copy. copy ≡ land) (IsLandOf (shape_at after))
+    (λ copy is. subst (λ (cs : List Chunk). IsLandOf (shape_at after) cs) (sym is) (subst (λ (shapes : Shapes). IsLandOf shapes land) same of)) copies
+  where
+    differs : (n : ℕ) → None ≢ Some n
+    differs n is = cc
+
+    same : shape_at before ≡ shape_at after
+    same = λ i n. sym (stay n (differs n)) i
+
+-- and a land with the shape of the number as it is then is one of those after the edit
+pub renewed_tells : {E : Type 0} (before after : Regions) (number : ℕ) (o : Option Outline) (result : Result (List Chunk) E)
+    → ShapesStayBut (Some number) before after → shape_at after number ≡ o → IfOk result (IsLandOf (renewed_at (shape_at before) number o))
+    → IfOk result (IsLandOf (shape_at after))
+renewed_tells before after number o result stay is made = subst (λ (shapes : Shapes). IfOk result (IsLandOf shapes)) (λ i n. same n i) made
+  where
+    same : (n : ℕ) → renewed_at (shape_at before) number o n ≡ shape_at after n
+    same n = elim (cases_eq n number) [
+      | inl this ↦
+          ap (renewed_at (shape_at before) number o) this ∙ at_number (shape_at before) number o ∙ sym is ∙ ap (shape_at after) (sym this)
+      | inr other ↦
+          elsewhere (shape_at before) number o n other
+          ∙ sym (stay n (λ equal. let number_is : number ≡ n = cc in other (sym number_is)))
+    ]

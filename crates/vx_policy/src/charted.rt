@@ -10,7 +10,7 @@ ghost use Rattle.vx_region.specs.Subjects.{actor_of, Named};
 use crate::changes::change;
 use crate::edit::Edit;
 use crate::land_after::land_after;
-use crate::shape_change::ShapeChange;
+use crate::reshaped::reshaped;
 use crate::unset::{all_unset, unset_after};
 use std::alloc::{AllocError, Global};
 use std::marker::Model;
@@ -32,14 +32,14 @@ impl Model for Charted {
     ghost use Rattle.std.specs.List.{All};
     ghost use Rattle.vx_decide.specs.Unset.{IsUnset};
     ghost use Rattle.vx_index.specs.Lands.{IsLandOf};
-    ghost use Rattle.vx_index.specs.Shapes.{shapes_of};
+    ghost use Rattle.vx_index.specs.Shapes.{shape_at};
     ghost use Rattle.vx_region.specs.Regions.{Regions};
 
     ghost Value = { Regions };
 
     ghost view = { λ c. c.regions };
 
-    ghost invariant = { λ c. IsLandOf (shapes_of c.regions) c.land
+    ghost invariant = { λ c. IsLandOf (shape_at c.regions) c.land
         × All (IsUnset c.regions) c.unset.items };
 }
 
@@ -86,11 +86,11 @@ impl Charted {
         ensures { IfOk result (λ r. (r.0 ≡ edited self.now (asked edit))
             × (option_map (λ n. n.0) r.1 ≡ number_given self.now (asked edit))) }
     {
-        let shapes = ShapeChange::of(&self.regions, &edit);
+        let at = reshaped(&self.regions, &edit);
         let unset = unset_after(alloc, &self.regions, &self.unset, &edit)?;
         let mut regions = self.regions.try_clone()?;
         let number = change(&mut regions, alloc, edit)?;
-        let land = land_after(alloc, &self.land, &self.regions, &regions, shapes)?;
+        let land = land_after(alloc, &self.land, &self.regions, &regions, at)?;
         Ok((
             Charted {
                 regions,

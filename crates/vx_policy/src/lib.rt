@@ -11,7 +11,7 @@ mod land_after;
 mod laws;
 mod listing;
 mod policy;
-mod shape_change;
+mod reshaped;
 mod unset;
 mod version;
 

@@ -6,7 +6,7 @@ ghost use Rattle.vx_decide.specs.Unset.{IsUnset};
 ghost use Rattle.vx_decide.specs.Verdict.{verdict};
 ghost use Rattle.vx_index.specs.Chunks.{IsChunk, TellsOf};
 ghost use Rattle.vx_index.specs.Patches.{AreInOrder, AreNumbersOf, AreOf, square};
-ghost use Rattle.vx_index.specs.Shapes.{Shapes, renewed_at, shape_at};
+ghost use Rattle.vx_index.specs.Shapes.{Shapes, renewed_at};
 ghost use Rattle.vx_index.specs.Squares.{IsSquare};
 
 use crate::patch::Patch;
@@ -16,7 +16,7 @@ use std::alloc::{AllocError, Global};
 use vx_decide::{Verdict, decide_among};
 use vx_flag::{Action, Flag};
 use vx_geom::{Extent, Pos, Shape};
-use vx_region::{RegionNo, RegionSet, Subject};
+use vx_region::{RegionSet, Subject};
 
 /// So many regions near a place are gathered before they are asked; where there are more, all
 /// regions of the chunk are asked.
@@ -177,21 +177,18 @@ impl Chunk {
     pub(crate) fn renewed(
         &self,
         alloc: Global,
-        regions: &RegionSet,
-        number: RegionNo,
+        number: u32,
         shape: Option<&Shape>,
     ) -> Result<Chunk, AllocError>
-        requires of { IsChunk regions.now self.now }
-        requires square { IsSquare self.now.columns }
-        ensures of { IfOk result (TellsOf
-            (renewed_at (shape_at regions.now) number.0 (option_copied shape.entry))) }
+        requires { IsSquare self.now.columns }
+        ensures of { (shapes : Shapes) → TellsOf shapes self.now
+            → IfOk result (TellsOf (renewed_at shapes number (option_copied shape.entry))) }
         ensures columns { IfOk result (λ chunk. chunk.columns ≡ self.now.columns) }
     {
-        let _ = regions;
         let (west, north) = self.corner();
-        let mut patches = self.before(alloc, number.0)?;
-        add_any(&mut patches, number.0, shape, west, north)?;
-        self.add_behind(&mut patches, number.0)?;
+        let mut patches = self.before(alloc, number)?;
+        add_any(&mut patches, number, shape, west, north)?;
+        self.add_behind(&mut patches, number)?;
         Chunk::made(alloc, self.columns, patches)
     }
 

@@ -120,7 +120,7 @@ impl Land {
         let touched = Touched::of(regions, number, shape);
         let mut rows = Vec::with_capacity(alloc, self.rows.len())?;
         for index in 0..self.rows.len() {
-            rows.push(self.rows[index].renewed(alloc, regions, number, shape, &touched)?)?;
+            rows.push(self.rows[index].renewed(alloc, number.0, shape, &touched)?)?;
         }
         Land::made(alloc, rows)
     }

@@ -1,6 +1,6 @@
 ghost use Rattle.std.specs.Prelude.{◌≡◌, option_copied, IfOk};
-ghost use Rattle.vx_index.specs.Chunks.{IsChunk, TellsOf};
-ghost use Rattle.vx_index.specs.Shapes.{renewed_at, shape_at};
+ghost use Rattle.vx_index.specs.Chunks.{TellsOf};
+ghost use Rattle.vx_index.specs.Shapes.{Shapes, renewed_at};
 ghost use Rattle.vx_index.specs.Squares.{IsSquare};
 ghost use Rattle.vx_index.specs.Touching.{AreTouched};
 
@@ -10,7 +10,6 @@ use std::alloc::{AllocError, Global};
 use std::marker::Model;
 use std::sync::Arc;
 use vx_geom::Shape;
-use vx_region::{RegionNo, RegionSet};
 
 /// A chunk as a land holds it: copies of the land share it. Contracts see it as the chunk.
 #[derive(Drop)]
@@ -62,21 +61,18 @@ impl Plot {
     pub(crate) fn renewed(
         &self,
         alloc: Global,
-        regions: &RegionSet,
-        number: RegionNo,
+        number: u32,
         shape: Option<&Shape>,
         touched: &Touched,
     ) -> Result<Plot, AllocError>
-        requires of { IsChunk regions.now self.now }
-        requires touched { AreTouched (shape_at regions.now number.0)
-            (option_copied shape) touched.now }
-        ensures of { IfOk result (TellsOf
-            (renewed_at (shape_at regions.now) number.0 (option_copied shape.entry))) }
+        ensures of { (shapes : Shapes) → TellsOf shapes self.now
+            → AreTouched (shapes number) (option_copied shape.entry) touched.now
+            → IfOk result (TellsOf (renewed_at shapes number (option_copied shape.entry))) }
         ensures columns { IfOk result (λ plot. plot.columns ≡ self.now.columns) }
     {
         if !touched.touches(self.chunk.columns()) {
             return self.try_clone();
         }
-        Plot::new(alloc, self.chunk.renewed(alloc, regions, number, shape)?)
+        Plot::new(alloc, self.chunk.renewed(alloc, number, shape)?)
     }
 }

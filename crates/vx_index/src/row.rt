@@ -2,7 +2,7 @@ ghost use Rattle.std.specs.Prelude.{◌≡◌, ◌≤◌, option_copied, Contain
 ghost use Rattle.std.specs.List.{All};
 ghost use Rattle.vx_index.specs.Chunks.{IsChunk, TellsOf};
 ghost use Rattle.vx_index.specs.Plots.{LiesAlong};
-ghost use Rattle.vx_index.specs.Shapes.{renewed_at, shape_at};
+ghost use Rattle.vx_index.specs.Shapes.{Shapes, renewed_at};
 ghost use Rattle.vx_index.specs.Touching.{AreTouched};
 
 use crate::chunk::Chunk;
@@ -13,7 +13,7 @@ use std::alloc::{AllocError, Global};
 use std::marker::Model;
 use std::sync::Arc;
 use vx_geom::{Extent, Shape};
-use vx_region::{RegionNo, RegionSet};
+use vx_region::RegionSet;
 
 /// The widest world has so many chunks from west to east, and from north to south.
 pub(crate) const ACROSS: u32 = 16;
@@ -91,16 +91,13 @@ impl Row {
     pub(crate) fn renewed(
         &self,
         alloc: Global,
-        regions: &RegionSet,
-        number: RegionNo,
+        number: u32,
         shape: Option<&Shape>,
         touched: &Touched,
     ) -> Result<Row, AllocError>
-        requires of { All (IsChunk regions.now) self.now }
-        requires touched { AreTouched (shape_at regions.now number.0)
-            (option_copied shape) touched.now }
-        ensures { IfOk result (All (TellsOf
-            (renewed_at (shape_at regions.now) number.0 (option_copied shape.entry)))) }
+        ensures { (shapes : Shapes) → All (TellsOf shapes) self.now
+            → AreTouched (shapes number) (option_copied shape.entry) touched.now
+            → IfOk result (All (TellsOf (renewed_at shapes number (option_copied shape.entry)))) }
     {
         if !touched.touches_row(&self.columns) {
             return self.try_clone();
@@ -108,7 +105,7 @@ impl Row {
         let columns = self.columns;
         let mut plots = Vec::with_capacity(alloc, self.plots.len())?;
         for index in 0..self.plots.len() {
-            plots.push(self.plots[index].renewed(alloc, regions, number, shape, touched)?)?;
+            plots.push(self.plots[index].renewed(alloc, number, shape, touched)?)?;
         }
         Row::made(alloc, columns, plots)
     }

@@ -1,11 +1,14 @@
-use Rattle.std.specs.Option.{option_copied}
 use Rattle.std.specs.List.{All}
+use Rattle.std.specs.Option.{option_copied}
 use Rattle.vx_index.specs.Chunks.{TellsOf}
 use Rattle.vx_index.specs.Plots.{LiesAlong}
-use Rattle.vx_index.specs.Shapes.{renewed_at, shape_at}
+use Rattle.vx_index.specs.Shapes.{Shapes, renewed_at}
+use Rattle.vx_index.specs.Touching.{AreTouched}
 use Rattle.vx_index.proofs.row.Row.renewed.Given as goal
 
 -- the chunks so far tell of the shapes with the new one, and lie in the row
 abbrev pub invariant-loop-index : goal.invariant-loop-index
 invariant-loop-index l =
-    All (TellsOf (renewed_at (shape_at l.regions) l.number.0 (option_copied l.shape))) l.plots.items × All (LiesAlong l.columns) l.plots.items
+    ((shapes : Shapes) → All (TellsOf shapes) l.self → AreTouched (shapes l.number) (option_copied l.shape) l.touched
+    → All (TellsOf (renewed_at shapes l.number (option_copied l.shape))) l.plots.items)
+    × All (LiesAlong l.columns) l.plots.items

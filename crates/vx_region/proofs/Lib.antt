@@ -14,8 +14,9 @@ pub mod Numbers
 pub mod Owning
 pub mod Places
 pub mod Removals
-pub mod Roles
+pub mod Rosters
 pub mod SameLists
+pub mod SharedDomains
 pub mod Spelling
 pub mod Strangers
 pub mod Walks

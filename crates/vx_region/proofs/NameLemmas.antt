@@ -1,5 +1,5 @@
 -- Names as the texts that clauses see.
-use Rattle.std.proofs.Common.{◌≡◌, ℕ, Bool, true, false, true≢false, cond, not, ◌&&◌, ◌||◌, if◌then◌else◌, List, [], ◌∷◌, ◌++◌, bytes_eq, inl, inr, refl, ap, sym, ◌∙◌, subst}
+use Rattle.std.proofs.Common.{◌≡◌, ℕ, suc, length, Bool, true, false, true≢false, cond, not, ◌&&◌, ◌||◌, if◌then◌else◌, List, [], ◌∷◌, ◌++◌, bytes_eq, inl, inr, refl, ap, sym, ◌∙◌, subst}
 use Rattle.std.proofs.Math.Bool.{or-false, or-true}
 use Rattle.std.proofs.lemmas.Bool.{or_cases}
 use Rattle.std.proofs.lemmas.Map.Views.{any-filter_same}
@@ -17,10 +17,19 @@ use Rattle.vx_region.specs.Texts.{texts}
 abbrev same_name : Name → Name → Bool
 same_name a b = bytes_eq a.text.bytes b.text.bytes
 
+-- some name passes a test of texts where its text does
+pub any_texts : (p : List ℕ → Bool) (ns : List Name) → list_any p (texts ns) ≡ list_any (λ k. p k.text.bytes) ns
+any_texts p [] = refl
+any_texts p (k ∷ ns) = ap (λ b. p k.text.bytes || b) (any_texts p ns)
+
+-- there are as many texts as names
+pub length_texts : (ns : List Name) → length (texts ns) ≡ length ns
+length_texts [] = refl
+length_texts (k ∷ ns) = ap suc (length_texts ns)
+
 -- a name is among others where its text is among theirs
 pub names_texts : (ns : List Name) (n : Name) → names (texts ns) n.text.bytes ≡ list_any (λ k. bytes_eq n.text.bytes k.text.bytes) ns
-names_texts [] n = refl
-names_texts (k ∷ ns) n = ap (λ b. bytes_eq n.text.bytes k.text.bytes || b) (names_texts ns n)
+names_texts ns n = any_texts (bytes_eq n.text.bytes) ns
 
 texts_push : (ns : List Name) (n : Name) → texts (ns ++ n ∷ []) ≡ texts ns ++ n.text.bytes ∷ []
 texts_push [] n = refl

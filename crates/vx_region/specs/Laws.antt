@@ -7,7 +7,7 @@ use Rattle.vx_region.specs.IdIndex.{HaveOwnIds, NoneIsGlobal}
 use Rattle.vx_region.specs.Regions.{RegionData, Regions, region_at, parent_of, number_of, names, names_of, fresh_region, with_region, without_region, with_name, without_name, setting_at, HasSettings, changed, with_flag}
 use Rattle.vx_region.specs.Subjects.{Actor}
 use Rattle.vx_region.specs.Words.{IsName, IsId, read_name, read_id}
-use Rattle.vx_region.specs.declared.role.Role.{Role}
+use Rattle.vx_region.specs.declared.roster.Roster.{Roster}
 use Rattle.vx_flag.specs.declared.association.Association.TheVariants.{Stranger}
 use Rattle.vx_flag.specs.declared.flag.Flag.{Flag}
 use Rattle.vx_flag.specs.declared.setting.Setting.{Setting}
@@ -49,25 +49,25 @@ abbrev pub NamesOneMore : List (List ℕ) → List ℕ → List (List ℕ) → T
 NamesOneMore old name new = (other : List ℕ)
     → IsTrue (names new other) ↔ (IsTrue (names old other) ⊎ (other ≡ name))
 
--- a region names one more in a role and is as before otherwise
-pub record GainsName (role : Role) (name : List ℕ) (old new : RegionData) : Type 0 where
+-- a region has one name more on a roster and is as before otherwise
+pub record GainsName (roster : Roster) (name : List ℕ) (old new : RegionData) : Type 0 where
   pub id : new.id ≡ old.id
   pub shape : new.shape ≡ old.shape
   pub priority : new.priority ≡ old.priority
   pub parent : new.parent ≡ old.parent
-  pub named : NamesOneMore (names_of role old) name (names_of role new)
-  pub others : (other : Role) → other ≢ role → names_of other new ≡ names_of other old
+  pub named : NamesOneMore (names_of roster old) name (names_of roster new)
+  pub others : (other : Roster) → other ≢ roster → names_of other new ≡ names_of other old
   pub settings : new.settings ≡ old.settings
 
 abbrev pub NameIsAdded : Type 0
-NameIsAdded = (rs : Regions) (n : ℕ) (role : Role) (name : List ℕ) (old : RegionData)
+NameIsAdded = (rs : Regions) (n : ℕ) (roster : Roster) (name : List ℕ) (old : RegionData)
     → region_at rs n ≡ Some old
-    → IsSomeAnd (region_at (with_name rs n role name) n) (GainsName role name old)
+    → IsSomeAnd (region_at (with_name rs n roster name) n) (GainsName roster name old)
 
 -- another region keeps its names and all else
 abbrev pub AddingKeepsOthers : Type 0
-AddingKeepsOthers = (rs : Regions) (n m : ℕ) (role : Role) (name : List ℕ)
-    → m ≢ n → region_at (with_name rs n role name) m ≡ region_at rs m
+AddingKeepsOthers = (rs : Regions) (n m : ℕ) (roster : Roster) (name : List ℕ)
+    → m ≢ n → region_at (with_name rs n roster name) m ≡ region_at rs m
 
 -- the ancestry of a region is the region, and then the whole ancestry of its parent
 abbrev pub AncestryIsWhole : Type 0
@@ -114,25 +114,25 @@ abbrev pub NamesOneLess : List (List ℕ) → List ℕ → List (List ℕ) → T
 NamesOneLess old name new = (other : List ℕ)
     → IsTrue (names new other) ↔ (IsTrue (names old other) × (other ≢ name))
 
--- a region names one less in a role and is as before otherwise
-pub record LosesName (role : Role) (name : List ℕ) (old new : RegionData) : Type 0 where
+-- a region has one name less on a roster and is as before otherwise
+pub record LosesName (roster : Roster) (name : List ℕ) (old new : RegionData) : Type 0 where
   pub id : new.id ≡ old.id
   pub shape : new.shape ≡ old.shape
   pub priority : new.priority ≡ old.priority
   pub parent : new.parent ≡ old.parent
-  pub named : NamesOneLess (names_of role old) name (names_of role new)
-  pub others : (other : Role) → other ≢ role → names_of other new ≡ names_of other old
+  pub named : NamesOneLess (names_of roster old) name (names_of roster new)
+  pub others : (other : Roster) → other ≢ roster → names_of other new ≡ names_of other old
   pub settings : new.settings ≡ old.settings
 
 abbrev pub NameIsDropped : Type 0
-NameIsDropped = (rs : Regions) (n : ℕ) (role : Role) (name : List ℕ) (old : RegionData)
+NameIsDropped = (rs : Regions) (n : ℕ) (roster : Roster) (name : List ℕ) (old : RegionData)
     → region_at rs n ≡ Some old
-    → IsSomeAnd (region_at (without_name rs n role name) n) (LosesName role name old)
+    → IsSomeAnd (region_at (without_name rs n roster name) n) (LosesName roster name old)
 
 -- another region keeps its names and all else
 abbrev pub DroppingKeepsOthers : Type 0
-DroppingKeepsOthers = (rs : Regions) (n m : ℕ) (role : Role) (name : List ℕ)
-    → m ≢ n → region_at (without_name rs n role name) m ≡ region_at rs m
+DroppingKeepsOthers = (rs : Regions) (n m : ℕ) (roster : Roster) (name : List ℕ)
+    → m ≢ n → region_at (without_name rs n roster name) m ≡ region_at rs m
 
 -- after a change of a region, the number has the changed region
 abbrev pub ChangeIsThere : Type 0

@@ -3,6 +3,7 @@ pub mod Ancestry
 pub mod Association
 pub mod BlockSharing
 pub mod Blocks
+pub mod Domains
 pub mod Forest
 pub mod IdIndex
 pub mod IdParts

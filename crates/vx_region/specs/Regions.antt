@@ -6,8 +6,8 @@ use Rattle.vx_flag.specs.declared.flag.Flag.{Flag}
 use Rattle.vx_flag.specs.declared.setting.Setting.{Setting}
 use Rattle.vx_flag.specs.declared.settings.Settings.{Settings}
 use Rattle.vx_flag.specs.Settings.{no_settings, setting_of, with_setting}
-use Rattle.vx_region.specs.declared.role.Role.{Role}
-use Rattle.vx_region.specs.declared.role.Role.TheVariants.{Owner, Member}
+use Rattle.vx_region.specs.declared.roster.Roster.{Roster}
+use Rattle.vx_region.specs.declared.roster.Roster.TheVariants.{Owners, Members, Domains}
 
 -- what a region is
 pub record RegionData : Type 0 where
@@ -17,21 +17,24 @@ pub record RegionData : Type 0 where
   pub parent : Option ℕ
   pub owners : List (List ℕ)
   pub members : List (List ℕ)
+  pub domains : List (List ℕ)
   pub settings : Settings
 
 -- a region with its number
 abbrev pub Entry : Type 0
 Entry = ℕ × RegionData
 
--- the names of a role in a region
-abbrev pub names_of : Role → RegionData → List (List ℕ)
-names_of Owner r = r.owners
-names_of Member r = r.members
+-- the names on a roster of a region
+abbrev pub names_of : Roster → RegionData → List (List ℕ)
+names_of Owners r = r.owners
+names_of Members r = r.members
+names_of Domains r = r.domains
 
--- the region with other names of a role
-abbrev pub with_names : Role → List (List ℕ) → RegionData → RegionData
-with_names Owner names r = record r { owners = names }
-with_names Member names r = record r { members = names }
+-- the region with other names on a roster
+abbrev pub with_names : Roster → List (List ℕ) → RegionData → RegionData
+with_names Owners names r = record r { owners = names }
+with_names Members names r = record r { members = names }
+with_names Domains names r = record r { domains = names }
 
 -- the regions of a world in order of definition, the last number that was ever given, and the flags
 -- of the world at large
@@ -101,6 +104,7 @@ fresh_region id shape = record {
   parent = None;
   owners = [];
   members = [];
+  domains = [];
   settings = no_settings;
 }
 
@@ -134,18 +138,18 @@ with_priority rs n priority = changed (λ r. record r { priority = priority }) n
 unfoldable pub with_parent : Regions → ℕ → Option ℕ → Regions
 with_parent rs n parent = changed (λ r. record r { parent = parent }) n rs
 
--- one more name of a role in a region, or one less
-abbrev pub gaining : Role → List ℕ → RegionData → RegionData
-gaining role name r = with_names role (names_with (names_of role r) name) r
+-- one more name on a roster of a region, or one less
+abbrev pub gaining : Roster → List ℕ → RegionData → RegionData
+gaining roster name r = with_names roster (names_with (names_of roster r) name) r
 
-abbrev pub losing : Role → List ℕ → RegionData → RegionData
-losing role name r = with_names role (names_without (names_of role r) name) r
+abbrev pub losing : Roster → List ℕ → RegionData → RegionData
+losing roster name r = with_names roster (names_without (names_of roster r) name) r
 
-unfoldable pub with_name : Regions → ℕ → Role → List ℕ → Regions
-with_name rs n role name = changed (gaining role name) n rs
+unfoldable pub with_name : Regions → ℕ → Roster → List ℕ → Regions
+with_name rs n roster name = changed (gaining roster name) n rs
 
-unfoldable pub without_name : Regions → ℕ → Role → List ℕ → Regions
-without_name rs n role name = changed (losing role name) n rs
+unfoldable pub without_name : Regions → ℕ → Roster → List ℕ → Regions
+without_name rs n roster name = changed (losing roster name) n rs
 
 -- a flag set or left unset, in the region of a number, or in the world at large for 0
 unfoldable pub with_flag : Regions → ℕ → Flag → Option Setting → Regions

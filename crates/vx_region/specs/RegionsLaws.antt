@@ -11,7 +11,7 @@ use Rattle.std.proofs.lemmas.Slice.Eq.{bytes_eq-Decides}
 use Rattle.vx_geom.specs.OutlineLaws.{outline_decided}
 use Rattle.vx_flag.specs.SettingsLaws.{settings_decided}
 use Rattle.vx_region.specs.Regions.{RegionData, Entry, Regions}
-use Rattle.vx_region.specs.SameRegions.{same_number, same_names, same_place, same_people, same_region, same_entry, same_regions}
+use Rattle.vx_region.specs.SameRegions.{same_number, same_names, same_place, same_rosters, same_region, same_entry, same_regions}
 
 number_decided : (a b : Option ℕ) → Decides (same_number a b) (a ≡ b)
 unfolding same_number
@@ -36,34 +36,37 @@ place_decided a b =
     (Decides-int_eq a.priority b.priority))
     (number_decided a.parent b.parent)
 
-SamePeople : RegionData → RegionData → Type 0
-SamePeople a b = (a.owners ≡ b.owners) × (a.members ≡ b.members)
+SameRosters : RegionData → RegionData → Type 0
+SameRosters a b = ((a.owners ≡ b.owners) × (a.members ≡ b.members)) × (a.domains ≡ b.domains)
 
-people_decided : (a b : RegionData) → Decides (same_people a b) (SamePeople a b)
-unfolding same_people SamePeople
-people_decided a b =
-    Decides-and _ _ (names_decided a.owners b.owners) (names_decided a.members b.members)
+rosters_decided : (a b : RegionData) → Decides (same_rosters a b) (SameRosters a b)
+unfolding same_rosters SameRosters
+rosters_decided a b =
+    Decides-and _ _
+    (Decides-and _ _ (names_decided a.owners b.owners) (names_decided a.members b.members))
+    (names_decided a.domains b.domains)
 
 region_joined : (a b : RegionData)
-    → (SamePlace a b × SamePeople a b) × (a.settings ≡ b.settings) → a ≡ b
-unfolding SamePlace SamePeople
+    → (SamePlace a b × SameRosters a b) × (a.settings ≡ b.settings) → a ≡ b
+unfolding SamePlace SameRosters
 region_joined a b h i = record {
   id = h.0.0.0.0.0 i;
   shape = h.0.0.0.0.1 i;
   priority = h.0.0.0.1 i;
   parent = h.0.0.1 i;
-  owners = h.0.1.0 i;
-  members = h.0.1.1 i;
+  owners = h.0.1.0.0 i;
+  members = h.0.1.0.1 i;
+  domains = h.0.1.1 i;
   settings = h.1 i;
 }
 
 region_parts : (a b : RegionData)
-    → a ≡ b → (SamePlace a b × SamePeople a b) × (a.settings ≡ b.settings)
-unfolding SamePlace SamePeople
+    → a ≡ b → (SamePlace a b × SameRosters a b) × (a.settings ≡ b.settings)
+unfolding SamePlace SameRosters
 region_parts a b e = (
   (
     (((ap (λ r. r.id) e, ap (λ r. r.shape) e), ap (λ r. r.priority) e), ap (λ r. r.parent) e),
-    (ap (λ r. r.owners) e, ap (λ r. r.members) e),
+    ((ap (λ r. r.owners) e, ap (λ r. r.members) e), ap (λ r. r.domains) e),
   ),
   ap (λ r. r.settings) e,
 )
@@ -73,7 +76,7 @@ unfolding same_region
 region_decided a b =
     Decides-like _ (region_joined a b) (region_parts a b)
     (Decides-and _ _
-    (Decides-and _ _ (place_decided a b) (people_decided a b))
+    (Decides-and _ _ (place_decided a b) (rosters_decided a b))
     (settings_decided a.settings b.settings))
 
 pub region_equiv : IsEquivalence same_region

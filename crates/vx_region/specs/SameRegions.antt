@@ -21,13 +21,15 @@ same_place a b =
     bytes_eq a.id b.id && same_outline a.shape b.shape && int_eq a.priority b.priority
     && same_number a.parent b.parent
 
--- the same owners and members
-unfoldable pub same_people : RegionData → RegionData → Bool
-same_people a b = same_names a.owners b.owners && same_names a.members b.members
+-- the same owners, members and domains
+unfoldable pub same_rosters : RegionData → RegionData → Bool
+same_rosters a b =
+    same_names a.owners b.owners && same_names a.members b.members
+    && same_names a.domains b.domains
 
 -- the two regions are the same in every part
 unfoldable pub same_region : RegionData → RegionData → Bool
-same_region a b = same_place a b && same_people a b && same_settings a.settings b.settings
+same_region a b = same_place a b && same_rosters a b && same_settings a.settings b.settings
 
 -- the same region under the same number
 unfoldable pub same_entry : Entry → Entry → Bool

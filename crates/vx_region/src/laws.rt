@@ -18,7 +18,7 @@ pub fn definition_adds_one()
     ensures ids { DefinitionKeepsIds }
 {}
 
-/// Naming an owner or a member adds that one name in that role to that one region.
+/// Naming an owner, a member or a domain adds that one name to that list of that one region.
 pub fn name_is_added()
     ensures added { NameIsAdded }
     ensures others { AddingKeepsOthers }
@@ -50,7 +50,7 @@ pub fn removal_takes_one()
     ensures ids { RemovalKeepsIds }
 {}
 
-/// Dropping an owner or a member takes that one name in that role out of that one region.
+/// Dropping an owner, a member or a domain takes that one name out of that list of that one region.
 pub fn name_is_dropped()
     ensures dropped { NameIsDropped }
     ensures others { DroppingKeepsOthers }

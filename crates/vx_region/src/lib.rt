@@ -1,5 +1,5 @@
-//! Regions of land: their ids, their owners and members by name, and the set of all regions of a
-//! world.
+//! Regions of land: their ids, their owners and members by name, the domains of their machines, and
+//! the set of all regions of a world.
 #![tactic(auto)]
 
 mod block;
@@ -12,7 +12,7 @@ mod region;
 mod region_list;
 mod region_no;
 mod region_set;
-mod role;
+mod roster;
 mod shared_region;
 mod subject;
 mod word;
@@ -28,5 +28,5 @@ pub use name::{BadName, Name};
 pub use region::Region;
 pub use region_no::RegionNo;
 pub use region_set::RegionSet;
-pub use role::Role;
+pub use roster::Roster;
 pub use subject::Subject;

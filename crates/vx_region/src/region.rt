@@ -1,16 +1,16 @@
-ghost use Rattle.std.specs.Prelude.{◌≡◌, false, bytes_eq, option_map, Some, None, OnOk, OnErr};
+ghost use Rattle.std.specs.Prelude.{◌≡◌, false, bytes_eq, option_map, Some, None, IfOk, OnOk, OnErr};
 ghost use Rattle.std.specs.Bool.{Decides};
 ghost use Rattle.std.specs.List.{list_any};
 ghost use Rattle.vx_flag.specs.Settings.{setting_of, with_setting};
 ghost use Rattle.vx_geom.specs.Outline.{is_in};
 ghost use Rattle.vx_region.specs.Regions.{names, names_of, names_with, names_without, gaining, losing, fresh_region};
-ghost use Rattle.vx_region.specs.SameRegions.{same_number, same_names, same_place, same_people, same_region};
+ghost use Rattle.vx_region.specs.SameRegions.{same_number, same_names, same_place, same_rosters, same_region};
 ghost use Rattle.vx_region.specs.Texts.{texts};
 
 use crate::id::Id;
 use crate::name::Name;
 use crate::region_no::RegionNo;
-use crate::role::Role;
+use crate::roster::Roster;
 use indexmap::IndexSet;
 use std::alloc::{AllocError, Global};
 use std::marker::Model;
@@ -20,8 +20,8 @@ use vx_geom::{Pos, Shape};
 /// Up to so many names are compared one by one.
 const FEW: usize = 8;
 
-/// A region: where it lies, its priority and its parent, who its owners and its members are, and
-/// what it sets for each flag.
+/// A region: where it lies, its priority and its parent, who its owners and its members are, the
+/// domains of its machines, and what it sets for each flag.
 #[derive(Drop)]
 pub struct Region {
     id: Id,
@@ -30,6 +30,7 @@ pub struct Region {
     parent: Option<RegionNo>,
     owners: IndexSet<Name>,
     members: IndexSet<Name>,
+    domains: IndexSet<Name>,
     settings: Settings,
 }
 
@@ -47,6 +48,7 @@ impl Model for Region {
       parent = option_map (λ n. n.0) a.parent;
       owners = texts a.owners.keys;
       members = texts a.members.keys;
+      domains = texts a.domains.keys;
       settings = a.settings;
     } };
 }
@@ -63,6 +65,7 @@ impl Region {
             parent: None,
             owners: IndexSet::new(alloc),
             members: IndexSet::new(alloc),
+            domains: IndexSet::new(alloc),
             settings: Settings::new(),
         }
     }
@@ -109,15 +112,23 @@ impl Region {
         self.settings.get(flag)
     }
 
-    /// Whether this player is named in that role.
+    /// Whether the name is on that roster.
     #[tactic(auto, using(crate::proofs::NameLemmas::names_texts))]
-    pub fn has_name(&self, role: Role, name: &Name) -> bool
-        ensures { result ≡ names (names_of role self.now) name.now.text.bytes }
+    pub fn has_name(&self, roster: Roster, name: &Name) -> bool
+        ensures { result ≡ names (names_of roster self.now) name.now.text.bytes }
     {
-        match role {
-            Role::Owner => is_among(&self.owners, name),
-            Role::Member => is_among(&self.members, name),
+        match roster {
+            Roster::Owners => is_among(&self.owners, name),
+            Roster::Members => is_among(&self.members, name),
+            Roster::Domains => is_among(&self.domains, name),
         }
+    }
+
+    /// The domains that it lists itself, in the order in which they were added.
+    pub(crate) fn domains(&self) -> &[Name]
+        ensures { texts result.now ≡ self.now.domains }
+    {
+        self.domains.as_slice()
     }
 
     /// Gives it another parent, or none.
@@ -127,30 +138,32 @@ impl Region {
         self.parent = parent;
     }
 
-    /// Adds a name to that role. One that is there already stays there once.
-    pub(crate) fn add_name(&mut self, role: Role, name: Name) -> Result<(), AllocError>
-        ensures ok { OnOk result (self.new ≡ gaining role name.text.bytes self.old) }
+    /// Adds a name to that roster. One that is there already stays there once.
+    pub(crate) fn add_name(&mut self, roster: Roster, name: Name) -> Result<(), AllocError>
+        ensures ok { OnOk result (self.new ≡ gaining roster name.text.bytes self.old) }
         ensures err { OnErr result (self.new ≡ self.old) }
         // A name that is there needs no room.
-        ensures absent { OnErr result (names (names_of role self.old) name.text.bytes ≡ false) }
+        ensures absent { OnErr result (names (names_of roster self.old) name.text.bytes ≡ false) }
         ensures parent { self.new.parent ≡ self.old.parent }
         ensures id { self.new.id ≡ self.old.id }
     {
-        match role {
-            Role::Owner => add_to(&mut self.owners, name),
-            Role::Member => add_to(&mut self.members, name),
+        match roster {
+            Roster::Owners => add_to(&mut self.owners, name),
+            Roster::Members => add_to(&mut self.members, name),
+            Roster::Domains => add_to(&mut self.domains, name),
         }
     }
 
-    /// Drops a name from that role. Nothing changes where it is not there.
-    pub(crate) fn drop_name(&mut self, role: Role, name: &Name)
-        ensures value { self.new ≡ losing role name.now.text.bytes self.old }
+    /// Drops a name from that roster. Nothing changes where it is not there.
+    pub(crate) fn drop_name(&mut self, roster: Roster, name: &Name)
+        ensures value { self.new ≡ losing roster name.now.text.bytes self.old }
         ensures parent { self.new.parent ≡ self.old.parent }
         ensures id { self.new.id ≡ self.old.id }
     {
-        match role {
-            Role::Owner => drop_from(&mut self.owners, name),
-            Role::Member => drop_from(&mut self.members, name),
+        match roster {
+            Roster::Owners => drop_from(&mut self.owners, name),
+            Roster::Members => drop_from(&mut self.members, name),
+            Roster::Domains => drop_from(&mut self.domains, name),
         }
     }
 
@@ -196,7 +209,7 @@ impl Region {
     fn same_parts(&self, other: &Region) -> bool
         ensures { result ≡ same_region self.now other.now }
     {
-        self.same_place(other) && self.same_people(other) && self.settings == other.settings
+        self.same_place(other) && self.same_rosters(other) && self.settings == other.settings
     }
 
     #[tactic(auto, unfolding(crate::specs::SameRegions::same_place))]
@@ -215,14 +228,17 @@ impl Region {
         same_number(self.parent, other.parent)
     }
 
-    #[tactic(auto, unfolding(crate::specs::SameRegions::same_people))]
-    fn same_people(&self, other: &Region) -> bool
-        ensures { result ≡ same_people self.now other.now }
+    #[tactic(auto, unfolding(crate::specs::SameRegions::same_rosters))]
+    fn same_rosters(&self, other: &Region) -> bool
+        ensures { result ≡ same_rosters self.now other.now }
     {
         if !same_names(self.owners.as_slice(), other.owners.as_slice()) {
             return false;
         }
-        same_names(self.members.as_slice(), other.members.as_slice())
+        if !same_names(self.members.as_slice(), other.members.as_slice()) {
+            return false;
+        }
+        same_names(self.domains.as_slice(), other.domains.as_slice())
     }
 }
 
@@ -234,8 +250,8 @@ impl PartialEq for Region {
 
     ghost laws = { partial_equiv_from_equiv region_equiv };
 
-    /// Whether both are the same in every part: id, shape, priority and parent, the owners and the
-    /// members in their order, and what is set for each flag.
+    /// Whether both are the same in every part: id, shape, priority and parent, the owners, the
+    /// members and the domains in their order, and what is set for each flag.
     fn eq(&self, other: &Region) -> bool
         ensures value { result ≡ same_region self.now other.now }
         ensures decides { Decides result (self.now ≡ other.now) }
@@ -259,11 +275,18 @@ impl Clone for Region {
             shape: self.shape.clone()?,
             priority: self.priority(),
             parent: self.parent,
-            owners: self.owners.clone()?,
-            members: self.members.clone()?,
+            owners: copied(&self.owners)?,
+            members: copied(&self.members)?,
+            domains: copied(&self.domains)?,
             settings: self.settings,
         })
     }
+}
+
+fn copied(these: &IndexSet<Name>) -> Result<IndexSet<Name>, AllocError>
+    ensures { IfOk result (λ copy. copy.keys ≡ these.now.keys) }
+{
+    these.clone()
 }
 
 // Puts a name among these, once. A name that is there needs no room.

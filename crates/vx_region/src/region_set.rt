@@ -7,6 +7,7 @@ ghost use Rattle.vx_region.specs.Regions.{no_regions, region_at, number_of, pare
 ghost use Rattle.vx_region.specs.Subjects.{actor_of};
 
 mod copies;
+mod domains;
 mod edits;
 mod equality;
 mod family;
@@ -17,7 +18,7 @@ use crate::name::Name;
 use crate::region::Region;
 use crate::region_list::RegionList;
 use crate::region_no::RegionNo;
-use crate::role::Role;
+use crate::roster::Roster;
 use crate::shared_region::SharedRegion;
 use crate::subject::Subject;
 use std::alloc::{AllocError, Global};
@@ -174,7 +175,8 @@ impl RegionSet {
     }
 
     /// What the subject is to the region of that number: for a player by the names of the whole
-    /// ancestry, for a machine by where it stands. Everyone is a stranger to `__global__`.
+    /// ancestry, for a machine by where it stands and the domains of that land. Everyone is a stranger
+    /// to `__global__`. It takes no memory.
     #[tactic(auto, unfolding(crate::specs::Association::association))]
     pub fn association(&self, subject: &Subject, number: RegionNo) -> Association
         ensures { result ≡ association self.now (actor_of subject.now) number.0 }
@@ -189,23 +191,23 @@ impl RegionSet {
     fn player_association(&self, name: &Name, number: RegionNo) -> Association
         ensures { result ≡ player_association self.now name.now.text.bytes number.0 }
     {
-        if self.has_name_along(Role::Owner, name, number) {
+        if self.has_name_along(Roster::Owners, name, number) {
             return Association::Owner;
         }
-        if self.has_name_along(Role::Member, name, number) {
+        if self.has_name_along(Roster::Members, name, number) {
             return Association::Member;
         }
         Association::Stranger
     }
 
-    // Whether some region of the ancestry names the player in that role.
+    // Whether some region of the ancestry has the name on that roster.
     #[tactic(auto, unfolding(crate::specs::Association::has_name_along))]
-    fn has_name_along(&self, role: Role, name: &Name, number: RegionNo) -> bool
-        ensures { result ≡ has_name_along self.now role name.now.text.bytes number.0 }
+    fn has_name_along(&self, roster: Roster, name: &Name, number: RegionNo) -> bool
+        ensures { result ≡ has_name_along self.now roster name.now.text.bytes number.0 }
     {
         let mut at = number;
         for _ in 0..u64::from(self.last()) + 1 {
-            let (is_named, parent) = self.naming_at(role, name, at);
+            let (is_named, parent) = self.naming_at(roster, name, at);
             if is_named {
                 return true;
             }
@@ -219,23 +221,23 @@ impl RegionSet {
     }
 
     #[tactic(auto, unfolding(crate::specs::Association::has_name))]
-    fn has_name(&self, role: Role, name: &Name, number: RegionNo) -> bool
-        ensures { result ≡ has_name self.now role name.now.text.bytes number.0 }
+    fn has_name(&self, roster: Roster, name: &Name, number: RegionNo) -> bool
+        ensures { result ≡ has_name self.now roster name.now.text.bytes number.0 }
     {
         match self.get(number) {
-            Some(region) => region.has_name(role, name),
+            Some(region) => region.has_name(roster, name),
             None => false,
         }
     }
 
-    // Whether the region of that number names the player in that role, and its parent.
+    // Whether the region of that number has the name on that roster, and its parent.
     #[tactic(auto, unfolding(crate::specs::Association::has_name, crate::specs::Regions::parent_of))]
-    fn naming_at(&self, role: Role, name: &Name, number: RegionNo) -> (bool, Option<RegionNo>)
-        ensures named { result.0 ≡ has_name self.now role name.now.text.bytes number.0 }
+    fn naming_at(&self, roster: Roster, name: &Name, number: RegionNo) -> (bool, Option<RegionNo>)
+        ensures named { result.0 ≡ has_name self.now roster name.now.text.bytes number.0 }
         ensures parent { option_map (λ n. n.0) result.1 ≡ parent_of self.now number.0 }
     {
         match self.get(number) {
-            Some(region) => (region.has_name(role, name), region.parent()),
+            Some(region) => (region.has_name(roster, name), region.parent()),
             None => (false, None),
         }
     }
@@ -245,10 +247,12 @@ impl RegionSet {
         ensures { result ≡ machine_association self.now place.now number.0 }
     {
         if self.holds_place(place, number) {
-            Association::Owner
-        } else {
-            Association::Stranger
+            return Association::Owner;
         }
+        if self.stands_in_domain(place, number) {
+            return Association::Owner;
+        }
+        Association::Stranger
     }
 
     #[tactic(auto, unfolding(crate::specs::Association::holds_place))]
@@ -283,20 +287,25 @@ impl RegionSet {
         Ok(RegionNo(number))
     }
 
-    /// Adds a name to that role in a region that is there. One that it has already stays there
+    /// Adds a name to that roster of a region that is there. One that it has already stays there
     /// once.
-    pub fn add_name(&mut self, number: RegionNo, role: Role, name: Name) -> Result<(), AllocError>
+    pub fn add_name(
+        &mut self,
+        number: RegionNo,
+        roster: Roster,
+        name: Name,
+    ) -> Result<(), AllocError>
         requires { IsSome (region_at self.old number.0) }
-        ensures ok { OnOk result (self.new ≡ with_name self.old number.0 role name.text.bytes) }
+        ensures ok { OnOk result (self.new ≡ with_name self.old number.0 roster name.text.bytes) }
         ensures err { OnErr result (self.new ≡ self.old) }
         // A name that is there needs no room.
-        ensures absent { OnErr result (has_name self.old role name.text.bytes number.0 ≡ false) }
+        ensures absent { OnErr result (has_name self.old roster name.text.bytes number.0 ≡ false) }
     {
         // A region that has it is not copied.
-        if self.has_name(role, &name, number) {
+        if self.has_name(roster, &name, number) {
             return Ok(());
         }
-        self.regions.own(number.0)?.add_name(role, name)
+        self.regions.own(number.0)?.add_name(roster, name)
     }
 }
 

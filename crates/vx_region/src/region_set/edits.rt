@@ -6,7 +6,7 @@ ghost use Rattle.vx_region.specs.Regions.{region_at, HasSettings, with_shape, wi
 use super::RegionSet;
 use crate::name::Name;
 use crate::region_no::RegionNo;
-use crate::role::Role;
+use crate::roster::Roster;
 use std::alloc::AllocError;
 use vx_flag::{Flag, Setting};
 use vx_geom::Shape;
@@ -66,15 +66,20 @@ impl RegionSet {
         Ok(())
     }
 
-    /// Drops a name from that role in a region that is there. Nothing changes where the region does
-    /// not have it.
-    pub fn drop_name(&mut self, number: RegionNo, role: Role, name: &Name) -> Result<(), AllocError>
+    /// Drops a name from that roster of a region that is there. Nothing changes where it does not have
+    /// the name.
+    pub fn drop_name(
+        &mut self,
+        number: RegionNo,
+        roster: Roster,
+        name: &Name,
+    ) -> Result<(), AllocError>
         requires { IsSome (region_at self.old number.0) }
         ensures ok { OnOk result
-            (self.new ≡ without_name self.old number.0 role name.now.text.bytes) }
+            (self.new ≡ without_name self.old number.0 roster name.now.text.bytes) }
         ensures err { OnErr result (self.new ≡ self.old) }
     {
-        self.regions.own(number.0)?.drop_name(role, name);
+        self.regions.own(number.0)?.drop_name(roster, name);
         Ok(())
     }
 }

@@ -1,6 +1,6 @@
 use Rattle.vx_region.specs.Regions.{gaining, with_name}
 use Rattle.vx_region.proofs.Changes.{region_elsewhere}
-use Rattle.vx_region.proofs.Roles.{name_added}
+use Rattle.vx_region.proofs.Rosters.{name_added}
 use Rattle.vx_region.proofs.laws.name_is_added.Goals as goal
 
 pub returns-clause-added : goal.returns-clause-added
@@ -8,4 +8,4 @@ returns-clause-added c = name_added
 
 pub returns-clause-others : goal.returns-clause-others
 unfolding with_name
-returns-clause-others c rs n m role name other = region_elsewhere (gaining role name) n m rs other
+returns-clause-others c rs n m roster name other = region_elsewhere (gaining roster name) n m rs other

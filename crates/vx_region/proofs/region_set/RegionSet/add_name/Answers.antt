@@ -3,14 +3,14 @@ use Rattle.std.proofs.lemmas.Result.{on_ok_weaker, on_err_weaker}
 use Rattle.vx_region.specs.Regions.{gaining, with_name}
 use Rattle.vx_region.specs.contracts.region_set.RegionSet.{the_view}
 use Rattle.vx_region.proofs.Owning.{left_back, over_sound, over_changed}
-use Rattle.vx_region.proofs.Roles.{named_already}
+use Rattle.vx_region.proofs.Rosters.{named_already}
 use Rattle.vx_region.proofs.Lookups.{known_found}
 use Rattle.vx_region.proofs.region_set.RegionSet.add_name.Goals as goal
 
 pub returns-then-has_name-clause-ok : goal.returns-then-has_name-clause-ok
 returns-then-has_name-clause-ok c =
     let has = sym c.has_name.ensures ∙ c.if-has_name.true in
-    rw (← c.self.view_is) (sym (named_already (the_view c.self.inside) c.args.number.0 c.args.role c.args.name.text.bytes
+    rw (← c.self.view_is) (sym (named_already (the_view c.self.inside) c.args.number.0 c.args.roster c.args.name.text.bytes
     c.self.invariant.forest.numbered (rw c.self.view_is has)))
 
 pub own-requires-clause-known : goal.own-requires-clause-known
@@ -28,7 +28,7 @@ returns-clause-ok c =
     rw (← c.self.view_is) (on_ok_weaker c.add_name.result
     (over_changed c.args.number.0 (the_view c.self.inside) _ c.in_ok-own.field-0.now c.add_name.new.self c.in_ok-own.ensures.value
     (c.own.follows.holds c.add_name.new.self (ap is_ok c.in_ok-own.was))
-    (gaining c.args.role c.args.name.text.bytes) c.self.invariant.forest)
+    (gaining c.args.roster c.args.name.text.bytes) c.self.invariant.forest)
     c.add_name.ensures.ok)
 
 pub returns-clause-err : goal.returns-clause-err

@@ -20,4 +20,4 @@ returns-clause-ok c =
     rw (← c.self.view_is)
     (over_changed c.args.number.0 (the_view c.self.inside) _ c.in_ok-own.field-0.now c.drop_name.new.self c.in_ok-own.ensures.value
     (c.own.follows.holds c.drop_name.new.self (ap is_ok c.in_ok-own.was))
-    (losing c.args.role c.args.name.now.text.bytes) c.self.invariant.forest c.drop_name.ensures.value)
+    (losing c.args.roster c.args.name.now.text.bytes) c.self.invariant.forest c.drop_name.ensures.value)

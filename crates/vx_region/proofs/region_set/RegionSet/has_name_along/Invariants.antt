@@ -7,5 +7,5 @@ use Rattle.vx_region.proofs.region_set.RegionSet.has_name_along.Given as goal
 -- whether such a region comes is still to be seen
 abbrev pub invariant-loop : goal.invariant-loop
 invariant-loop l =
-    list_any (has_name l.self l.role l.name.text.bytes) (chain (l.end - l.counter) l.self l.at.0)
-    ≡ list_any (has_name l.self l.role l.name.text.bytes) (ancestors l.self l.fn.number.0)
+    list_any (has_name l.self l.roster l.name.text.bytes) (chain (l.end - l.counter) l.self l.at.0)
+    ≡ list_any (has_name l.self l.roster l.name.text.bytes) (ancestors l.self l.fn.number.0)

@@ -10,7 +10,7 @@ use Rattle.vx_region.specs.Regions.{Entry, Regions, region_at, number_of, is_glo
 use Rattle.vx_region.specs.Words.{read_id, read_name}
 use Rattle.vx_policy.specs.Asked.{Asked, Define, Reshape, Remove, Priority, Parent, SetFlag, ClearFlag, Listed, target}
 use Rattle.vx_policy.specs.Refusals.{last_number, is_known, is_at_large, numbered, is_such, is_definition, is_of_flags, some_id, is_full, holds, causes, refusal}
-use Rattle.vx_region.specs.declared.role.Role.{Role}
+use Rattle.vx_region.specs.declared.roster.Roster.{Roster}
 use Rattle.vx_policy.specs.declared.listing.Listing.{Listing}
 use Rattle.vx_policy.specs.declared.edit_refusal.EditRefusal.{EditRefusal}
 use Rattle.vx_policy.specs.declared.edit_refusal.EditRefusal.TheVariants.{BadId, Known, Unknown, HasChildren, Cycle, BadShape, BadName, GlobalHasNone, TooManyRegions}
@@ -95,7 +95,7 @@ the_target test (Priority id priority) h = h
 the_target test (Parent id parent) h = (neither (test id) (is_such test parent) h).0
 the_target test (SetFlag id flag setting) h = h
 the_target test (ClearFlag id flag) h = h
-the_target test (Listed role id listing name) h = h
+the_target test (Listed roster id listing name) h = h
 
 other_than : (a b : Bool) → a ≡ false → (not a && b) ≡ false → b ≡ false
 other_than false b a h = h
@@ -152,7 +152,7 @@ pub new_shape : (rs : Regions) (id : List ℕ) (shape : Written) → refusal rs 
 new_shape rs id shape none nothing = spelled_or (outline_asked shape) nothing (holds_not _ (nothing_against rs (Reshape id shape) none BadShape))
 
 -- the name is spelled
-pub name_spelled : (rs : Regions) (role : Role) (id : List ℕ) (listing : Listing) (name : List ℕ)
-    → refusal rs (Listed role id listing name) ≡ None → read_name name ≡ None → ⊥
-name_spelled rs role id listing name none misspelled =
-    spelled_or (read_name name) misspelled (holds_not _ (nothing_against rs (Listed role id listing name) none BadName))
+pub name_spelled : (rs : Regions) (roster : Roster) (id : List ℕ) (listing : Listing) (name : List ℕ)
+    → refusal rs (Listed roster id listing name) ≡ None → read_name name ≡ None → ⊥
+name_spelled rs roster id listing name none misspelled =
+    spelled_or (read_name name) misspelled (holds_not _ (nothing_against rs (Listed roster id listing name) none BadName))

@@ -7,7 +7,7 @@ use Rattle.vx_flag.specs.declared.setting.Setting.{Setting}
 use Rattle.vx_geom.specs.Written.{outline_asked}
 use Rattle.vx_region.specs.Regions.{Regions, setting_at, with_region, without_region, with_shape, with_priority, with_parent, with_flag, with_name, without_name}
 use Rattle.vx_region.specs.Words.{read_id, read_name}
-use Rattle.vx_region.specs.declared.role.Role.{Role}
+use Rattle.vx_region.specs.declared.roster.Roster.{Roster}
 use Rattle.vx_region.proofs.FlagChanges.{setting_kept}
 use Rattle.vx_region.proofs.Globals.{flag_at_large}
 use Rattle.vx_policy.specs.Asked.{Asked, Define, Reshape, Remove, Priority, Parent, SetFlag, ClearFlag, Listed, target}
@@ -23,10 +23,10 @@ abbrev SameFlag : Flag → Regions → Regions → Type 0
 SameFlag f rs s = setting_at s 0 f ≡ setting_at rs 0 f
 
 module _ (rs : Regions) (f : Flag) where
-  name_listed : (n : ℕ) (role : Role) (listing : Listing) (name : List ℕ) → SameFlag f rs (listed rs n role listing name)
+  name_listed : (n : ℕ) (roster : Roster) (listing : Listing) (name : List ℕ) → SameFlag f rs (listed rs n roster listing name)
   unfolding setting_at with_name without_name
-  name_listed n role Add name = refl
-  name_listed n role Drop name = refl
+  name_listed n roster Add name = refl
+  name_listed n roster Drop name = refl
 
   -- a flag that is set by a number that is not 0
   flagged : (o : Option ℕ) (g : Flag) (setting : Option Setting) → is_such (nat_eq 0) o ≡ false → SameFlag f rs (given rs o (λ n. with_flag rs n g setting))
@@ -44,8 +44,8 @@ module _ (rs : Regions) (f : Flag) where
   flag_kept (Parent id parent) local = kept_given (SameFlag f rs) rs (numbered rs id) _ refl (λ n. refl)
   flag_kept (SetFlag id flag setting) local = flagged (numbered rs id) flag (Some setting) local
   flag_kept (ClearFlag id flag) local = flagged (numbered rs id) flag None local
-  flag_kept (Listed role id listing name) local =
-      kept_given (SameFlag f rs) rs (numbered rs id) _ refl (λ n. kept_given (SameFlag f rs) rs (read_name name) _ refl (name_listed n role listing))
+  flag_kept (Listed roster id listing name) local =
+      kept_given (SameFlag f rs) rs (numbered rs id) _ refl (λ n. kept_given (SameFlag f rs) rs (read_name name) _ refl (name_listed n roster listing))
 
 -- an edit that is not of the world at large leaves each flag of it as it was
 pub flags_at_large_are_kept : (rs : Regions) (e : Asked) (f : Flag) → is_at_large rs (target e) ≡ false → setting_at (edited rs e) 0 f ≡ setting_at rs 0 f

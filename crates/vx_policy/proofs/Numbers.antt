@@ -10,7 +10,7 @@ use Rattle.vx_region.specs.Words.{read_id, read_name}
 use Rattle.vx_policy.specs.Asked.{Asked, Define, Reshape, Remove, Priority, Parent, SetFlag, ClearFlag, Listed}
 use Rattle.vx_policy.specs.Edits.{given, listed, edited, number_given, after}
 use Rattle.vx_policy.specs.Refusals.{numbered, refusal}
-use Rattle.vx_region.specs.declared.role.Role.{Role}
+use Rattle.vx_region.specs.declared.roster.Roster.{Roster}
 use Rattle.vx_policy.specs.declared.listing.Listing.{Listing}
 use Rattle.vx_policy.specs.declared.listing.Listing.TheVariants.{Add, Drop}
 use Rattle.vx_policy.proofs.Accepted.{id_spelled, shape_there}
@@ -28,10 +28,10 @@ flagged rs n f o = by (nat_eq n 0)
     by true = refl
     by false = refl
 
-name_listed : (rs : Regions) (n : ℕ) (role : Role) (listing : Listing) (name : List ℕ) → SameLast rs (listed rs n role listing name)
+name_listed : (rs : Regions) (n : ℕ) (roster : Roster) (listing : Listing) (name : List ℕ) → SameLast rs (listed rs n roster listing name)
 unfolding with_name without_name
-name_listed rs n role Add name = refl
-name_listed rs n role Drop name = refl
+name_listed rs n roster Add name = refl
+name_listed rs n roster Drop name = refl
 
 -- an edit that gives no number leaves the last one as it was
 pub last_is_kept : (rs : Regions) (e : Asked) → number_given rs e ≡ None → (edited rs e).last ≡ rs.last
@@ -44,8 +44,8 @@ last_is_kept rs (Priority id priority) none = kept_given (SameLast rs) rs (numbe
 last_is_kept rs (Parent id parent) none = kept_given (SameLast rs) rs (numbered rs id) _ refl (λ n. refl)
 last_is_kept rs (SetFlag id flag setting) none = kept_given (SameLast rs) rs (numbered rs id) _ refl (λ n. flagged rs n flag (Some setting))
 last_is_kept rs (ClearFlag id flag) none = kept_given (SameLast rs) rs (numbered rs id) _ refl (λ n. flagged rs n flag None)
-last_is_kept rs (Listed role id listing name) none =
-    kept_given (SameLast rs) rs (numbered rs id) _ refl (λ n. kept_given (SameLast rs) rs (read_name name) _ refl (name_listed rs n role listing))
+last_is_kept rs (Listed roster id listing name) none =
+    kept_given (SameLast rs) rs (numbered rs id) _ refl (λ n. kept_given (SameLast rs) rs (read_name name) _ refl (name_listed rs n roster listing))
 
 -- a number that is given is above all that were given
 pub number_is_new : (rs : Regions) (e : Asked) (n : ℕ) → number_given rs e ≡ Some n → rs.last < n

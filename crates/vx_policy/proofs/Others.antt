@@ -16,7 +16,7 @@ use Rattle.vx_region.proofs.Removals.{region_beside}
 use Rattle.vx_policy.specs.Asked.{Asked, Define, Reshape, Remove, Priority, Parent, SetFlag, ClearFlag, Listed, target}
 use Rattle.vx_policy.specs.Edits.{given, listed, edited}
 use Rattle.vx_policy.specs.Refusals.{numbered, is_definition}
-use Rattle.vx_region.specs.declared.role.Role.{Role}
+use Rattle.vx_region.specs.declared.roster.Roster.{Roster}
 use Rattle.vx_policy.specs.declared.listing.Listing.{Listing}
 use Rattle.vx_policy.specs.declared.listing.Listing.TheVariants.{Add, Drop}
 use Rattle.vx_policy.proofs.Parts.{kept_given}
@@ -49,10 +49,10 @@ module _ (rs : Regions) (n m : ℕ) (other : m ≢ n) where
         | inr region ↦ ap (λ s. region_at s m) (flag_of_region rs n f o region) ∙ region_elsewhere _ n m rs other
       ]
 
-  name_listed : (role : Role) (listing : Listing) (name : List ℕ) → SameAt m rs (listed rs n role listing name)
+  name_listed : (roster : Roster) (listing : Listing) (name : List ℕ) → SameAt m rs (listed rs n roster listing name)
   unfolding with_name without_name
-  name_listed role Add name = region_elsewhere _ n m rs other
-  name_listed role Drop name = region_elsewhere _ n m rs other
+  name_listed roster Add name = region_elsewhere _ n m rs other
+  name_listed roster Drop name = region_elsewhere _ n m rs other
 
   -- an edit leaves each region but the one that it names as it was
   others_kept : (e : Asked) → is_definition e ≡ false → numbered rs (target e) ≡ Some n → region_at (edited rs e) m ≡ region_at rs m
@@ -65,7 +65,7 @@ module _ (rs : Regions) (n m : ℕ) (other : m ≢ n) where
   others_kept (Parent id parent) old is = named id _ is (region_elsewhere _ n m rs other)
   others_kept (SetFlag id flag setting) old is = named id _ is (flagged flag (Some setting))
   others_kept (ClearFlag id flag) old is = named id _ is (flagged flag None)
-  others_kept (Listed role id listing name) old is = named id _ is (kept_given (SameAt m rs) rs (read_name name) _ refl (name_listed role listing))
+  others_kept (Listed roster id listing name) old is = named id _ is (kept_given (SameAt m rs) rs (read_name name) _ refl (name_listed roster listing))
 
 pub others_are_kept : (rs : Regions) (e : Asked) (n m : ℕ) → is_definition e ≡ false → numbered rs (target e) ≡ Some n → m ≢ n → region_at (edited rs e) m ≡ region_at rs m
 others_are_kept rs e n m old is other = others_kept rs n m other e old is

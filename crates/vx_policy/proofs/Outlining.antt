@@ -6,8 +6,8 @@ use Rattle.vx_flag.specs.declared.flag.Flag.{Flag}
 use Rattle.vx_flag.specs.declared.setting.Setting.{Setting}
 use Rattle.vx_geom.specs.Outline.{Outline}
 use Rattle.vx_geom.specs.Written.{Written, outline_asked}
-use Rattle.vx_region.specs.declared.role.Role.{Role}
-use Rattle.vx_region.specs.declared.role.Role.TheVariants.{Owner, Member}
+use Rattle.vx_region.specs.declared.roster.Roster.{Roster}
+use Rattle.vx_region.specs.declared.roster.Roster.TheVariants.{Owners, Members, Domains}
 use Rattle.vx_region.specs.Regions.{RegionData, Regions, region_at, changed, gaining, losing, without_region, with_shape, with_priority, with_parent, with_flag, with_name, without_name}
 use Rattle.vx_region.specs.Words.{read_id, read_name}
 use Rattle.vx_region.proofs.Changes.{region_changed, region_elsewhere, region_kept}
@@ -66,18 +66,20 @@ module _ (rs : Regions) (n : ℕ) where
         | inr region ↦ ap (λ after. shape_at after m) (flag_of_region rs n f o region) ∙ shapes_kept _ (λ r. refl) n rs m
       ]
 
-  gained : (role : Role) (name : List ℕ) (r : RegionData) → (gaining role name r).shape ≡ r.shape
-  gained Owner name r = refl
-  gained Member name r = refl
+  gained : (roster : Roster) (name : List ℕ) (r : RegionData) → (gaining roster name r).shape ≡ r.shape
+  gained Owners name r = refl
+  gained Members name r = refl
+  gained Domains name r = refl
 
-  lost : (role : Role) (name : List ℕ) (r : RegionData) → (losing role name r).shape ≡ r.shape
-  lost Owner name r = refl
-  lost Member name r = refl
+  lost : (roster : Roster) (name : List ℕ) (r : RegionData) → (losing roster name r).shape ≡ r.shape
+  lost Owners name r = refl
+  lost Members name r = refl
+  lost Domains name r = refl
 
-  name_listed : (role : Role) (listing : Listing) (name : List ℕ) → Keeps rs (listed rs n role listing name)
+  name_listed : (roster : Roster) (listing : Listing) (name : List ℕ) → Keeps rs (listed rs n roster listing name)
   unfolding with_name without_name
-  name_listed role Add name = shapes_kept (gaining role name) (gained role name) n rs
-  name_listed role Drop name = shapes_kept (losing role name) (lost role name) n rs
+  name_listed roster Add name = shapes_kept (gaining roster name) (gained roster name) n rs
+  name_listed roster Drop name = shapes_kept (losing roster name) (lost roster name) n rs
 
 -- an edit of another kind leaves all shapes
 kept_shapes : (rs : Regions) (e : Asked) → keeps_shapes e ≡ true → Keeps rs (edited rs e)
@@ -91,9 +93,9 @@ kept_shapes rs (Parent id parent) keeps =
     kept_given (Keeps rs) rs (numbered rs id) _ (keeps_all rs) (λ n. shapes_kept _ (λ r. refl) n rs)
 kept_shapes rs (SetFlag id flag setting) keeps = kept_given (Keeps rs) rs (numbered rs id) _ (keeps_all rs) (λ n. flagged rs n flag (Some setting))
 kept_shapes rs (ClearFlag id flag) keeps = kept_given (Keeps rs) rs (numbered rs id) _ (keeps_all rs) (λ n. flagged rs n flag None)
-kept_shapes rs (Listed role id listing name) keeps =
+kept_shapes rs (Listed roster id listing name) keeps =
     kept_given (Keeps rs) rs (numbered rs id) _ (keeps_all rs)
-    (λ n. kept_given (Keeps rs) rs (read_name name) _ (keeps_all rs) (λ word. name_listed rs n role listing word))
+    (λ n. kept_given (Keeps rs) rs (read_name name) _ (keeps_all rs) (λ word. name_listed rs n roster listing word))
 
 pub others_kept : (rs : Regions) (e : Asked) (o : Option ℕ) → keeps_shapes e ≡ true → ShapesStayBut o rs (edited rs e)
 others_kept rs e o keeps n other = kept_shapes rs e keeps n

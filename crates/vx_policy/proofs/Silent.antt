@@ -12,8 +12,8 @@ use Rattle.vx_flag.proofs.Own.{one_place}
 use Rattle.vx_geom.specs.Outline.{Outline}
 use Rattle.vx_geom.specs.Written.{outline_asked}
 use Rattle.vx_decide.specs.Unset.{IsUnset, sets}
-use Rattle.vx_region.specs.declared.role.Role.{Role}
-use Rattle.vx_region.specs.declared.role.Role.TheVariants.{Owner, Member}
+use Rattle.vx_region.specs.declared.roster.Roster.{Roster}
+use Rattle.vx_region.specs.declared.roster.Roster.TheVariants.{Owners, Members, Domains}
 use Rattle.vx_region.specs.Regions.{RegionData, Entry, Regions, no_regions, setting_at, changed, changed_at, gaining, losing, with_region, without_region, with_shape, with_priority, with_parent, with_flag, with_name, without_name}
 use Rattle.vx_region.specs.Words.{read_id, read_name}
 use Rattle.vx_region.proofs.Globals.{flag_at_large, flag_of_region}
@@ -82,18 +82,20 @@ module _ (rs : Regions) (f : Flag) (unset : IsUnset rs f) where
   unfolding without_region setting_at
   removed_silent n = record { at_large = unset.at_large; each = any_filtered f _ rs.entries unset.each }
 
-  gained : (role : Role) (name : List ℕ) (r : RegionData) → is_some (setting_of r.settings f) ≡ false → is_some (setting_of (gaining role name r).settings f) ≡ false
-  gained Owner name r none = none
-  gained Member name r none = none
+  gained : (roster : Roster) (name : List ℕ) (r : RegionData) → is_some (setting_of r.settings f) ≡ false → is_some (setting_of (gaining roster name r).settings f) ≡ false
+  gained Owners name r none = none
+  gained Members name r none = none
+  gained Domains name r none = none
 
-  lost : (role : Role) (name : List ℕ) (r : RegionData) → is_some (setting_of r.settings f) ≡ false → is_some (setting_of (losing role name r).settings f) ≡ false
-  lost Owner name r none = none
-  lost Member name r none = none
+  lost : (roster : Roster) (name : List ℕ) (r : RegionData) → is_some (setting_of r.settings f) ≡ false → is_some (setting_of (losing roster name r).settings f) ≡ false
+  lost Owners name r none = none
+  lost Members name r none = none
+  lost Domains name r none = none
 
-  listed_silent : (n : ℕ) (role : Role) (listing : Listing) (name : List ℕ) → IsUnset (listed rs n role listing name) f
+  listed_silent : (n : ℕ) (roster : Roster) (listing : Listing) (name : List ℕ) → IsUnset (listed rs n roster listing name) f
   unfolding with_name without_name
-  listed_silent n role Add name = changed_silent f (gaining role name) (gained role name) n rs unset
-  listed_silent n role Drop name = changed_silent f (losing role name) (lost role name) n rs unset
+  listed_silent n roster Add name = changed_silent f (gaining roster name) (gained roster name) n rs unset
+  listed_silent n roster Drop name = changed_silent f (losing roster name) (lost roster name) n rs unset
 
   -- a flag that is set to nothing, or another one
   module _ (n : ℕ) (g : Flag) (o : Option Setting) (quiet : (s : Settings) → is_some (setting_of s f) ≡ false → is_some (setting_of (with_setting s g o) f) ≡ false) where
@@ -144,6 +146,6 @@ unset_stays rs (SetFlag id flag setting) f unset other =
 unset_stays rs (ClearFlag id flag) f unset other =
     kept_given (λ us. IsUnset us f) rs (numbered rs id) _ unset
     (λ n. flagged rs f unset n flag None (λ s none. cleared s f flag none))
-unset_stays rs (Listed role id listing name) f unset other =
+unset_stays rs (Listed roster id listing name) f unset other =
     kept_given (λ us. IsUnset us f) rs (numbered rs id) _ unset
-    (λ n. kept_given (λ us. IsUnset us f) rs (read_name name) _ unset (λ word. listed_silent rs f unset n role listing word))
+    (λ n. kept_given (λ us. IsUnset us f) rs (read_name name) _ unset (λ word. listed_silent rs f unset n roster listing word))

@@ -5,8 +5,8 @@ use Rattle.vx_geom.specs.Written.{Written, written}
 use Rattle.vx_policy.specs.declared.edit.Edit.{Edit}
 use Rattle.vx_policy.specs.declared.edit.Edit.TheVariants as edit
 use Rattle.vx_policy.specs.declared.listing.Listing.{Listing}
-use Rattle.vx_region.specs.declared.role.Role.{Role}
-use Rattle.vx_region.specs.declared.role.Role.TheVariants.{Owner, Member}
+use Rattle.vx_region.specs.declared.roster.Roster.{Roster}
+use Rattle.vx_region.specs.declared.roster.Roster.TheVariants.{Owners, Members, Domains}
 
 -- what an edit asks for: its ids, names and shapes as they are written
 pub data Asked : Type 0 where
@@ -17,7 +17,7 @@ pub data Asked : Type 0 where
   Parent : List ℕ → Option (List ℕ) → Asked
   SetFlag : List ℕ → Flag → Setting → Asked
   ClearFlag : List ℕ → Flag → Asked
-  Listed : Role → List ℕ → Listing → List ℕ → Asked
+  Listed : Roster → List ℕ → Listing → List ℕ → Asked
 
 -- what an edit asks for
 abbrev pub asked : Edit → Asked
@@ -28,8 +28,9 @@ asked (edit.Priority id priority) = Priority (string_bytes id) priority
 asked (edit.Parent id parent) = Parent (string_bytes id) (option_map string_bytes parent)
 asked (edit.SetFlag id flag setting) = SetFlag (string_bytes id) flag setting
 asked (edit.ClearFlag id flag) = ClearFlag (string_bytes id) flag
-asked (edit.Owner id listing name) = Listed Owner (string_bytes id) listing (string_bytes name)
-asked (edit.Member id listing name) = Listed Member (string_bytes id) listing (string_bytes name)
+asked (edit.Owner id listing name) = Listed Owners (string_bytes id) listing (string_bytes name)
+asked (edit.Member id listing name) = Listed Members (string_bytes id) listing (string_bytes name)
+asked (edit.Domain id listing name) = Listed Domains (string_bytes id) listing (string_bytes name)
 
 -- the id that an edit names
 abbrev pub target : Asked → List ℕ
@@ -40,4 +41,4 @@ target (Priority id priority) = id
 target (Parent id parent) = id
 target (SetFlag id flag setting) = id
 target (ClearFlag id flag) = id
-target (Listed role id listing name) = id
+target (Listed roster id listing name) = id

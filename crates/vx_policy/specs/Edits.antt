@@ -5,7 +5,7 @@ use Rattle.vx_region.specs.Regions.{Regions, with_region, without_region, with_s
 use Rattle.vx_region.specs.Words.{read_id, read_name}
 use Rattle.vx_policy.specs.Asked.{Asked, Define, Reshape, Remove, Priority, Parent, SetFlag, ClearFlag, Listed}
 use Rattle.vx_policy.specs.Refusals.{numbered, refusal}
-use Rattle.vx_region.specs.declared.role.Role.{Role}
+use Rattle.vx_region.specs.declared.roster.Roster.{Roster}
 use Rattle.vx_policy.specs.declared.listing.Listing.{Listing}
 use Rattle.vx_policy.specs.declared.listing.Listing.TheVariants.{Add, Drop}
 
@@ -14,10 +14,10 @@ abbrev pub given : {A : Type 0} → Regions → Option A → (A → Regions) →
 given rs None change = rs
 given rs (Some x) change = change x
 
--- a name of a role more or less
-abbrev pub listed : Regions → ℕ → Role → Listing → List ℕ → Regions
-listed rs n role Add name = with_name rs n role name
-listed rs n role Drop name = without_name rs n role name
+-- a name on a roster more or less
+abbrev pub listed : Regions → ℕ → Roster → Listing → List ℕ → Regions
+listed rs n roster Add name = with_name rs n roster name
+listed rs n roster Drop name = without_name rs n roster name
 
 -- the regions after an edit that was accepted
 unfoldable pub edited : Regions → Asked → Regions
@@ -32,8 +32,8 @@ edited rs (Parent id parent) =
 edited rs (SetFlag id flag setting) =
     given rs (numbered rs id) (λ n. with_flag rs n flag (Some setting))
 edited rs (ClearFlag id flag) = given rs (numbered rs id) (λ n. with_flag rs n flag None)
-edited rs (Listed role id listing name) =
-    given rs (numbered rs id) (λ n. given rs (read_name name) (listed rs n role listing))
+edited rs (Listed roster id listing name) =
+    given rs (numbered rs id) (λ n. given rs (read_name name) (listed rs n roster listing))
 
 -- the number that an edit gives: a definition the one above all that were ever given
 abbrev pub number_given : Regions → Asked → Option ℕ

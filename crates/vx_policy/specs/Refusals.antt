@@ -57,9 +57,9 @@ abbrev pub some_id : (List ℕ → Bool) → Asked → Bool
 some_id test (Parent id parent) = test id || is_such test parent
 some_id test e = test (target e)
 
--- the owner or member that the edit names has no name's spelling
+-- the owner, member or domain that the edit names has no name's spelling
 abbrev pub misspells_name : Asked → Bool
-misspells_name (Listed role id listing name) = not (is_name name)
+misspells_name (Listed roster id listing name) = not (is_name name)
 misspells_name e = false
 
 -- the shape that the edit names is none

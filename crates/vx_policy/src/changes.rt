@@ -11,7 +11,7 @@ use crate::listing::Listing;
 use std::alloc::{AllocError, Global};
 use vx_flag::{Flag, Setting};
 use vx_geom::ShapeSpec;
-use vx_region::{Id, Name, RegionNo, RegionSet, Role};
+use vx_region::{Id, Name, RegionNo, RegionSet, Roster};
 
 /// Makes an edit of the regions that nothing stands against, and answers the number that a
 /// definition gave. Where copies share the regions, the region that it changes is copied first with
@@ -29,10 +29,13 @@ pub(crate) fn change(
     match edit {
         Edit::Define(id, shape) => Ok(Some(define(regions, alloc, &id, shape)?)),
         Edit::Owner(id, listing, name) => {
-            list(regions, Role::Owner, &id, listing, &name).and(Ok(None))
+            list(regions, Roster::Owners, &id, listing, &name).and(Ok(None))
         }
         Edit::Member(id, listing, name) => {
-            list(regions, Role::Member, &id, listing, &name).and(Ok(None))
+            list(regions, Roster::Members, &id, listing, &name).and(Ok(None))
+        }
+        Edit::Domain(id, listing, name) => {
+            list(regions, Roster::Domains, &id, listing, &name).and(Ok(None))
         }
         Edit::Reshape(id, shape) => reshape(regions, &id, shape).and(Ok(None)),
         Edit::Remove(id) => remove(regions, &id).and(Ok(None)),
@@ -150,14 +153,14 @@ fn clear_flag(regions: &mut RegionSet, id: &str, flag: Flag) -> Result<(), Alloc
 #[tactic(auto, unfolding(crate::specs::Edits::edited))]
 fn list(
     regions: &mut RegionSet,
-    role: Role,
+    roster: Roster,
     id: &str,
     listing: Listing,
     name: &str,
 ) -> Result<(), AllocError>
-    requires { refusal regions.old (Listed role id.now listing name.now) ≡ None }
+    requires { refusal regions.old (Listed roster id.now listing name.now) ≡ None }
     ensures ok { OnOk result
-        (regions.new ≡ edited regions.old (Listed role id.now listing name.now)) }
+        (regions.new ≡ edited regions.old (Listed roster id.now listing name.now)) }
     ensures err { OnErr result (regions.new ≡ regions.old) }
 {
     let number = region(regions, id);
@@ -165,8 +168,8 @@ fn list(
         unreachable!();
     };
     match listing {
-        Listing::Add => regions.add_name(number, role, name),
-        Listing::Drop => regions.drop_name(number, role, &name),
+        Listing::Add => regions.add_name(number, roster, name),
+        Listing::Drop => regions.drop_name(number, roster, &name),
     }
 }
 

@@ -5,7 +5,7 @@ use crate::listing::Listing;
 use std::alloc::{AllocError, Global};
 use vx_flag::{Flag, Setting};
 use vx_geom::ShapeSpec;
-use vx_region::Role;
+use vx_region::Roster;
 
 /// A change of the written policy, as it is asked for. Ids and names are texts, and shapes as they
 /// are written: what is wrong with them is told where the edit is applied. docs/RULES.md says what
@@ -30,16 +30,19 @@ pub enum Edit {
     Owner(String, Listing, String),
     /// A name is added to the members, or dropped from them.
     Member(String, Listing, String),
+    /// A name is added to the domains of machines, or dropped from them.
+    Domain(String, Listing, String),
 }
 
 impl Edit {
-    /// The edit that adds a name to that role, or drops it.
-    pub fn listed(role: Role, id: String, listing: Listing, name: String) -> Edit
-        ensures { asked result ≡ Listed role (string_bytes id) listing (string_bytes name) }
+    /// The edit that adds a name to that roster, or drops it.
+    pub fn listed(roster: Roster, id: String, listing: Listing, name: String) -> Edit
+        ensures { asked result ≡ Listed roster (string_bytes id) listing (string_bytes name) }
     {
-        match role {
-            Role::Owner => Edit::Owner(id, listing, name),
-            Role::Member => Edit::Member(id, listing, name),
+        match roster {
+            Roster::Owners => Edit::Owner(id, listing, name),
+            Roster::Members => Edit::Member(id, listing, name),
+            Roster::Domains => Edit::Domain(id, listing, name),
         }
     }
 
@@ -65,6 +68,9 @@ impl Edit {
             Edit::Member(_, listing, name) => {
                 Ok(Edit::Member(id, *listing, String::from_str(alloc, name)?))
             }
+            Edit::Domain(_, listing, name) => {
+                Ok(Edit::Domain(id, *listing, String::from_str(alloc, name)?))
+            }
         }
     }
 
@@ -82,6 +88,7 @@ impl Edit {
             Edit::ClearFlag(id, _) => id,
             Edit::Owner(id, _, _) => id,
             Edit::Member(id, _, _) => id,
+            Edit::Domain(id, _, _) => id,
         }
     }
 }

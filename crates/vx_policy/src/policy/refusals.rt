@@ -11,7 +11,7 @@ use crate::listing::Listing;
 use crate::policy::Policy;
 use vx_flag::{Flag, Setting};
 use vx_geom::ShapeSpec;
-use vx_region::{Id, Name, RegionNo, RegionSet, Role};
+use vx_region::{Id, Name, RegionNo, RegionSet, Roster};
 
 /// How many regions there may be.
 const MAX_REGIONS: u32 = 4_096;
@@ -33,8 +33,9 @@ impl Policy {
             Edit::Parent(_, Some(parent)) => of_parent(regions, id, parent),
             Edit::SetFlag(_, flag, setting) => of_flag(regions, id, *flag, *setting),
             Edit::ClearFlag(_, flag) => of_clearing(regions, id, *flag),
-            Edit::Owner(_, listing, name) => of_name(regions, Role::Owner, id, *listing, name),
-            Edit::Member(_, listing, name) => of_name(regions, Role::Member, id, *listing, name),
+            Edit::Owner(_, listing, name) => of_name(regions, Roster::Owners, id, *listing, name),
+            Edit::Member(_, listing, name) => of_name(regions, Roster::Members, id, *listing, name),
+            Edit::Domain(_, listing, name) => of_name(regions, Roster::Domains, id, *listing, name),
         }
     }
 }
@@ -182,12 +183,12 @@ fn of_clearing(regions: &RegionSet, id: &str, flag: Flag) -> Option<EditRefusal>
 #[tactic(auto, unfolding(crate::specs::Refusals::refusal))]
 fn of_name(
     regions: &RegionSet,
-    role: Role,
+    roster: Roster,
     id: &str,
     listing: Listing,
     name: &str,
 ) -> Option<EditRefusal>
-    ensures { result ≡ refusal regions.now (Listed role id.now listing name.now) }
+    ensures { result ≡ refusal regions.now (Listed roster id.now listing name.now) }
 {
     let Ok(id) = Id::read(id) else {
         return Some(EditRefusal::BadId);

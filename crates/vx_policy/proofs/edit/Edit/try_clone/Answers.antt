@@ -16,6 +16,9 @@ returns-in_err-from_str-in-Owner c = IfOk-from_err c.from_residual-in_err-from_s
 pub returns-in_err-from_str-in-Member : goal.returns-in_err-from_str-in-Member
 returns-in_err-from_str-in-Member c = IfOk-from_err c.from_residual-in_err-from_str-in-Member.result _ c.from_residual-in_err-from_str-in-Member.ensures.0
 
+pub returns-in_err-from_str-in-Domain : goal.returns-in_err-from_str-in-Domain
+returns-in_err-from_str-in-Domain c = IfOk-from_err c.from_residual-in_err-from_str-in-Domain.result _ c.from_residual-in_err-from_str-in-Domain.ensures.0
+
 pub returns-in-Remove : goal.returns-in-Remove
 returns-in-Remove c = rw (c.in_ok-id.ensures.ok, c.target.ensures, c.in-Remove.is)
 
@@ -38,3 +41,7 @@ returns-in_ok-from_str-in-Owner c =
 pub returns-in_ok-from_str-in-Member : goal.returns-in_ok-from_str-in-Member
 returns-in_ok-from_str-in-Member c =
     rw (c.in_ok-id.ensures.ok, c.target.ensures, c.in_ok-from_str-in-Member.ensures.ok, c.deref-in-Member.ensures, c.in-Member.is)
+
+pub returns-in_ok-from_str-in-Domain : goal.returns-in_ok-from_str-in-Domain
+returns-in_ok-from_str-in-Domain c =
+    rw (c.in_ok-id.ensures.ok, c.target.ensures, c.in_ok-from_str-in-Domain.ensures.ok, c.deref-in-Domain.ensures, c.in-Domain.is)

@@ -11,6 +11,7 @@
 use std::collections::{HashMap, HashSet};
 use std::fs::File;
 use std::io::{self, Read, Write};
+use std::iter;
 use std::mem;
 use std::os::fd::AsFd;
 use std::process::ExitCode;
@@ -416,6 +417,7 @@ struct Region {
     parent: Option<u32>,
     owners: Vec<Name>,
     members: Vec<Name>,
+    domains: Vec<Name>,
     flags: Settings,
 }
 
@@ -454,11 +456,11 @@ enum Change<'a> {
     Priority(i32),
     Parent(Option<&'a [u8]>),
     Flag(Flag, Option<Setting>),
-    Listed { role: Role, is_added: bool, name: &'a [u8] },
+    Listed { roster: Roster, is_added: bool, name: &'a [u8] },
 }
 
 #[derive(Clone, Copy)]
-enum Role { Owner, Member }
+enum Roster { Owners, Members, Domains }
 
 /// The policy after all edits so far, ahead of the one that judges.
 struct Desk {
@@ -521,13 +523,14 @@ impl Desk {
                 };
                 flags[flag as usize] = setting;
             }
-            Change::Listed { role, is_added, name } => {
+            Change::Listed { roster, is_added, name } => {
                 let name = read_name(name).ok_or(Refusal::BadName)?;
                 let number = self.region_numbered(&id)?;
                 let region = self.change(number);
-                let names = match role {
-                    Role::Owner => &mut region.owners,
-                    Role::Member => &mut region.members,
+                let names = match roster {
+                    Roster::Owners => &mut region.owners,
+                    Roster::Members => &mut region.members,
+                    Roster::Domains => &mut region.domains,
                 };
                 match (names.iter().position(|other| *other == name), is_added) {
                     (None, true) => names.push(name),
@@ -547,8 +550,15 @@ impl Desk {
         let number = self.regions.by_number.len();
         refuse_if(self.ids.len() > MOST_REGIONS || number > u32::MAX as usize, Refusal::TooManyRegions)?;
         let number = number as u32;
-        let region =
-            Region { shape, priority: 0, parent: None, owners: Vec::new(), members: Vec::new(), flags: [None; 7] };
+        let region = Region {
+            shape,
+            priority: 0,
+            parent: None,
+            owners: Vec::new(),
+            members: Vec::new(),
+            domains: Vec::new(),
+            flags: [None; 7],
+        };
         self.regions.by_number.push(Some(Rc::new(region)));
         self.ids.insert(id, number);
         self.children.push(0);
@@ -722,14 +732,37 @@ impl Judge {
         verdict
     }
 
-    /// What the subject is to a region: a machine owns the land that it stands on itself.
+    /// What the subject is to a region: a machine owns the land that it stands on itself, and what has a domain in common
+    /// with that.
     fn standing(&self, number: u32, subject: Subject) -> Standing {
         let region = self.regions.there(number);
         match subject {
             Subject::Player(player) => self.player_standing(region, player),
             Subject::Machine(place) if region.shape.contains(place) => Standing::Owner,
+            Subject::Machine(place) if self.joins_land(number, place) => Standing::Owner,
             Subject::Machine(_) => Standing::Stranger,
         }
+    }
+
+    /// Whether some region over the place has a domain in common with this one.
+    fn joins_land(&self, number: u32, place: Pos) -> bool {
+        let domains: Vec<&Name> = self.ancestry(number).flat_map(|region| &region.domains).collect();
+        if domains.is_empty() {
+            return false;
+        }
+        let chunk = (place.z / 16 * self.chunks_east + place.x / 16) as usize;
+        self.by_chunk[chunk]
+            .iter()
+            .filter(|near| self.regions.there(near.number).shape.contains(place))
+            .flat_map(|near| self.ancestry(near.number))
+            .any(|region| region.domains.iter().any(|domain| domains.contains(&domain)))
+    }
+
+    /// The region, its parent, the parent's parent, to the end.
+    fn ancestry(&self, number: u32) -> impl Iterator<Item = &Region> {
+        iter::successors(Some(self.regions.there(number)), move |region| {
+            region.parent.map(|parent| self.regions.there(parent))
+        })
     }
 
     /// An owner where some region of the ancestry names the player as one, else a member likewise.
@@ -1212,20 +1245,21 @@ fn read_edit<'a>(words: &mut Words<'a>) -> Option<Edit<'a>> {
         b"parent" => Change::Parent(Some(words.next()?).filter(|word| *word != b"*")),
         b"flag" => Change::Flag(words.flag()?, Some(words.setting()?)),
         b"clear" => Change::Flag(words.flag()?, None),
-        b"owner" => read_listing(Role::Owner, words)?,
-        b"member" => read_listing(Role::Member, words)?,
+        b"owner" => read_listing(Roster::Owners, words)?,
+        b"member" => read_listing(Roster::Members, words)?,
+        b"domain" => read_listing(Roster::Domains, words)?,
         _ => return None,
     };
     Some(Edit { id, change })
 }
 
-fn read_listing<'a>(role: Role, words: &mut Words<'a>) -> Option<Change<'a>> {
+fn read_listing<'a>(roster: Roster, words: &mut Words<'a>) -> Option<Change<'a>> {
     let is_added = match words.next()? {
         b"add" => true,
         b"drop" => false,
         _ => return None,
     };
-    Some(Change::Listed { role, is_added, name: words.next()? })
+    Some(Change::Listed { roster, is_added, name: words.next()? })
 }
 
 // ----------------------------------------------------------------------------------------------------------- Playing

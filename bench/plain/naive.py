@@ -4,8 +4,8 @@
     naive.py < SCRIPT           the replies
     naive.py --script SEED      a random script of machines in a dense box, for the plain program and this one
 
-It knows `as NAME place | break | turn | look`, `tick`, and of `region` define (cuboid), owner, member, priority, parent
-and flag, all of which have to be accepted.
+It knows `as NAME place | break | turn | look`, `tick`, and of `region` define (cuboid), owner, member, domain, priority,
+parent and flag, all of which have to be accepted.
 """
 import random
 import sys
@@ -203,11 +203,16 @@ class Policy:
 
     def standing(self, subject, n):
         if isinstance(subject, tuple):
-            return "owner" if self.holds(n, subject) else "stranger"
+            lands = [m for m in self.regions if self.holds(m, subject)]
+            joined = any(self.domains(m) & self.domains(n) for m in lands)
+            return "owner" if n in lands or joined else "stranger"
         for role in ("owner", "member"):
             if any(subject in self.regions[m][role] for m in self.ancestry(n)):
                 return role
         return "stranger"
+
+    def domains(self, n):
+        return set().union(*(self.regions[m]["domain"] for m in self.ancestry(n)))
 
     def value(self, flag, subject, n):
         fits = {"owner": ("all", "members", "owners"), "member": ("all", "members", "nonowners"),
@@ -264,7 +269,7 @@ class Policy:
             number = self.ids[words[1]] = len(self.ids)
             a, b = ([int(n) for n in words[k:k + 3]] for k in (3, 6))
             box = tuple(map(min, a, b)), tuple(map(max, a, b))
-            self.regions[number] = {"box": box, "priority": 0, "parent": None, "owner": set(), "member": set(), "flags": {}}
+            self.regions[number] = {"box": box, "priority": 0, "parent": None, "owner": set(), "member": set(), "domain": set(), "flags": {}}
             return f" region {number}"
         if verb == "flag":
             flags = self.regions[number]["flags"] if number else self.at_large
@@ -273,8 +278,10 @@ class Policy:
             self.regions[number]["priority"] = int(words[2])
         elif verb == "parent":
             self.regions[number]["parent"] = self.ids[words[2]]
-        else:
+        elif words[2] == "add":
             self.regions[number][verb].add(words[3])
+        else:
+            self.regions[number][verb].discard(words[3])
         return ""
 
 
@@ -403,6 +410,8 @@ def script(seed):
             yield f"region parent r{n} r{r.randrange(n)}"
         if r.random() < 0.5:
             yield f"region {r.choice(['owner', 'member'])} r{n} add ann"
+        for domain in r.sample(["mill", "works", "door"], r.choice([0, 0, 1, 2])):
+            yield f"region domain r{n} add {domain}"
         for flag in r.sample(["pistons", "build", "passthrough", "use", "block-place"], r.randint(0, 2)):
             group = r.choice(["all", "members", "owners", "nonmembers", "nonowners"])
             yield f"region flag r{n} {flag} {r.choice(['allow', 'deny'])} {group}"
@@ -410,6 +419,8 @@ def script(seed):
         yield f"region flag __global__ {r.choice(['pistons', 'build', 'passthrough'])} deny"
     for n in range(40):
         yield "tick"
+        if regions and r.random() < 0.2:
+            yield f"region domain r{r.randrange(regions)} {r.choice(['add', 'drop'])} {r.choice(['mill', 'works', 'door'])}"
         for _ in range(r.choice([0, 0, 1, 3, 8])):
             kind = r.random()
             if kind < 0.5:

@@ -7,9 +7,11 @@ use Rattle.vx_flag.specs.declared.flag.Flag.{Flag}
 use Rattle.vx_geom.specs.Written.{Written, Path}
 use Rattle.vx_policy.specs.Asked.{Asked, Define, Priority, Parent, SetFlag, Listed}
 use Rattle.vx_policy.specs.declared.listing.Listing.TheVariants.{Add}
-use Rattle.vx_region.specs.declared.role.Role.{Role}
-use Rattle.vx_region.specs.declared.role.Role.TheVariants.{Owner, Member}
+use Rattle.vx_region.specs.declared.roster.Roster.{Roster}
+use Rattle.vx_region.specs.declared.roster.Roster.TheVariants.{Owners, Members, Domains}
 use Rattle.vx_region.specs.Regions.{global_id}
+use Rattle.vx_file.specs.declared.file_version.FileVersion.{FileVersion}
+use Rattle.vx_file.specs.declared.file_version.FileVersion.TheVariants.{One, Two}
 use Rattle.vx_file.specs.FileValues.{data_of, has_only, has_only_flags, joined, number_in, numbers_in, columns_in, corners_of, heights_of, setting_in}
 use Rattle.vx_base.specs.Then.{◌>>=◌}
 
@@ -48,16 +50,19 @@ shape_in ms =
     shape_of (get_member (codes "cuboid") ms) (get_member (codes "polygon") ms)
     (get_member (codes "y") ms)
 
--- the keys that a region may have
-abbrev pub region_keys : List (List ℕ)
-region_keys =
+-- the keys that a region may have: `domains` from version 2 on
+abbrev pub region_keys : FileVersion → List (List ℕ)
+region_keys One =
     codes "id" ∷ codes "cuboid" ∷ codes "polygon" ∷ codes "y" ∷ codes "priority" ∷ codes "parent"
     ∷ codes "owners" ∷ codes "members" ∷ codes "flags" ∷ []
+region_keys Two =
+    codes "id" ∷ codes "cuboid" ∷ codes "polygon" ∷ codes "y" ∷ codes "priority" ∷ codes "parent"
+    ∷ codes "owners" ∷ codes "members" ∷ codes "domains" ∷ codes "flags" ∷ []
 
 -- the definition of a region, with its id and its shape
-unfoldable pub definition_in : Table → Option Asked
-definition_in ms =
-    if has_only region_keys ms
+unfoldable pub definition_in : FileVersion → Table → Option Asked
+definition_in version ms =
+    if has_only (region_keys version) ms
     then text_at (codes "id") ms >>= (λ id. shape_in ms >>= (λ shape. Some (Define id shape)))
     else None
 
@@ -73,17 +78,17 @@ parent_in id d = do
   parent ← as_str d
   Some (Parent id (Some parent) ∷ [])
 
--- a value that is to be a name of that role in the region of that id
-unfoldable pub name_in : Role → List ℕ → Data → Option (List Asked)
-name_in role id d = do
+-- a value that is to be a name on that roster of the region of that id
+unfoldable pub name_in : Roster → List ℕ → Data → Option (List Asked)
+name_in roster id d = do
   name ← as_str d
-  Some (Listed role id Add name ∷ [])
+  Some (Listed roster id Add name ∷ [])
 
 -- an array of such names
-unfoldable pub names_in : Role → List ℕ → Data → Option (List Asked)
-names_in role id d = do
+unfoldable pub names_in : Roster → List ℕ → Data → Option (List Asked)
+names_in roster id d = do
   items ← as_array d
-  in_turn (name_in role id) (data_of items)
+  in_turn (name_in roster id) (data_of items)
 
 -- what a value sets one flag to
 unfoldable pub flag_in : List ℕ → Flag → Data → Option (List Asked)
@@ -110,24 +115,25 @@ rank_in id ms =
     joined (if_there (priority_in id) (get_member (codes "priority") ms)
     ∷ if_there (parent_in id) (get_member (codes "parent") ms) ∷ [])
 
--- its owners and its members
-unfoldable pub people_in : List ℕ → Table → Option (List Asked)
-people_in id ms =
-    joined (if_there (names_in Owner id) (get_member (codes "owners") ms)
-    ∷ if_there (names_in Member id) (get_member (codes "members") ms) ∷ [])
+-- its owners, its members and its domains
+unfoldable pub rosters_in : List ℕ → Table → Option (List Asked)
+rosters_in id ms =
+    joined (if_there (names_in Owners id) (get_member (codes "owners") ms)
+    ∷ if_there (names_in Members id) (get_member (codes "members") ms)
+    ∷ if_there (names_in Domains id) (get_member (codes "domains") ms) ∷ [])
 
 -- what is said of a region beside its definition
 unfoldable pub changes_in : Table → Option (List Asked)
 changes_in ms = do
   id ← text_at (codes "id") ms
-  joined (rank_in id ms ∷ people_in id ms
+  joined (rank_in id ms ∷ rosters_in id ms
       ∷ if_there (flags_at id) (get_member (codes "flags") ms) ∷ [])
 
 -- the definition in a value that is to be a region's table
-unfoldable pub definition_at : Data → Option (List Asked)
-definition_at d = do
+unfoldable pub definition_at : FileVersion → Data → Option (List Asked)
+definition_at version d = do
   ms ← as_table d
-  definition ← definition_in ms
+  definition ← definition_in version ms
   Some (definition ∷ [])
 
 -- what is said beside it there
@@ -137,35 +143,35 @@ changes_at d = do
   changes_in ms
 
 -- these regions: first they are all defined, then the rest of each is said
-unfoldable pub regions_of : List Data → Option (List Asked)
-regions_of ds = joined (in_turn definition_at ds ∷ in_turn changes_at ds ∷ [])
+unfoldable pub regions_of : FileVersion → List Data → Option (List Asked)
+regions_of version ds = joined (in_turn (definition_at version) ds ∷ in_turn changes_at ds ∷ [])
 
 -- the regions of an array
-unfoldable pub regions_in : Data → Option (List Asked)
-regions_in d = do
+unfoldable pub regions_in : FileVersion → Data → Option (List Asked)
+regions_in version d = do
   items ← as_array d
-  regions_of (data_of items)
+  regions_of version (data_of items)
 
 -- the keys that the file may have
 abbrev pub file_keys : List (List ℕ)
 file_keys = codes "version" ∷ codes "region" ∷ codes "global" ∷ []
 
--- the value is the whole number 1
-abbrev pub is_one : Option Data → Bool
-is_one (Some (integer (pos n))) = n == 1
-is_one d = false
+-- the version that a value names: the whole number 1 or 2
+abbrev pub version_in : Option Data → Option FileVersion
+version_in (Some (integer (pos n))) = if n == 1 then Some One else if n == 2 then Some Two else None
+version_in d = None
 
 -- the regions of a document, then the flags of the world at large
-unfoldable pub contents_in : Table → Option (List Asked)
-contents_in ms =
-    joined (if_there regions_in (get_member (codes "region") ms)
+unfoldable pub contents_in : FileVersion → Table → Option (List Asked)
+contents_in version ms =
+    joined (if_there (regions_in version) (get_member (codes "region") ms)
     ∷ if_there (flags_at global_id) (get_member (codes "global") ms) ∷ [])
 
--- the edits that a document of version 1 means
+-- the edits that a document of version 1 or 2 means
 unfoldable pub edits_in_table : Table → Option (List Asked)
 edits_in_table ms =
-    if has_only file_keys ms && is_one (get_member (codes "version") ms)
-    then contents_in ms
+    if has_only file_keys ms
+    then version_in (get_member (codes "version") ms) >>= (λ version. contents_in version ms)
     else None
 
 -- how many bytes a regions file may have

@@ -4,6 +4,7 @@
 mod document;
 mod edits;
 mod file_error;
+mod file_version;
 mod flags;
 mod keys;
 mod policy;

@@ -7,11 +7,11 @@ use Rattle.vx_file.proofs.document.each_definition.Goals as goal
 
 pub loop-value-preserved : goal.loop-value-preserved
 loop-value-preserved c =
-    turned definition_at _ _ _ _ c.loop-value.invariant _ _
+    turned (definition_at c.args.version) _ _ _ _ c.loop-value.invariant _ _
     (ap (map view) (next_left c.args.values.now c.loop-value.value-index c.value-item.result c.loop-value-test.true c.value-item.is))
     _ c.in_ok-definition.ensures
 
 pub returns : goal.returns
 returns c =
-    all_added definition_at _ _ _ _ c.loop-value.invariant
+    all_added (definition_at c.args.version) _ _ _ _ c.loop-value.invariant
     (ap (map view) (drop_all c.loop-value.value-index c.args.values.now c.loop-value-test.false))

@@ -9,5 +9,5 @@ use Rattle.vx_file.proofs.document.each_definition.Given as goal
 -- what is left means the edits that are missing
 abbrev pub invariant-loop-value : goal.invariant-loop-value
 invariant-loop-value l =
-    behind (map asked l.edits.items) (joined (map definition_at (map view (drop l.value-index l.values))))
-    ≡ behind (map asked l.initial.edits.items) (joined (map definition_at (map view l.values)))
+    behind (map asked l.edits.items) (joined (map (definition_at l.version) (map view (drop l.value-index l.values))))
+    ≡ behind (map asked l.initial.edits.items) (joined (map (definition_at l.version) (map view l.values)))

@@ -7,11 +7,11 @@ use Rattle.vx_file.proofs.tables.each_name.Goals as goal
 
 pub loop-value-preserved : goal.loop-value-preserved
 loop-value-preserved c =
-    turned (name_in c.args.role c.args.id.now) _ _ _ _ c.loop-value.invariant _ _
+    turned (name_in c.args.roster c.args.id.now) _ _ _ _ c.loop-value.invariant _ _
     (ap (map view) (next_left c.args.values.now c.loop-value.value-index c.value-item.result c.loop-value-test.true c.value-item.is))
     _ c.in_ok-name.ensures
 
 pub returns : goal.returns
 returns c =
-    all_added (name_in c.args.role c.args.id.now) _ _ _ _ c.loop-value.invariant
+    all_added (name_in c.args.roster c.args.id.now) _ _ _ _ c.loop-value.invariant
     (ap (map view) (drop_all c.loop-value.value-index c.args.values.now c.loop-value-test.false))

@@ -9,5 +9,5 @@ use Rattle.vx_file.proofs.tables.each_name.Given as goal
 -- what is left means the edits that are missing
 abbrev pub invariant-loop-value : goal.invariant-loop-value
 invariant-loop-value l =
-    behind (map asked l.edits.items) (joined (map (name_in l.role l.id) (map view (drop l.value-index l.values))))
-    ≡ behind (map asked l.initial.edits.items) (joined (map (name_in l.role l.id) (map view l.values)))
+    behind (map asked l.edits.items) (joined (map (name_in l.roster l.id) (map view (drop l.value-index l.values))))
+    ≡ behind (map asked l.initial.edits.items) (joined (map (name_in l.roster l.id) (map view l.values)))

@@ -9,8 +9,8 @@ use Rattle.vx_flag.specs.declared.state.State.{State}
 use Rattle.vx_geom.specs.Polygon.{Column}
 use Rattle.vx_geom.specs.Written.{Written, Corners, Path}
 use Rattle.vx_policy.specs.Asked.{Asked, Define, Reshape, Remove, Priority, Parent, SetFlag, ClearFlag, Listed}
-use Rattle.vx_region.specs.declared.role.Role.{Role}
-use Rattle.vx_region.specs.declared.role.Role.TheVariants.{Owner, Member}
+use Rattle.vx_region.specs.declared.roster.Roster.{Roster}
+use Rattle.vx_region.specs.declared.roster.Roster.TheVariants.{Owners, Members, Domains}
 use Rattle.vx_policy.specs.declared.listing.Listing.{Listing}
 use Rattle.vx_policy.specs.declared.listing.Listing.TheVariants.{Add, Drop}
 use Rattle.vx_grammar.specs.Numbers.{i32_of}
@@ -159,14 +159,14 @@ listing_at words = do
   listing ← listing_of word.0
   Some (listing, word.1)
 
--- `ID add NAME` or `ID drop NAME`, behind the word of the role
-unfoldable pub listed_of : Role → Rest → Option Asked
-listed_of role words = do
+-- `ID add NAME` or `ID drop NAME`, behind the word of the roster
+unfoldable pub listed_of : Roster → Rest → Option Asked
+listed_of roster words = do
   id ← next_of words
   listing ← listing_at id.1
   name ← next_of listing.1
   end ← end_of name.1
-  Some (Listed role id.0 listing.0 name.0)
+  Some (Listed roster id.0 listing.0 name.0)
 
 -- an edit by its first word
 unfoldable pub edit_by : List ℕ → Rest → Option Asked
@@ -178,8 +178,9 @@ edit_by verb words =
     else if bytes_eq verb (codes "parent") then parent_of words
     else if bytes_eq verb (codes "flag") then set_flag_of words
     else if bytes_eq verb (codes "clear") then clear_flag_of words
-    else if bytes_eq verb (codes "owner") then listed_of Owner words
-    else if bytes_eq verb (codes "member") then listed_of Member words
+    else if bytes_eq verb (codes "owner") then listed_of Owners words
+    else if bytes_eq verb (codes "member") then listed_of Members words
+    else if bytes_eq verb (codes "domain") then listed_of Domains words
     else None
 
 -- the words of an edit

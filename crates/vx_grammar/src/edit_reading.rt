@@ -14,7 +14,7 @@ use vx_base::Unread;
 use vx_flag::{Flag, Group, Setting, State};
 use vx_geom::{Pos, ShapeSpec};
 use vx_policy::{Edit, Listing};
-use vx_region::Role;
+use vx_region::Roster;
 
 /// Reads the words of an edit, those after `region`.
 #[tactic(auto, unfolding(crate::specs::EditLines::edit_of))]
@@ -37,8 +37,9 @@ fn edit_by(alloc: Global, verb: &str, words: &mut Words) -> Result<Edit, Unread>
         "parent" => parent(alloc, words),
         "flag" => set_flag(alloc, words),
         "clear" => clear_flag(alloc, words),
-        "owner" => listed(alloc, Role::Owner, words),
-        "member" => listed(alloc, Role::Member, words),
+        "owner" => listed(alloc, Roster::Owners, words),
+        "member" => listed(alloc, Roster::Members, words),
+        "domain" => listed(alloc, Roster::Domains, words),
         _ => Err(Unread::Faulty),
     }
 }
@@ -115,17 +116,17 @@ fn clear_flag(alloc: Global, words: &mut Words) -> Result<Edit, Unread>
     Ok(Edit::ClearFlag(text(alloc, id)?, flag))
 }
 
-// Reads an id, and a name that is added to those of the role there, or dropped from them.
+// Reads an id, and a name that is added to that roster there, or dropped from it.
 #[tactic(auto, unfolding(crate::specs::EditLines::listed_of))]
-fn listed(alloc: Global, role: Role, words: &mut Words) -> Result<Edit, Unread>
-    ensures { Gives asked result (listed_of role words.old) }
+fn listed(alloc: Global, roster: Roster, words: &mut Words) -> Result<Edit, Unread>
+    ensures { Gives asked result (listed_of roster words.old) }
 {
     let id = word(words)?;
     let listing = listing(words)?;
     let name = word(words)?;
     end(words)?;
     let id = text(alloc, id)?;
-    Ok(Edit::listed(role, id, listing, text(alloc, name)?))
+    Ok(Edit::listed(roster, id, listing, text(alloc, name)?))
 }
 
 #[tactic(auto, unfolding(crate::specs::EditLines::shape_of))]

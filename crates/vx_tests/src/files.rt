@@ -194,6 +194,10 @@ fn files_with_few_regions(rt: HostRuntime) -> Result<(), Fail> {
             1,
         ),
         (
+            "version = 2\n[[region]]\nid = 'a'\ncuboid = [0, 0, 0, 1, 1, 1]\ndomains = ['works', 'Works']\n",
+            1,
+        ),
+        (
             "region = [{ id = 'a', y = [3, 3], polygon = [0, 0, 9, 0, 0, 9] }, { id = 'b', parent = 'a', cuboid = [0, 0, 0, 0, 0, 0] }]\nversion = 1",
             2,
         ),
@@ -231,6 +235,7 @@ const WRONG: &[&str] = &[
     "members = ['']",
     "members = ['abcdefghijklmnopq']",
     "members = { ann = 1 }",
+    "domains = []",
     "flags = 'use'",
     "flags = [{ use = 'deny' }]",
     "flags = { usage = 'deny' }",
@@ -275,7 +280,7 @@ fn refused_with(rt: &impl Abort, alloc: Global, more: &str) -> Result<(), AllocE
 const LACKING: &[&str] = &[
     " \n# nothing\n",
     "[[region]]\nid = 'a'\ncuboid = [0, 0, 0, 1, 1, 1]\n",
-    "version = 2",
+    "version = 3",
     "version = 0",
     "version = -1",
     "version = '1'",
@@ -294,6 +299,8 @@ const LACKING: &[&str] = &[
     "version = 1\n[[region]]\nid = 'a'\npolygon = [0, 0, 9, 0, 0, 9]",
     "version = 1\n[[region]]\ncuboid = [0, 0, 0, 1, 1, 1]",
     "version = 1\n[[region]]\nid = 1\ncuboid = [0, 0, 0, 1, 1, 1]",
+    "version = 2\n[[region]]\nid = 'a'\ncuboid = [0, 0, 0, 1, 1, 1]\ndomains = 'works'",
+    "version = 2\n[[region]]\nid = 'a'\ncuboid = [0, 0, 0, 1, 1, 1]\ndomains = ['no-name']",
     "version = 1\n[[region]]\nid = ''\ncuboid = [0, 0, 0, 1, 1, 1]",
     "version = 1\n[[region]]\nid = 'no id'\ncuboid = [0, 0, 0, 1, 1, 1]",
     "version = 1\n[[region]]\nid = '__global__'\ncuboid = [0, 0, 0, 1, 1, 1]",

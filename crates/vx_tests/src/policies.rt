@@ -79,7 +79,7 @@ fn a_copy_of_an_edit_does_the_same(rt: HostRuntime) -> Result<(), Fail> {
     let alloc = rt.alloc();
     let mut policy = read_policy(alloc, PLOT)?;
     let mut twin = read_policy(alloc, PLOT)?;
-    for kind in 0..11 {
+    for kind in 0..12 {
         twins(&rt, alloc, &mut policy, &mut twin, kind)?;
     }
     Ok(())
@@ -106,7 +106,7 @@ fn one(alloc: Global, kind: u8) -> Result<(Edit, Option<RegionNo>), AllocError> 
     match kind {
         0 => Ok((town(alloc)?, Some(RegionNo(2)))),
         1 => Ok((reshaped(alloc)?, None)),
-        3 | 7 | 8 | 9 => Ok((naming(alloc, kind)?, None)),
+        3 | 7 | 8 | 9 | 10 => Ok((naming(alloc, kind)?, None)),
         _ => Ok((of_plot(kind, String::from_str(alloc, "plot")?), None)),
     }
 }
@@ -123,7 +123,7 @@ fn reshaped(alloc: Global) -> Result<Edit, AllocError> {
     Ok(Edit::Reshape(plot, ShapeSpec::Poly(points, 0, 0)))
 }
 
-// Those that name a town or a player.
+// Those that name a town, a player or a domain.
 fn naming(alloc: Global, kind: u8) -> Result<Edit, AllocError> {
     let plot = String::from_str(alloc, "plot")?;
     let named = String::from_str(alloc, if kind == 3 { "town" } else { "ann" })?;
@@ -131,6 +131,7 @@ fn naming(alloc: Global, kind: u8) -> Result<Edit, AllocError> {
         3 => Edit::Parent(plot, Some(named)),
         7 => Edit::Owner(plot, Listing::Add, named),
         8 => Edit::Member(plot, Listing::Add, named),
+        9 => Edit::Domain(plot, Listing::Add, named),
         _ => Edit::Owner(plot, Listing::Drop, named),
     })
 }

@@ -1,5 +1,5 @@
 -- What domains are to machines, and what they are not to players.
-use Rattle.std.proofs.Common.{◌≡◌, ◌≢◌, ◌⊎◌, inl, inr, ℕ, zero, suc, Bool, true, false, nat_eq, ◌||◌, if◌then◌else◌, List, [], ◌∷◌, Option, Some, None, option_map, Contains, refl, ap, sym, ◌∙◌, subst}
+use Rattle.std.proofs.Common.{◌≡◌, inl, inr, ℕ, zero, suc, Bool, true, false, nat_eq, ◌||◌, if◌then◌else◌, List, [], ◌∷◌, Option, Some, None, option_map, Contains, refl, ap, sym, ◌∙◌, subst}
 use Rattle.std.specs.Prelude.{◌↔◌}
 use Rattle.std.specs.List.{list_any}
 use Rattle.std.specs.Option.{option_and_then}
@@ -12,13 +12,13 @@ use Rattle.vx_geom.specs.Outline.{is_in}
 use Rattle.vx_region.specs.Ancestry.{chain, ancestors, from_parent, is_above}
 use Rattle.vx_region.specs.Association.{is_such, has_name, has_name_along, holds_place, player_association, association}
 use Rattle.vx_region.specs.Forest.{IsNumbered, IsForest}
-use Rattle.vx_region.specs.Regions.{RegionData, Regions, region_at, parent_of, names, names_of, names_without, with_names, gaining, losing, changed, with_name, without_name}
+use Rattle.vx_region.specs.Regions.{RegionData, Regions, region_at, parent_of, names, names_of, with_names, gaining, losing, changed, with_name, without_name}
 use Rattle.vx_region.specs.Subjects.{Named, Machine}
 use Rattle.vx_region.specs.declared.roster.Roster.{Roster}
 use Rattle.vx_region.specs.declared.roster.Roster.TheVariants.{Owners, Members, Domains}
 use Rattle.vx_region.proofs.Chains.{ancestors_by_parent, above_irreflexive, neither}
 use Rattle.vx_region.proofs.Changes.{region_changed, region_elsewhere}
-use Rattle.vx_region.proofs.Lookups.{same_or_other, same_parent}
+use Rattle.vx_region.proofs.Lookups.{same_or_other}
 use Rattle.vx_region.proofs.NameLemmas.{names_one_less}
 use Rattle.vx_region.proofs.Numbers.{numbered_changed}
 use Rattle.vx_region_laws.specs.Standing.{IsStoodIn, HasDomain, IsInDomain}
@@ -141,7 +141,7 @@ module _ (rs : Regions) (n : ℕ) (name : List ℕ) where
   unfolding has_name_along
   domain_before other m has =
       let found = any_from (has_name (changed (losing Domains name) n rs) Domains other) (ancestors (changed (losing Domains name) n rs) m)
-          (named_at (changed (losing Domains name) n rs) Domains other m has) in
+      (named_at (changed (losing Domains name) n rs) Domains other m has) in
       let listed = listed_before other found.0 found.2 in
       (found.0, subst (λ l. Contains l found.0) (ancestry_kept (losing Domains name) (λ r. refl) n rs m) found.1, listed.0, listed.1)
 
@@ -185,9 +185,10 @@ kept_beside change rs n other (m ∷ l) beside =
 pub childs_are_not_the_parents : (rs : Regions) (n q : ℕ) (r : RegionData) (name other : List ℕ) → IsForest rs → region_at rs n ≡ Some r
     → r.parent ≡ Some q → HasDomain (with_name rs n Domains name) other q ↔ HasDomain rs other q
 unfolding with_name has_name_along is_above
-childs_are_not_the_parents rs n q r name other forest there above =
-    ((λ has. named_from rs Domains other q (sym same ∙ named_at (changed (gaining Domains name) n rs) Domains other q has)),
-    (λ has. named_from (changed (gaining Domains name) n rs) Domains other q (same ∙ named_at rs Domains other q has)))
+childs_are_not_the_parents rs n q r name other forest there above = (
+  (λ has. named_from rs Domains other q (sym same ∙ named_at (changed (gaining Domains name) n rs) Domains other q has)),
+  (λ has. named_from (changed (gaining Domains name) n rs) Domains other q (same ∙ named_at rs Domains other q has)),
+)
   where
     beside : list_any (nat_eq n) (ancestors rs q) ≡ false
     beside = ap (λ o. list_any (nat_eq n) (from_parent (ancestors rs) o)) (sym above) ∙ above_irreflexive rs forest n r there

@@ -147,10 +147,12 @@ entry_passes test n r (e ∷ es) found passes = by (nat_eq n e.0) refl found (λ
 shared_from : (rs : Regions) (a b : ℕ) → share_domain rs a b ≡ true → (name : List ℕ) × HasDomain rs name a × HasDomain rs name b
 unfolding share_domain
 shared_from rs a b shared =
-    let found = any_from (λ name. has_domain_along rs name b) (domains_along rs a) shared in
-    (found.0, named_from rs roster.Domains found.0 a
-    (listed_along rs found.0 a ∙ any_at (bytes_eq found.0) (domains_along rs a) found.0 found.1 ((bytes_eq-Decides found.0 found.0).1 refl)),
-    named_from rs roster.Domains found.0 b found.2)
+    let found = any_from (λ name. has_domain_along rs name b) (domains_along rs a) shared in (
+      found.0,
+      named_from rs roster.Domains found.0 a
+          (listed_along rs found.0 a ∙ any_at (bytes_eq found.0) (domains_along rs a) found.0 found.1 ((bytes_eq-Decides found.0 found.0).1 refl)),
+      named_from rs roster.Domains found.0 b found.2,
+    )
 
 shared_at : (rs : Regions) (name : List ℕ) (a b : ℕ) → HasDomain rs name a → HasDomain rs name b → share_domain rs a b ≡ true
 unfolding share_domain

@@ -107,8 +107,20 @@ fn rosters(alloc: Global, id: &str, table: &Table, edits: &mut Vec<Edit>) -> Res
         (rosters_in id.now (table_view table.now)) }
 {
     names(alloc, Roster::Owners, id, value_at(table, "owners"), edits)?;
-    names(alloc, Roster::Members, id, value_at(table, "members"), edits)?;
-    names(alloc, Roster::Domains, id, value_at(table, "domains"), edits)
+    names(
+        alloc,
+        Roster::Members,
+        id,
+        value_at(table, "members"),
+        edits,
+    )?;
+    names(
+        alloc,
+        Roster::Domains,
+        id,
+        value_at(table, "domains"),
+        edits,
+    )
 }
 
 #[tactic(auto, unfolding(crate::specs::RegionsFile::priority_in))]

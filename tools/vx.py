@@ -1,0 +1,423 @@
+"""What the tools share: the lines of scripts and replies by docs/FORMATS.md, the regions that edits leave, and the program as a child process."""
+import os, queue, subprocess, sys, threading
+from dataclasses import dataclass, field
+
+ROOT = os.path.dirname(os.path.dirname(os.path.abspath(__file__)))
+LINE_BYTES, SCRIPT_BYTES, BLOCK_COMMANDS = 4096, 16_777_216, 65_536
+HEIGHT, CHUNK = 64, 16
+# A piston's move takes its own cell, the twelve that it pushes at most, and the one behind them.
+REACH = 13
+DIRECTIONS = {"east": (1, 0, 0), "west": (-1, 0, 0), "up": (0, 1, 0), "down": (0, -1, 0), "south": (0, 0, 1), "north": (0, 0, -1)}
+SIDES = [facing for facing in DIRECTIONS if facing not in ("up", "down")]
+FLAGS = ["build", "block-break", "block-place", "use", "chest-access", "passthrough", "pistons"]
+ACTIONS = ["block-place", "block-break", "use", "chest-access"]
+GROUPS = ["all", "members", "owners", "nonmembers", "nonowners"]
+FATES = ("moved", "denied", "beaten")
+OUTSIDE = "refused 1 out of world"
+PARTS = {
+    *["stone", "dirt", "planks", "glass", "obsidian", "bedrock", "chest", "dust", "lamp"],
+    *[f"torch:{facing}" for facing in DIRECTIONS if facing != "up"],
+    *[f"{kind}:{facing}" for kind in ("lever", "piston", "sticky") for facing in DIRECTIONS],
+    *[f"repeater:{facing}:{delay}" for facing in SIDES for delay in range(1, 5)],
+}
+
+# What stands behind the first words of a line. A word in capitals is read by `READERS`, and `..` takes all that is left.
+COMMANDS = {
+    "look": "X Y Z",
+    "place": "X Y Z PART",
+    "break": "X Y Z",
+    "turn": "X Y Z",
+    "open": "X Y Z",
+    "put": "X Y Z SLOT ITEM COUNT",
+    "take": "X Y Z SLOT COUNT",
+}
+EDITS = {
+    "define": "ID SHAPE ..",
+    "reshape": "ID SHAPE ..",
+    "remove": "ID",
+    "priority": "ID N",
+    "parent": "ID ID",
+    "flag": "ID FLAG STATE [GROUP]",
+    "clear": "ID FLAG",
+    "owner": "ID CHANGE NAME",
+    "member": "ID CHANGE NAME",
+}
+HEADER = {"world": "SX SZ S", "player": "NAME", "set": "X Y Z PART"}
+OTHERS = {"tick": "", "explain": "NAME ACTION X Y Z", "together": "", "end": ""}
+
+
+class Faulty(ValueError):
+    """A line that a script may not have, with words for whoever wrote it."""
+
+
+def number(word, low=-(2**31), high=2**31 - 1):
+    """The number that a word is, within two ends."""
+    digits = word.removeprefix("-")
+    if not (digits.isascii() and digits.isdigit()):
+        raise Faulty(f"{word} is no number")
+    if not low <= int(word) <= high:
+        raise Faulty(f"{word} is no number from {low} to {high}")
+    return int(word)
+
+
+def one_of(*words):
+    """Reads one of these words."""
+    taken = frozenset(words)
+
+    def read(word):
+        if word not in taken:
+            raise Faulty(f"{word} is not {'a part' if len(taken) > 8 else ' or '.join(words)}")
+
+    return read
+
+
+def within(low, high):
+    """Reads a number within two ends."""
+    return lambda word: number(word, low, high)
+
+
+def any_word(_):
+    """Reads a word of which the reply tells what is wrong with it."""
+
+
+READERS = {
+    **dict.fromkeys(["X", "Y", "Z", "N"], number),
+    **dict.fromkeys(["SLOT", "COUNT"], within(0, 255)),
+    **dict.fromkeys(["SX", "SZ"], within(1, 8)),
+    **dict.fromkeys(["ID", "NAME"], any_word),
+    "S": within(1, 2),
+    "ITEM": within(0, 65535),
+    "PART": one_of(*sorted(PARTS)),
+    "FLAG": one_of(*FLAGS),
+    "STATE": one_of("allow", "deny"),
+    "[GROUP]": one_of(*GROUPS),
+    "CHANGE": one_of("add", "drop"),
+    "ACTION": one_of(*ACTIONS),
+    "SHAPE": one_of("cuboid", "polygon"),
+}
+
+
+def words_of(line):
+    """The words of a line, none where it says nothing."""
+    return [] if line.startswith("#") else line.split()
+
+
+def check_text(text):
+    """Raises Faulty where a line is too long, or has a byte that no line has."""
+    if len(text) > LINE_BYTES:
+        raise Faulty(f"a line has {LINE_BYTES} bytes at most")
+    if not all(" " <= sign <= "~" for sign in text):
+        raise Faulty("a line has printable ASCII letters and spaces alone")
+
+
+def check_form(start, form, words):
+    """Raises Faulty where words are not of a form."""
+    names = form.split()
+    is_open, least = ".." in names, sum(not name.startswith("[") and name != ".." for name in names)
+    if len(words) < least or not is_open and len(words) > len(names):
+        raise Faulty(f"a line is `{f'{start} {form}'.strip()}`")
+    for name, word in zip(names, words):
+        if name != "..":
+            READERS[name](word)
+    if is_open:
+        check_shape(start, words[least - 1], words[least:])
+
+
+def check_shape(start, kind, words):
+    """Raises Faulty where words are not the numbers of a shape."""
+    for word in words:
+        number(word)
+    if kind == "cuboid" and len(words) != 6:
+        raise Faulty(f"a box is `{start} ID cuboid X1 Y1 Z1 X2 Y2 Z2`")
+    if kind == "polygon" and (len(words) < 2 or len(words) % 2):
+        raise Faulty(f"a polygon is `{start} ID polygon Y0 Y1 X1 Z1 X2 Z2 ..`")
+
+
+def check_command(words):
+    """Raises Faulty where words are no command as it stands behind a player's name."""
+    if not words or words[0] not in COMMANDS:
+        raise Faulty(f"a command is {', '.join(COMMANDS)}")
+    check_form(words[0], COMMANDS[words[0]], words[1:])
+
+
+def check_line(words, players):
+    """Raises Faulty where words are no line of a script with these players."""
+    first = words[0]
+    if first in ("as", "explain") and (len(words) < 2 or words[1].lower() not in players):
+        raise Faulty(f"no such player: {' '.join(words[1:2])}")
+    if first == "as":
+        check_command(words[2:])
+    elif first == "region":
+        if len(words) < 2 or words[1] not in EDITS:
+            raise Faulty(f"an edit is {', '.join(EDITS)}")
+        check_form(f"region {words[1]}", EDITS[words[1]], words[2:])
+    elif first in HEADER or first in OTHERS:
+        check_form(first, (HEADER | OTHERS)[first], words[1:])
+    else:
+        raise Faulty(f"no line begins with {first}")
+
+
+@dataclass
+class Header:
+    """The world as it opens."""
+
+    size: tuple = None
+    players: list = field(default_factory=list)
+    cells: dict = field(default_factory=dict)
+
+    def take(self, words):
+        """Takes in a line, and tells whether it is one of the header."""
+        if words[0] == "world":
+            self.size = tuple(map(int, words[1:4]))
+        elif words[0] == "player":
+            self.players.append(words[1].lower())
+        elif words[0] == "set":
+            self.cells[place_of(words[1:4])] = words[4]
+        return words[0] in HEADER
+
+    def columns(self):
+        """How many columns the world has from west to east, and from north to south."""
+        return self.size[0] * self.size[2] * CHUNK, self.size[1] * self.size[2] * CHUNK
+
+
+def header_of(lines):
+    """The header of a script, and how many lines it takes."""
+    header, count = Header(), 0
+    for count, line in enumerate(lines):
+        words = words_of(line)
+        if words and not header.take(words):
+            return header, count
+    return header, len(lines)
+
+
+def place_of(words):
+    """The place that three words are."""
+    return tuple(map(int, words))
+
+
+def read_lines(file):
+    """The lines of a script, or of replies; `-` is the standard input."""
+    if file == "-":
+        text = sys.stdin.buffer.read()
+    else:
+        with open(file, "rb") as opened:
+            text = opened.read()
+    lines = text.decode("ascii", "replace").split("\n")
+    return lines if lines[-1] else lines[:-1]
+
+
+def edits_of_file(file):
+    """The edits that a regions file means, as the words of `region` lines."""
+    import tomllib
+
+    with open(file, "rb") as opened:
+        policy = tomllib.load(opened)
+    regions = policy.get("region", [])
+    for region in regions:
+        shape = ["cuboid", *region["cuboid"]] if "cuboid" in region else ["polygon", *region["y"], *region["polygon"]]
+        yield ["region", "define", region["id"], *map(str, shape)]
+    for region in regions:
+        for verb in ("priority", "parent"):
+            if verb in region:
+                yield ["region", verb, region["id"], str(region[verb])]
+        for role in ("owner", "member"):
+            for name in region.get(role + "s", []):
+                yield ["region", role, region["id"], "add", name]
+        yield from flag_edits(region["id"], region.get("flags", {}))
+    yield from flag_edits("__global__", policy.get("global", {}))
+
+
+def flag_edits(region, flags):
+    """The edits that set these flags."""
+    for flag, setting in flags.items():
+        yield ["region", "flag", region, flag, *setting.split()]
+
+
+@dataclass
+class Region:
+    """A region as accepted edits leave it. A shape is its kind and its numbers."""
+
+    number: int
+    id: str
+    shape: tuple
+    is_in_force: bool
+    priority: int = 0
+    parent: str = None
+    owners: list = field(default_factory=list)
+    members: list = field(default_factory=list)
+    flags: dict = field(default_factory=dict)
+
+    def heights(self):
+        """The lowest and the highest y."""
+        kind, numbers = self.shape
+        return sorted((numbers[1], numbers[4])) if kind == "cuboid" else numbers[:2]
+
+    def corners(self):
+        """The points of a polygon, or two corners of a box, as columns."""
+        kind, numbers = self.shape
+        if kind == "cuboid":
+            return [(numbers[0], numbers[2]), (numbers[3], numbers[5])]
+        return list(zip(numbers[2::2], numbers[3::2]))
+
+
+class Policy:
+    """The regions that accepted edits leave, and the id of each number that was ever given."""
+
+    def __init__(self, file=None):
+        self.regions, self.ids = {}, {0: "the world at large"}
+        self.flags = {}
+        for words in edits_of_file(file) if file else []:
+            self.accept(words)
+        self.tick()
+
+    def accept(self, words):
+        """Takes in an accepted edit."""
+        verb, name, rest = words[1], words[2].lower(), words[3:]
+        if verb == "define":
+            number = len(self.ids)
+            self.ids[number] = name
+            self.regions[name] = Region(number, name, self.shape(rest), False)
+        elif verb == "remove":
+            del self.regions[name]
+        elif name == "__global__":
+            self.set_flag(self.flags, verb, rest)
+        else:
+            self.change(self.regions[name], verb, rest)
+
+    def change(self, region, verb, rest):
+        """Makes an accepted change of a region."""
+        if verb == "reshape":
+            region.shape, region.is_in_force = self.shape(rest), False
+        elif verb == "priority":
+            region.priority = int(rest[0])
+        elif verb == "parent":
+            region.parent = None if rest[0] == "*" else rest[0].lower()
+        elif verb in ("flag", "clear"):
+            self.set_flag(region.flags, verb, rest)
+        else:
+            names, player = getattr(region, verb + "s"), rest[1].lower()
+            if player in names:
+                names.remove(player)
+            if rest[0] == "add":
+                names.append(player)
+
+    @staticmethod
+    def shape(words):
+        """A shape of its words."""
+        return words[0], [int(word) for word in words[1:]]
+
+    @staticmethod
+    def set_flag(flags, verb, rest):
+        """Sets or clears a flag."""
+        flags.pop(rest[0], None)
+        if verb == "flag":
+            flags[rest[0]] = " ".join(rest[1:])
+
+    def tick(self):
+        """All edits so far are in force."""
+        for region in self.regions.values():
+            region.is_in_force = True
+
+
+class Replies:
+    """Lines of replies, one after another; the next one may be looked at before it is taken."""
+
+    def __init__(self, lines):
+        self.lines, self.next = iter(lines), None
+
+    def look(self):
+        """The next line, or none at the end."""
+        if self.next is None:
+            self.next = next(self.lines, None)
+        return self.next
+
+    def take(self):
+        """Takes the next line, or none at the end."""
+        line = self.look()
+        self.next = None
+        return line
+
+
+def answered(lines, replies):
+    """Each line of a script's body that has replies, as its words, with them. Those of a block come at its end. It stops where replies run out."""
+    block = None
+    for line in lines:
+        words = words_of(line)
+        if not words or words[0] in HEADER:
+            continue
+        if words[0] == "together":
+            block = []
+        elif block is not None and words[0] != "end":
+            block.append(words)
+        else:
+            asked, block = [words] if block is None else block, None
+            for words in asked:
+                told = [replies.take()]
+                if told[0] is None:
+                    return
+                while words[0] == "tick" and (replies.look() or "").startswith(FATES):
+                    told.append(replies.take())
+                yield words, told
+
+
+class Program:
+    """The program at play: a child that a thread of its own feeds, so that what is asked never waits for what is told."""
+
+    def __init__(self, program, options=()):
+        command = [program, *options] if program else [os.path.join(ROOT, "run"), *options, "-"]
+        self.child = subprocess.Popen(command, stdin=subprocess.PIPE, stdout=subprocess.PIPE)
+        self.texts = queue.SimpleQueue()
+        self.feeder = threading.Thread(target=self.feed, daemon=True)
+        self.feeder.start()
+
+    def feed(self):
+        """Hands on what is asked, up to its end. A program that has ended takes no more; its status tells."""
+        try:
+            while (text := self.texts.get()) is not None:
+                self.child.stdin.write(text.encode("ascii", "replace"))
+                self.child.stdin.flush()
+            self.child.stdin.close()
+        except BrokenPipeError:
+            pass
+
+    def ask(self, lines):
+        """Hands lines to the program."""
+        self.texts.put("".join(f"{line}\n" for line in lines))
+
+    def told(self):
+        """The lines that the program writes."""
+        for line in self.child.stdout:
+            yield line.decode("ascii", "replace").rstrip("\n")
+
+    def end(self):
+        """Tells the program that nothing more comes, and gives its status once it has ended and what it writes is read."""
+        self.texts.put(None)
+        for _ in self.child.stdout:
+            pass
+        return self.child.wait()
+
+
+def run(main):
+    """Runs a tool, which gives its status. A line of words tells what it cannot do; where nobody reads what it writes it just ends."""
+    try:
+        status = main()
+        sys.stdout.flush()
+    except BrokenPipeError:
+        os.dup2(os.open(os.devnull, os.O_WRONLY), sys.stdout.fileno())
+        status = 1
+    except OSError as wrong:
+        status = f"{os.path.basename(sys.argv[0])}: {wrong.strerror}: {wrong.filename}"
+    except Faulty as wrong:
+        status = f"{os.path.basename(sys.argv[0])}: {wrong}"
+    sys.exit(status)
+
+
+def add_program(parser):
+    """Adds the options that a tool hands on to the program."""
+    parser.add_argument("--regions", metavar="FILE", help="the regions file that stands as the world opens")
+    parser.add_argument("--program", metavar="PROGRAM", help="the built server; ./run of the repository if it is not given")
+
+
+def options_of(given):
+    """The options of the program by those of a tool."""
+    return ["--regions", given.regions] if given.regions else []

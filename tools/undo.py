@@ -9,7 +9,7 @@ class Change:
 
     def __init__(self, at, entry, words):
         self.at, self.tick, self.player, self.text = at, entry["tick"], entry["player"], entry["cmd"]
-        self.verb, self.place = words[0], vx.place_of(words[1:4])
+        self.verb, self.place = words[0], tuple(words[1:4])
         self.numbers = [int(word) for word in words[4:]] if self.verb in ("put", "take") else []
         # The part that was placed, or that a break took away, and whether that was a lever that was on. The item that was put or taken.
         self.part, self.is_on, self.item = words[4] if self.verb == "place" else None, False, None
@@ -27,23 +27,23 @@ class Place:
 
 
 class Undo:
-    """Follows a record, and takes back what one player did."""
+    """Follows a record, and takes back what one player did. A place is its three words, since most are never reckoned with."""
 
     def __init__(self, player, opening, since, box):
-        self.player, self.opening, self.since, self.box = player, opening, since, box
+        self.player, self.since, self.box = player, since, box
+        self.opening = {tuple(map(str, place)): part for place, part in opening.items()}
         self.places, self.changes, self.count = {}, [], 0
         # Where in the record a piston moved last, by its place and where it faces, if that is known; and where any did.
         self.moved, self.last_move = {}, 0
 
     def take(self, entry):
-        """Takes in a line of the record."""
+        """Takes in a line of the record that is no refusal: those change nothing."""
         self.count += 1
         if "fate" in entry:
             words = entry["fate"].split()
             if words[0] == "moved":
-                self.move(vx.place_of(words[1:4]))
-            return
-        if entry["reply"].startswith(("ok ", "seen ")):
+                self.move(tuple(words[1:4]))
+        else:
             self.follow(entry, entry["cmd"].split())
 
     def move(self, piston):
@@ -55,24 +55,31 @@ class Undo:
 
     def follow(self, entry, words):
         """Follows a command that was carried out."""
-        change = Change(self.count, entry, words)
-        place = self.places.setdefault(change.place, Place(self.opening.get(change.place)))
-        if change.verb == "look":
+        at = tuple(words[1:4])
+        place = self.places.get(at)
+        if place is None:
+            place = self.places[at] = Place(self.opening.get(at))
+        if words[0] == "look":
             self.see(place, entry["reply"].removeprefix("seen "))
-        elif change.verb in ("place", "break"):
+        elif words[0] != "open":
+            self.change(place, Change(self.count, entry, words))
+
+    def change(self, place, change):
+        """Follows a command that changed its place."""
+        if change.verb in ("place", "break"):
             self.build(place, change)
         elif change.verb == "turn":
             place.is_on = not place.is_on
-        elif change.verb in ("put", "take"):
+        else:
             self.transfer(place, change)
-        if change.verb not in ("look", "open") and self.is_asked(change):
+        if self.is_asked(change):
             self.changes.append(change)
 
     def is_asked(self, change):
         """Whether a change is one of those to be taken back."""
         if change.player != self.player or change.tick < self.since:
             return False
-        return self.box is None or all(low <= at <= high for at, (low, high) in zip(change.place, self.box))
+        return self.box is None or all(low <= at <= high for at, (low, high) in zip(vx.place_of(change.place), self.box))
 
     def see(self, place, cell):
         """A look tells what stands there. Heads and air are no parts."""
@@ -98,9 +105,12 @@ class Undo:
 
     def movers(self, place, since, own=False):
         """A piston that moved behind this line of the record and may have taken the place, one that stands there only where that is asked; none where there is none."""
-        for facing, step in vx.DIRECTIONS.items() if self.last_move > since else ():
+        if self.last_move <= since:
+            return None
+        x, y, z = vx.place_of(place)
+        for facing, (east, up, south) in vx.DIRECTIONS.items():
             for far in range(0 if own else 1, vx.REACH + 1):
-                piston = tuple(at - far * one for at, one in zip(place, step))
+                piston = str(x - far * east), str(y - far * up), str(z - far * south)
                 if max(self.moved.get((piston, facing), 0), self.moved.get((piston, None), 0)) > since:
                     return piston
         return None
@@ -117,7 +127,7 @@ class Undo:
 
     def back(self, place, change):
         """The commands that take a change back."""
-        at = " ".join(map(str, change.place))
+        at = " ".join(change.place)
         self.check_top(place, change)
         if change.verb == "turn":
             return [f"turn {at}"]
@@ -141,7 +151,7 @@ class Undo:
             raise vx.Faulty(f"{top.player} did {top.text} in tick {top.tick}")
         piston = change.verb not in ("put", "take") and self.movers(change.place, change.at, own=True)
         if piston:
-            raise vx.Faulty(f"the piston at {' '.join(map(str, piston))} moved, and may have taken the place")
+            raise vx.Faulty(f"the piston at {' '.join(piston)} moved, and may have taken the place")
 
     def back_in_chest(self, place, change, at):
         """The command that takes a put or a take back. No piston moves a chest."""

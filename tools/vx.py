@@ -389,9 +389,12 @@ class Program:
         for line in self.child.stdout:
             yield line.decode("ascii", "replace").rstrip("\n")
 
-    def end(self):
-        """Tells the program that nothing more comes, and gives its status once it has ended and what it writes is read."""
+    def close(self):
+        """Tells the program that nothing more comes."""
         self.texts.put(None)
+
+    def end(self):
+        """Passes over what is told and not read, and gives the program's status."""
         for _ in self.child.stdout:
             pass
         return self.child.wait()

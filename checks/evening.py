@@ -1,0 +1,153 @@
+"""An evening of tools/live: sixteen players who send 2,000 lines each at once, one who sends garbage, one whose line is too long, and one who leaves and comes back.
+Every reply is the one that the script, which was written as it went, gives when it is played again."""
+import os, random, re, socket, subprocess, sys, tempfile, threading
+
+ROOT = os.path.dirname(os.path.dirname(os.path.abspath(__file__)))
+PLAYERS, LINES = 16, 2000
+PARTS = ["stone", "dirt", "planks", "dust", "chest", "lever:down", "lamp", "piston:east", "torch:down"]
+
+
+def lines_of(player):
+    """A player's lines: most about his own corner, and some about places that all want."""
+    chance = random.Random(player)
+    for _ in range(LINES):
+        x, y, z = chance.randrange(4), chance.randrange(2), chance.randrange(4)
+        if chance.random() < 0.8:
+            x, z = x + 16 * (player % 4), z + 16 * (player // 4)
+        verb = chance.choice(["place", "place", "break", "look", "turn", "put", "take", "open", "explain"])
+        behind = {"place": f" {chance.choice(PARTS)}", "put": f" {chance.randrange(4)} 7 9", "take": f" {chance.randrange(4)} 5"}.get(verb, "")
+        yield f"explain block-place {x} {y} {z}" if verb == "explain" else f"{verb} {x} {y} {z}{behind}"
+
+
+class Client:
+    """Somebody at the other end of a line, and what he is told."""
+
+    def __init__(self, port, lines):
+        self.socket = socket.create_connection(("127.0.0.1", port), timeout=30)
+        self.text = "".join(f"{line}\n" for line in lines).encode("latin-1")
+        self.file = self.socket.makefile("r", encoding="ascii", newline="\n")
+        self.sender = threading.Thread(target=self.send, daemon=True)
+        self.sender.start()
+
+    def send(self):
+        """Sends all lines, unless he is cut off before."""
+        try:
+            self.socket.sendall(self.text)
+        except OSError:
+            pass
+
+    def told(self, count):
+        """So many replies, or those that come before the end; ticks and what they move, and who has joined, are none."""
+        replies = []
+        while len(replies) < count and (line := self.file.readline()):
+            if not re.match("tick |moved |denied |beaten |joined ", line):
+                replies.append(line.rstrip("\n"))
+        return replies
+
+    def sent(self):
+        """He has sent all his lines."""
+        self.sender.join()
+        self.socket.shutdown(socket.SHUT_WR)
+
+    def close(self):
+        """Leaves."""
+        self.file.close()
+        self.socket.close()
+
+
+class Host:
+    """tools/live with a world of its own."""
+
+    def __init__(self, program, folder):
+        world, self.script = os.path.join(folder, "world.vx"), os.path.join(folder, "evening.vx")
+        with open(world, "w") as text:
+            text.write("world 4 4 1\n" + "".join(f"player p{player}\n" for player in range(PLAYERS)) + "set 1 0 1 obsidian\n")
+        command = [os.path.join(ROOT, "tools/live"), world, "--port", "0", "--tick-every", "20", "--script", self.script, "--program", program]
+        self.child = subprocess.Popen(command, stdin=subprocess.PIPE, stdout=subprocess.PIPE, text=True)
+        self.tokens = {}
+        while line := self.child.stdout.readline():
+            if line.startswith("listens "):
+                self.port = int(re.search("port ([0-9]+)", line)[1])
+                return
+            self.tokens[line.split()[1]] = line.rstrip("\n")
+        raise ValueError("tools/live did not listen")
+
+    def join(self, player, lines):
+        """A player who joins and sends these lines."""
+        return Client(self.port, [self.tokens[f"p{player}"], *lines])
+
+    def console(self, line):
+        """A line of the console."""
+        self.child.stdin.write(line + "\n")
+        self.child.stdin.flush()
+
+    def stop(self):
+        """Ends the evening, and gives the status."""
+        out, _ = self.child.communicate("stop\n", timeout=30)
+        return self.child.returncode, out
+
+
+def replayed(program, script):
+    """The replies to each player's lines, as the script gives them when it is played again."""
+    sys.path.insert(0, os.path.join(ROOT, "tools"))
+    import vx
+
+    with open(script, "rb") as text:
+        ran = subprocess.run([program], stdin=text, capture_output=True, timeout=60)
+    replies = {f"p{player}": [] for player in range(PLAYERS)}
+    for words, told in vx.answered(vx.read_lines(script), vx.Replies(ran.stdout.decode().split("\n"))):
+        if words[0] in ("as", "explain"):
+            replies[words[1]].append(told[0])
+    return ran.returncode, replies
+
+
+def check(program):
+    """Plays the evening, and raises a ValueError where something is not as it should be."""
+    with tempfile.TemporaryDirectory() as folder:
+        host = Host(program, folder)
+        try:
+            told, wrongs = follow(host)
+            status, out = host.stop()
+        finally:
+            host.child.kill()
+        again, replies = replayed(program, host.script)
+        if (status, again) != (0, 0):
+            raise ValueError(f"status {status}, and {again} when it was played again: {out}")
+        for player, (begins, ends) in told.items():
+            due = replies[player]
+            if begins != due[: len(begins)] or ends != due[len(due) - len(ends) :] or not ends and len(begins) != LINES:
+                raise ValueError(f"{player} was told {begins + ends}, and is told {due}")
+        if wrongs:
+            raise ValueError("; ".join(wrongs))
+
+
+def follow(host):
+    """What each player is told first and last in the course of the evening, and what is wrong with those who are cut off."""
+    strangers = [
+        (Client(host.port, ["join p1 0123456789abcdef", "break 1 0 1"]), 1, "cut off: join by `join NAME TOKEN`, with a name and a token of this evening"),
+        (Client(host.port, ["x" * 5000]), 1, "cut off: a line has 4096 bytes at most"),
+        (Client(host.port, ["\xff\x00 tick", "world 1 1 1"]), 1, "cut off: join by `join NAME TOKEN`, with a name and a token of this evening"),
+    ]
+    clients = {player: host.join(player, lines_of(player)) for player in range(1, PLAYERS)}
+    host.console("region define middle cuboid 0 0 0 3 63 3")
+    host.console("region owner middle add p1")
+    garbage = host.join(0, ["tick", "end", "as p1 look 0 0 0", "place 1 1", "\xe4", "break 1 0 1 1"] * 40)
+    strangers.append((garbage, 1 << 20, "cut off: more than 100 lines were faulty"))
+    told = {f"p{player}": (client.told(LINES), []) for player, client in clients.items()}
+    wrongs = [f"a line {due!r} is due, and not {last!r}" for client, count, due in strangers if (last := (client.told(count) or [""])[-1]) != due]
+    told["p0"] = come_and_go(host, list(lines_of(0)))
+    return told, wrongs
+
+
+def come_and_go(host, lines):
+    """What a player is told who sends a third of his lines and reads the replies, sends another and leaves before he has read most of them, and comes back with the rest.
+    Between the two parts there are replies that he has not read."""
+    first = host.join(0, lines[: LINES // 3])
+    first.sent()
+    begins = first.told(LINES)
+    second = host.join(0, lines[LINES // 3 : 2 * LINES // 3])
+    begins += second.told(10)
+    second.close()
+    third = host.join(0, lines[2 * LINES // 3 :])
+    third.sent()
+    return begins, third.told(LINES)

@@ -255,11 +255,11 @@ class Drawing:
     def legend(self, has_regions, denials):
         """The legend of what is on the map, and how many rows it takes."""
         shown = {}
-        for text in sorted(set(self.cells.values())):
+        for text in sorted(set(self.cells.values()), key=lambda text: (look_of(text)[1] in UPRIGHT, text)):
             look, _ = look_of(text)
             shown.setdefault("dust, level 0 to 15" if look.startswith(DUST) else look.removesuffix(":0").replace(":", ", "), text)
         shown = {name.replace("lamp, on, 1", "lamp, on for its last tick"): text for name, text in shown.items()}
-        entries = [(name, list(self.swatch(text))) for name, text in shown.items()]
+        entries = [(name, list(self.swatch(text))) for name, text in sorted(shown.items())]
         if has_regions:
             entries.append(("region, with its number", [f'<rect x="1" y="1" width="14" height="14" fill="none" stroke="{LINES[0]}" stroke-width="2"/>']))
         for is_machine, name in ((False, "a player was denied"), (True, "a machine was denied")):

@@ -16,12 +16,12 @@ class Change:
 
 
 class Place:
-    """What the record says of a place: the part that stands there, if it is known, all changes of the block, and the slots of the chest."""
+    """What the record says of a place: the part that stands there, if it is known, all changes of the block, the last turn by another, and the slots of the chest."""
 
-    __slots__ = ("part", "is_on", "blocks", "slots", "since")
+    __slots__ = ("part", "is_on", "blocks", "turn", "slots", "since")
 
     def __init__(self, part):
-        self.part, self.is_on, self.blocks, self.slots = part, False, [], {}
+        self.part, self.is_on, self.blocks, self.turn, self.slots = part, False, [], None, {}
         # Where in the record the part was seen last.
         self.since = 0
 
@@ -70,6 +70,7 @@ class Undo:
             self.build(place, change)
         elif change.verb == "turn":
             place.is_on = not place.is_on
+            place.turn = change if change.player != self.player else place.turn
         else:
             self.transfer(place, change)
         if self.is_asked(change):
@@ -146,9 +147,9 @@ class Undo:
 
     def check_top(self, place, change):
         """Raises Faulty where the block that the change is about may be there no longer."""
-        if place.blocks and place.blocks[-1].at > change.at:
-            top = place.blocks[-1]
-            raise vx.Faulty(f"{top.player} did {top.text} in tick {top.tick}")
+        for later in [*place.blocks[-1:], *[place.turn] * (change.verb == "turn")]:
+            if later and later.at > change.at:
+                raise vx.Faulty(f"{later.player} did {later.text} in tick {later.tick}")
         piston = change.verb not in ("put", "take") and self.movers(change.place, change.at, own=True)
         if piston:
             raise vx.Faulty(f"the piston at {' '.join(piston)} moved, and may have taken the place")

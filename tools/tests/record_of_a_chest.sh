@@ -1,0 +1,1 @@
+"$program" --json <examples/chest.vx | tools/record - chest 5 1 5

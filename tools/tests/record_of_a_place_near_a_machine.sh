@@ -1,0 +1,1 @@
+"$program" --json <examples/clock.vx | tools/record - who 3 1 5

@@ -1,0 +1,1 @@
+"$program" --json <examples/plot.vx | tools/record - player BOB

@@ -1,0 +1,1 @@
+"$program" --json <examples/door.vx | tools/record - tick 2

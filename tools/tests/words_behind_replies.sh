@@ -1,0 +1,3 @@
+tools/words examples/chest.vx --program "$program"
+tools/words examples/denial.vx --program "$program"
+tools/words examples/ask.vx --program "$program"

@@ -1,9 +1,9 @@
-"""An evening of tools/live: sixteen players who send 2,000 lines each at once, one who sends garbage, one whose line is too long, and one who leaves and comes back.
-Every reply is the one that the script, which was written as it went, gives when it is played again."""
+"""An evening of tools/live: sixteen players who send 2,000 lines each at once, strangers, and then one who sends garbage, one who floods it, and one who leaves and comes
+back. Every reply is the one that the script, which was written as it went, gives when it is played again."""
 import os, random, re, socket, subprocess, sys, tempfile, threading
 
 ROOT = os.path.dirname(os.path.dirname(os.path.abspath(__file__)))
-PLAYERS, LINES = 16, 2000
+PLAYERS, LINES, LATE = 16, 2000, 900
 PARTS = ["stone", "dirt", "planks", "dust", "chest", "lever:down", "lamp", "piston:east", "torch:down"]
 
 
@@ -128,26 +128,30 @@ def follow(host):
         (Client(host.port, ["x" * 5000]), 1, "cut off: a line has 4096 bytes at most"),
         (Client(host.port, ["\xff\x00 tick", "world 1 1 1"]), 1, "cut off: join by `join NAME TOKEN`, with a name and a token of this evening"),
     ]
-    clients = {player: host.join(player, lines_of(player)) for player in range(1, PLAYERS)}
+    clients = [host.join(player, lines_of(player)) for player in range(PLAYERS)]
     host.console("region define middle cuboid 0 0 0 3 63 3")
     host.console("region owner middle add p1")
+    told = {f"p{player}": (client.told(LINES), []) for player, client in enumerate(clients)}
     garbage = host.join(0, ["tick", "end", "as p1 look 0 0 0", "place 1 1", "\xe4", "break 1 0 1 1"] * 40)
     strangers.append((garbage, 1 << 20, "cut off: more than 100 lines were faulty"))
-    told = {f"p{player}": (client.told(LINES), []) for player, client in clients.items()}
+    flood = host.join(2, ["look 40 1 40"] * 20000)
+    strangers.append((flood, 1 << 20, "cut off: 4096 lines at once, and 200 a second, are the most"))
     wrongs = [f"a line {due!r} is due, and not {last!r}" for client, count, due in strangers if (last := (client.told(count) or [""])[-1]) != due]
-    told["p0"] = come_and_go(host, list(lines_of(0)))
+    begins, ends = come_and_go(host, list(lines_of(1))[:LATE])
+    told["p1"] = told["p1"][0] + begins, ends
     return told, wrongs
 
 
 def come_and_go(host, lines):
     """What a player is told who sends a third of his lines and reads the replies, sends another and leaves before he has read most of them, and comes back with the rest.
     Between the two parts there are replies that he has not read."""
-    first = host.join(0, lines[: LINES // 3])
+    third = LATE // 3
+    first = host.join(1, lines[:third])
     first.sent()
-    begins = first.told(LINES)
-    second = host.join(0, lines[LINES // 3 : 2 * LINES // 3])
+    begins = first.told(LATE)
+    second = host.join(1, lines[third : 2 * third])
     begins += second.told(10)
     second.close()
-    third = host.join(0, lines[2 * LINES // 3 :])
-    third.sent()
-    return begins, third.told(LINES)
+    last = host.join(1, lines[2 * third :])
+    last.sent()
+    return begins, last.told(LATE)

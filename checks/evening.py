@@ -101,6 +101,21 @@ def replayed(program, script):
     return ran.returncode, replies
 
 
+def blocks_are_apart(script):
+    """Raises a ValueError where two players of a block name one place, so that replies could be others when the script is played again, or where there is no block."""
+    block, count = None, 0
+    with open(script) as lines:
+        for words in map(str.split, lines):
+            if words[0] == "together":
+                block, count = {}, count + 1
+            elif words[0] == "end":
+                block = None
+            elif block is not None and block.setdefault(tuple(words[3:6]), words[1]) != words[1]:
+                raise ValueError(f"two players of a block name {words[3:6]}")
+    if not count:
+        raise ValueError("nothing was done at once")
+
+
 def check(program):
     """Plays the evening, and raises a ValueError where something is not as it should be."""
     with tempfile.TemporaryDirectory() as folder:
@@ -110,6 +125,7 @@ def check(program):
             status, out = host.stop()
         finally:
             host.child.kill()
+        blocks_are_apart(host.script)
         again, replies = replayed(program, host.script)
         if (status, again) != (0, 0):
             raise ValueError(f"status {status}, and {again} when it was played again: {out}")

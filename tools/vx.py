@@ -266,8 +266,16 @@ class Policy:
     def __init__(self, file=None):
         self.regions, self.ids = {}, {0: "the world at large"}
         self.flags = {}
-        for words in edits_of_file(file) if file else []:
-            self.accept(words)
+        if file:
+            self.read(file)
+
+    def read(self, file):
+        """Takes in a regions file, which is in force as the world opens."""
+        try:
+            for words in edits_of_file(file):
+                self.accept(words)
+        except (ImportError, ValueError, KeyError, TypeError) as wrong:
+            raise Faulty(f"{file} is no regions file, or this Python, before 3.11, reads none: {wrong}") from None
         self.tick()
 
     def accept(self, words):

@@ -60,13 +60,12 @@ def number(word, low=-(2**31), high=2**31 - 1):
     return int(word)
 
 
-def one_of(*words):
-    """Reads one of these words."""
-    taken = frozenset(words)
+def one_of(words, what):
+    """Reads one of these words, which are what."""
 
     def read(word):
-        if word not in taken:
-            raise Faulty(f"{word} is not {'a part' if len(taken) > 8 else ' or '.join(words)}")
+        if word not in words:
+            raise Faulty(f"{word} is not {what}")
 
     return read
 
@@ -87,13 +86,13 @@ READERS = {
     **dict.fromkeys(["ID", "NAME"], any_word),
     "S": within(1, 2),
     "ITEM": within(0, 65535),
-    "PART": one_of(*sorted(PARTS)),
-    "FLAG": one_of(*FLAGS),
-    "STATE": one_of("allow", "deny"),
-    "[GROUP]": one_of(*GROUPS),
-    "CHANGE": one_of("add", "drop"),
-    "ACTION": one_of(*ACTIONS),
-    "SHAPE": one_of("cuboid", "polygon"),
+    "PART": one_of(PARTS, "a part"),
+    "FLAG": one_of(FLAGS, "a flag"),
+    "STATE": one_of(("allow", "deny"), "allow or deny"),
+    "[GROUP]": one_of(GROUPS, "a group"),
+    "CHANGE": one_of(("add", "drop"), "add or drop"),
+    "ACTION": one_of(ACTIONS, "an action"),
+    "SHAPE": one_of(("cuboid", "polygon"), "cuboid or polygon"),
 }
 
 
@@ -106,7 +105,7 @@ def check_text(text):
     """Raises Faulty where a line is too long, or has a byte that no line has."""
     if len(text) > LINE_BYTES:
         raise Faulty(f"a line has {LINE_BYTES} bytes at most")
-    if not all(" " <= sign <= "~" for sign in text):
+    if not (text.isascii() and text.isprintable()):
         raise Faulty("a line has printable ASCII letters and spaces alone")
 
 
@@ -417,7 +416,7 @@ def run(main):
         os.dup2(os.open(os.devnull, os.O_WRONLY), sys.stdout.fileno())
         status = 1
     except OSError as wrong:
-        status = f"{os.path.basename(sys.argv[0])}: {wrong.strerror}: {wrong.filename}"
+        status = f"{os.path.basename(sys.argv[0])}: {wrong.strerror}" + (f": {wrong.filename}" if wrong.filename else "")
     except Faulty as wrong:
         status = f"{os.path.basename(sys.argv[0])}: {wrong}"
     sys.exit(status)

@@ -248,7 +248,8 @@ class Drawing:
         west, north, whole = short(x - size), short(y - size), short(2 * size)
         shape = f'<path d="M{west} {north}l{whole} {whole}m0-{whole}l-{whole} {whole}"/>'
         if is_machine:
-            shape = f'<circle cx="{short(x)}" cy="{short(y)}" r="{short(1.2 * size)}"/><path d="M{short(x + size * 0.8)} {short(y - size * 0.8)}l-{short(1.6 * size)} {short(1.6 * size)}"/>'
+            shape = f'<circle cx="{short(x)}" cy="{short(y)}" r="{short(1.2 * size)}"/>'
+            shape += f'<path d="M{short(x + size * 0.8)} {short(y - size * 0.8)}l-{short(1.6 * size)} {short(1.6 * size)}"/>'
         ink = "#7b1fa2" if is_machine else "#d3120f"
         yield f'<g pointer-events="all"><g stroke="#fff" stroke-width="5">{shape}</g><g stroke="{ink}">{shape}</g><title>{escape(tip)}</title></g>'
 

@@ -2,7 +2,11 @@
 back. Every reply is the one that the script, which was written as it went, gives when it is played again."""
 import os, random, re, socket, subprocess, sys, tempfile, threading
 
+sys.dont_write_bytecode = True
 ROOT = os.path.dirname(os.path.dirname(os.path.abspath(__file__)))
+sys.path.insert(0, os.path.join(ROOT, "tools"))
+import vx
+
 PLAYERS, LINES, LATE = 16, 2000, 900
 PARTS = ["stone", "dirt", "planks", "dust", "chest", "lever:down", "lamp", "piston:east", "torch:down"]
 
@@ -89,9 +93,6 @@ class Host:
 
 def replayed(program, script):
     """The replies to each player's lines, as the script gives them when it is played again."""
-    sys.path.insert(0, os.path.join(ROOT, "tools"))
-    import vx
-
     with open(script, "rb") as text:
         ran = subprocess.run([program], stdin=text, capture_output=True, timeout=60)
     replies = {f"p{player}": [] for player in range(PLAYERS)}

@@ -13,7 +13,6 @@ FLAGS = ["build", "block-break", "block-place", "use", "chest-access", "passthro
 ACTIONS = ["block-place", "block-break", "use", "chest-access"]
 GROUPS = ["all", "members", "owners", "nonmembers", "nonowners"]
 FATES = ("moved", "denied", "beaten")
-OUTSIDE = "refused 1 out of world"
 PARTS = {
     *["stone", "dirt", "planks", "glass", "obsidian", "bedrock", "chest", "dust", "lamp"],
     *[f"torch:{facing}" for facing in DIRECTIONS if facing != "up"],
@@ -64,6 +63,7 @@ def one_of(words, what):
     """Reads one of these words, which are what."""
 
     def read(word):
+        """Raises Faulty where a word is none of them."""
         if word not in words:
             raise Faulty(f"{word} is not {what}")
 
@@ -260,11 +260,10 @@ class Region:
 
 
 class Policy:
-    """The regions that accepted edits leave, and the id of each number that was ever given."""
+    """The regions that accepted edits leave, without the world at large, and the id of each number that was ever given."""
 
     def __init__(self, file=None):
         self.regions, self.ids = {}, {0: "the world at large"}
-        self.flags = {}
         if file:
             self.read(file)
 
@@ -286,9 +285,7 @@ class Policy:
             self.regions[name] = Region(number, name, self.shape(rest), False)
         elif verb == "remove":
             del self.regions[name]
-        elif name == "__global__":
-            self.set_flag(self.flags, verb, rest)
-        else:
+        elif name in self.regions:
             self.change(self.regions[name], verb, rest)
 
     def change(self, region, verb, rest):
@@ -300,7 +297,8 @@ class Policy:
         elif verb == "parent":
             region.parent = None if rest[0] == "*" else rest[0].lower()
         elif verb in ("flag", "clear"):
-            self.set_flag(region.flags, verb, rest)
+            region.flags.pop(rest[0], None)
+            region.flags |= {rest[0]: " ".join(rest[1:])} if verb == "flag" else {}
         else:
             names, player = getattr(region, verb + "s"), rest[1].lower()
             if player in names:
@@ -312,13 +310,6 @@ class Policy:
     def shape(words):
         """A shape of its words."""
         return words[0], [int(word) for word in words[1:]]
-
-    @staticmethod
-    def set_flag(flags, verb, rest):
-        """Sets or clears a flag."""
-        flags.pop(rest[0], None)
-        if verb == "flag":
-            flags[rest[0]] = " ".join(rest[1:])
 
     def tick(self):
         """All edits so far are in force."""

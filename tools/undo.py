@@ -1,6 +1,9 @@
 """How what a player did is taken back, by the record: which commands, newest first, and what has to stay as it is."""
 import vx
 
+# What no piston moves or breaks.
+STAYS = ("obsidian", "bedrock", "chest")
+
 
 class Change:
     """A command that was carried out."""
@@ -92,8 +95,9 @@ class Undo:
 
     def build(self, place, change):
         """A placement, or a break, which takes away what is known to stand there."""
-        if change.verb == "break" and self.is_asked(change) and not self.movers(change.place, place.since):
-            change.part, change.is_on = place.part, place.is_on
+        if change.verb == "break" and self.is_asked(change):
+            if place.part in STAYS or not self.movers(change.place, place.since):
+                change.part, change.is_on = place.part, place.is_on
         place.part, place.is_on, place.slots, place.since = change.part if change.verb == "place" else None, False, {}, self.count
         place.blocks.append(change)
 
@@ -139,7 +143,7 @@ class Undo:
         if change.verb == "place" and change.part == "bedrock":
             raise vx.Faulty("bedrock does not break")
         if any(count for _, count in place.slots.values()):
-            raise vx.Faulty("the chest holds what others put there")
+            raise vx.Faulty("the chest would not be empty")
         place.blocks.pop()
         if change.verb == "place":
             return [f"break {at}"]
@@ -150,12 +154,14 @@ class Undo:
         for later in [*place.blocks[-1:], *[place.turn] * (change.verb == "turn")]:
             if later and later.at > change.at:
                 raise vx.Faulty(f"{later.player} did {later.text} in tick {later.tick}")
-        piston = change.verb not in ("put", "take") and self.movers(change.place, change.at, own=True)
+        if change.verb in ("put", "take") or change.verb == "place" and change.part in STAYS:
+            return
+        piston = self.movers(change.place, change.at, own=True)
         if piston:
             raise vx.Faulty(f"the piston at {' '.join(piston)} moved, and may have taken the place")
 
     def back_in_chest(self, place, change, at):
-        """The command that takes a put or a take back. No piston moves a chest."""
+        """The command that takes a put or a take back."""
         slot, count = change.numbers[0], change.numbers[-1]
         item, held = place.slots.get(slot, (None, 0))
         if change.item is None:

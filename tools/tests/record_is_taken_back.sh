@@ -23,7 +23,7 @@ tools/record "$work/record" undo ann
 tools/record "$work/record" undo ann --opening "$work/back.vx"
 tools/record "$work/record" undo ann --since 2
 tools/record "$work/record" undo ann --box 0 0 0 2 63 15 --as bob
-# What a piston has moved is left; one that is known to face elsewhere has moved nothing here.
+# What a piston may have moved is left, and no piston moves a chest; one that is known to face elsewhere has moved nothing here.
 cat >"$work/pistons.vx" <<END
 world 1 1 1
 player ann
@@ -31,6 +31,7 @@ set 4 1 4 piston:east
 set 3 1 4 lever:east
 as ann place 6 1 4 stone
 as ann place 4 1 6 stone
+as ann place 4 1 8 chest
 as ann turn 3 1 4
 tick
 END

@@ -1,2 +1,4 @@
 tools/words examples/file.vx examples/file.stdout --regions examples/plot.toml
-"$program" --json <examples/together.vx | tools/words examples/together.vx -
+"$program" <examples/together.vx | tools/words examples/together.vx -
+# A record is passed on as it is.
+"$program" --json <examples/denied.vx | tools/words examples/denied.vx -

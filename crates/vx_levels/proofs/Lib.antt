@@ -1,3 +1,4 @@
+pub mod Adding
 pub mod Agreeing
 pub mod Keeping
 pub mod Mending

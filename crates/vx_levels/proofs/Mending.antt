@@ -1,15 +1,17 @@
 -- One position looked at while levels are made right, over a table that keeps links too.
-use Rattle.std.proofs.Common.{◌≡◌, ℕ, ◌+◌, ◌≤◌, ◌==◌, inl, inr, true, false, if◌then◌else◌, List, [], ◌∷◌, ◌++◌, refl, sym, ap, ◌∙◌, subst, arith}
+use Rattle.std.proofs.Common.{◌≡◌, ℕ, ◌+◌, ◌-◌, ◌≤◌, ◌==◌, inl, inr, true, false, if◌then◌else◌, List, [], ◌∷◌, ◌++◌, refl, sym, ap, ◌∙◌, subst, arith}
 use Rattle.std.specs.List.{filter}
-use Rattle.std.proofs.lemmas.Bool.{cases_Bool, or_parts}
+use Rattle.std.proofs.lemmas.Bool.{cases_Bool, or_parts, false≢true}
 use Rattle.vx_geom.specs.declared.pos.Pos.{Pos}
 use Rattle.vx_block.specs.declared.cell.Cell.{Cell}
 use Rattle.vx_block.specs.Components.{is_dust}
-use Rattle.vx_levels.specs.Consistency.{IsConsistent}
+use Rattle.vx_levels.specs.Consistency.{pulled, IsConsistent}
 use Rattle.vx_levels.specs.Linked.{level_at, links_at, linked, KnowsLinks}
 use Rattle.vx_levels.specs.Pending.{PendingData, is_pending, AreKept, is_between, IsPut}
 use Rattle.vx_levels.specs.Repairs.{Follows, IsRight, IsRightBut, IsUnderRepair}
+use Rattle.vx_levels.proofs.Agreeing.{greatest_same, links_to_dust}
 use Rattle.vx_levels.proofs.Keeping.{IsTaken, none_in, left_out, moved_to, after_fall, after_rise, begun_at, all_exact}
+use Rattle.vx_power.specs.Dust.{links}
 use Rattle.vx_power.specs.Levels.{LevelTable, has, same_place}
 use Rattle.vx_power.specs.Signals.{is_fed}
 use Rattle.vx_power.proofs.Having.{place_is}
@@ -22,6 +24,15 @@ follows_put put more old new p level is changed q none =
     let off = (or_parts (same_place q p) false parts.1).0 in
     (parts.0, changed q ∙ ap (λ b. if b then level else level_at old q) off)
 
+-- a position without a level stays so
+pub put_nothing : (table : LevelTable) (p : Pos) → level_at table p ≡ 0 → IsPut (level_at table) (level_at table) p 0
+put_nothing table p none q = elim (cases_Bool (same_place q p)) [
+  | inl same ↦
+      ap (level_at table) (place_is q p same) ∙ none
+      ∙ sym (ap (λ b. if b then 0 else level_at table q) same)
+  | inr off ↦ sym (ap (λ b. if b then 0 else level_at table q) off)
+]
+
 -- levels that stayed before others changed
 pub follows_on : (put more : List Pos) (old middle new : LevelTable) → ((p : Pos) → level_at middle p ≡ level_at old p)
     → Follows put middle more new → Follows put old more new
@@ -33,6 +44,7 @@ pub begun_right : (w : Pos → Cell) (table : LevelTable) (unsure : List Pos) �
 begun_right w table unsure right = record {
   kept = begun_at w (level_at table) unsure (λ p. omega arith) right.consistent;
   linked = right.linked;
+  empty = right.empty;
 }
 
 -- where nothing is pending all is right
@@ -40,10 +52,12 @@ pub all_right : (w : Pos → Cell) (table : LevelTable) → IsUnderRepair w tabl
 all_right w table right = record {
   exact = all_exact w (level_at table) right.kept;
   linked = λ p. right.linked p refl;
+  empty = λ p bare. right.empty p bare refl;
 }
 
 module _ (w : Pos → Cell) (old : LevelTable) (before pending : PendingData) (p : Pos)
-    (taken : IsTaken before pending p) (right : IsUnderRepair w old before) (known : KnowsLinks w old p) where
+    (taken : IsTaken before pending p) (right : IsUnderRepair w old before)
+    (known : KnowsLinks w old p) (bare_here : is_dust (w p) ≡ false → level_at old p ≡ 0) where
   -- the links of all that is sure are known, where no links have changed
   links_known : (new : LevelTable) → ((q : Pos) → links_at new q ≡ links_at old q)
       → (q : Pos) → has pending.unsure q ≡ false → KnowsLinks w new q
@@ -55,12 +69,26 @@ module _ (w : Pos → Cell) (old : LevelTable) (before pending : PendingData) (p
         | inr off ↦ right.linked q (taken.unsure q off none)
       ]
 
+  -- and what is no dust has no level, where only that of dust has changed
+  still_empty : (new : LevelTable) → ((q : Pos) → is_dust (w q) ≡ false → level_at new q ≡ level_at old q)
+      → (q : Pos) → is_dust (w q) ≡ false → has pending.unsure q ≡ false → level_at new q ≡ 0
+  still_empty new stay q bare none = stay q bare ∙ at q bare none
+    where
+      at : (q : Pos) → is_dust (w q) ≡ false → has pending.unsure q ≡ false → level_at old q ≡ 0
+      at q bare none = elim (cases_Bool (same_place q p)) [
+        | inl same ↦
+            let one = place_is q p same in
+            ap (level_at old) one ∙ bare_here (sym (ap (λ r. is_dust (w r)) one) ∙ bare)
+        | inr off ↦ right.empty q bare (taken.unsure q off none)
+      ]
+
   -- it was looked at and left
   pub left_right : (is_dust (w p) ≡ true → ((level_at old p == 15) ≡ is_fed w p) × IsConsistent w (level_at old) p)
       → IsUnderRepair w old pending
   left_right agrees = record {
     kept = left_out w (level_at old) before pending p taken right.kept agrees;
     linked = links_known old (λ q. refl);
+    empty = still_empty old (λ q bare. refl);
   }
 
   -- it was put into another list
@@ -70,9 +98,17 @@ module _ (w : Pos → Cell) (old : LevelTable) (before pending : PendingData) (p
   moved_right final same fed more = record {
     kept = moved_to w (level_at old) before pending p taken right.kept final fed more (λ q none. sym (ap (λ ps. has ps q) same) ∙ none);
     linked = λ q none. links_known old (λ q. refl) q (sym (ap (λ ps. has ps q) same) ∙ none);
+    empty = λ q bare none. still_empty old (λ q bare. refl) q bare (sym (ap (λ ps. has ps q) same) ∙ none);
   }
 
   module _ (new : LevelTable) (final : PendingData) (stay : (q : Pos) → links_at new q ≡ links_at old q) (dust : is_dust (w p) ≡ true) where
+    -- another level of dust leaves those of all that is no dust
+    dust_put : (to : ℕ) → IsPut (level_at old) (level_at new) p to → (q : Pos) → is_dust (w q) ≡ false → level_at new q ≡ level_at old q
+    dust_put to put q bare = elim (cases_Bool (same_place q p)) [
+      | inl same ↦ absurd (false≢true (sym bare ∙ ap (λ r. is_dust (w r)) (place_is q p same) ∙ dust))
+      | inr off ↦ put q ∙ ap (λ b. if b then to else level_at old q) off
+    ]
+
     -- its level was taken away
     pub fallen_right : (was : ℕ) → was ≡ level_at old p → is_fed w p ≡ false → IsPut (level_at old) (level_at new) p 0
         → final ≡ record pending {
@@ -87,6 +123,7 @@ module _ (w : Pos → Cell) (old : LevelTable) (before pending : PendingData) (p
             rising = pending.rising ++ p ∷ [];
           }));
       linked = λ q none. links_known new stay q (sym (ap (λ d. has d.unsure q) is) ∙ none);
+      empty = λ q bare none. still_empty new (dust_put 0 put) q bare (sym (ap (λ d. has d.unsure q) is) ∙ none);
     }
 
     -- it got a higher level
@@ -100,6 +137,7 @@ module _ (w : Pos → Cell) (old : LevelTable) (before pending : PendingData) (p
       kept = after_rise w (level_at old) before pending p taken right.kept (level_at new) final to put more most fed own
           (is ∙ (λ i. record pending { rising = pending.rising ++ filter (is_between (level_at old) 0 to) (known dust i) }));
       linked = λ q none. links_known new stay q (sym (ap (λ d. has d.unsure q) is) ∙ none);
+      empty = λ q bare none. still_empty new (dust_put to put) q bare (sym (ap (λ d. has d.unsure q) is) ∙ none);
     }
 
 -- the links of a position of which nothing was known
@@ -113,4 +151,45 @@ module _ (w : Pos → Cell) (old new : LevelTable) (pending : PendingData) (p : 
     linked = λ q none dust.
         let off = (or_parts (same_place q p) false (none_in pending.unsure (p ∷ []) q none).1).0 in
         ap (λ n. linked n q) (relinked q ∙ ap (λ b. if b then bits else links_at old q) off) ∙ right.linked q none dust;
+    empty = λ q bare none. stay q ∙ right.empty q bare none;
+  }
+
+-- no dust lies at a position any more: its level is gone, and no other changes
+module _ (w : Pos → Cell) (old new : LevelTable) (before pending : PendingData) (p : Pos) (bare : is_dust (w p) ≡ false)
+    (taken : IsTaken before pending p) (right : IsUnderRepair w old before)
+    (put : IsPut (level_at old) (level_at new) p 0) (stay : (q : Pos) → links_at new q ≡ links_at old q) where
+  off_dust : (q : Pos) → is_dust (w q) ≡ true → same_place q p ≡ false
+  off_dust q dust = elim (cases_Bool (same_place q p)) [
+    | inl same ↦ absurd (false≢true (sym bare ∙ sym (ap (λ r. is_dust (w r)) (place_is q p same)) ∙ dust))
+    | inr off ↦ off
+  ]
+
+  kept_off : (q : Pos) → same_place q p ≡ false → level_at new q ≡ level_at old q
+  kept_off q off = put q ∙ ap (λ b. if b then 0 else level_at old q) off
+
+  agrees_still : (q : Pos) → is_dust (w q) ≡ true → IsConsistent w (level_at old) q → IsConsistent w (level_at new) q
+  unfolding pulled
+  agrees_still q dust agrees =
+      kept_off q (off_dust q dust) ∙ agrees
+      ∙ ap (λ n. if is_fed w q then 15 else n - 1)
+      (sym (greatest_same (level_at new) (level_at old) (links w q) (λ r among. kept_off r (off_dust r (links_to_dust w q r among)))))
+
+  pub cleared_right : IsUnderRepair w new pending
+  cleared_right = record {
+    kept = record {
+      low = λ q. omega arith;
+      fed = λ q dust none.
+          let off = off_dust q dust in
+          ap (λ n. n == 15) (kept_off q off) ∙ right.kept.fed q dust (taken.unsure q off none);
+      sure = λ q dust none.
+          let off = off_dust q dust in
+          agrees_still q dust (right.kept.sure q dust (taken.all q off none));
+    };
+    linked = λ q none dust.
+        let off = off_dust q dust in
+        ap (λ n. linked n q) (stay q) ∙ right.linked q (taken.unsure q off none) dust;
+    empty = λ q none_here none. elim (cases_Bool (same_place q p)) [
+      | inl same ↦ put q ∙ ap (λ b. if b then 0 else level_at old q) same
+      | inr off ↦ kept_off q off ∙ right.empty q none_here (taken.unsure q off none)
+    ];
   }

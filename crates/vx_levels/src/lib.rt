@@ -4,6 +4,7 @@
 mod laws;
 mod linked_levels;
 mod links;
+mod mapping;
 mod pending;
 mod repairing;
 mod word_layer;
@@ -11,4 +12,5 @@ mod words;
 
 pub use laws::levels_agree;
 pub use linked_levels::LinkedLevels;
+pub use mapping::all_linked;
 pub use repairing::repair;

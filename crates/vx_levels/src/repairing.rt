@@ -80,10 +80,23 @@ fn look_anew(
     ensures follows { OnOk result (Follows put.old.items levels.old put.new.items levels.new) }
 {
     if !lies(map, p) {
-        return Ok(());
+        return clear(levels, put, p);
     }
     levels.put_links(p, links_of(map, p))?;
     feed(map, levels, pending, put, p)
+}
+
+// Takes the level away from a position where no dust lies, if it has one.
+fn clear(levels: &mut LinkedLevels, put: &mut Vec<Pos>, p: Pos) -> Result<(), AllocError>
+    ensures levels { OnOk result (IsPut (level_at levels.old) (level_at levels.new) p 0) }
+    ensures links { OnOk result ((q : Pos) → links_at levels.new q ≡ links_at levels.old q) }
+    ensures follows { OnOk result (Follows put.old.items levels.old put.new.items levels.new) }
+{
+    if levels.at(p) == 0 {
+        return Ok(());
+    }
+    put.push(p)?;
+    levels.put(p, 0)
 }
 
 // Looks whether dust at a position is fed, whose links are known.
@@ -174,9 +187,9 @@ fn lift(
     }
 }
 
-// Whether dust lies at a position, which is then one of the widest world.
+/// Whether dust lies at a position, which is then one of the widest world.
 #[tactic(auto, using(vx_power::proofs::Stepping::dust_place))]
-fn lies(map: &Frozen<'_>, p: Pos) -> bool
+pub(crate) fn lies(map: &Frozen<'_>, p: Pos) -> bool
     ensures dust { result ≡ is_dust (cell_on map.now p) }
     ensures place { result ≡ true → is_place p ≡ true }
 {

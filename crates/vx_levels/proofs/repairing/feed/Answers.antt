@@ -1,4 +1,5 @@
 use Rattle.std.proofs.Common.{◌≡◌, ◌++◌, ◌∷◌, [], ◌==◌, true, false, refl, sym, ap, ◌∙◌, arith}
+use Rattle.std.proofs.lemmas.Bool.{false≢true}
 use Rattle.std.proofs.lemmas.Result.{on_ok_weaker}
 use Rattle.vx_cells.specs.Maps.{cell_on}
 use Rattle.vx_levels.specs.Linked.{level_at}
@@ -18,7 +19,7 @@ returns-then-is_fed-clause-right c =
     let fed : is_fed w p ≡ true = cc in
     let new = c.rise.new.levels in
     on_ok_three c.rise.result
-    (λ stay put is. risen_right w old before pending p (taken_unsure pending p) c.requires.right c.requires.linked
+    (λ stay put is. risen_right w old before pending p (taken_unsure pending p) c.requires.right c.requires.linked (λ bare. absurd (false≢true (sym bare ∙ c.requires.dust)))
     new c.rise.new.pending stay c.requires.dust 15 put (c.requires.right.kept.low p) (omega arith)
     (sym fed) (own_fed w (level_at old) (level_at new) p 15 put fed refl) is)
     c.rise.ensures.links c.rise.ensures.levels c.rise.ensures.pending
@@ -38,7 +39,7 @@ returns-then-was-eq-FED-clause-right c =
     let before : PendingData = record pending { unsure = pending.unsure ++ p ∷ [] } in
     let unfed : is_fed w p ≡ false = cc in
     on_ok_three c.fall.result
-    (λ stay put is. fallen_right w old before pending p (taken_unsure pending p) c.requires.right c.requires.linked
+    (λ stay put is. fallen_right w old before pending p (taken_unsure pending p) c.requires.right c.requires.linked (λ bare. absurd (false≢true (sym bare ∙ c.requires.dust)))
     c.fall.new.levels c.fall.new.pending stay c.requires.dust c.at-was.result c.at-was.ensures.value unfed put is)
     c.fall.ensures.links c.fall.ensures.levels c.fall.ensures.pending
 
@@ -58,7 +59,7 @@ returns-else-was-eq-FED-clause-right c =
     let unfed : is_fed w p ≡ false = cc in
     let other : (level_at old p == 15) ≡ false = not_15 _ (level_at old p) c.at-was.ensures.value c.if-was-eq-FED.false in
     on_ok_weaker c.add_falling.result
-    (λ is. moved_right w old before pending p (taken_unsure pending p) c.requires.right c.requires.linked
+    (λ is. moved_right w old before pending p (taken_unsure pending p) c.requires.right c.requires.linked (λ bare. absurd (false≢true (sym bare ∙ c.requires.dust)))
     c.add_falling.new.self (ap (λ d. d.unsure) is) (other ∙ sym unfed)
     (λ q none. now_falling pending p q (sym (ap (λ d. is_pending d q) is) ∙ none)))
     c.add_falling.ensures

@@ -24,7 +24,9 @@ returns-then-not-lies-clause-right c =
     let taken = taken_rising pending p in
     let none : is_dust (w p) ≡ false = cc in
     left_right w old before pending p taken c.requires.right
-    (λ dust. absurd (false≢true (sym none ∙ dust))) (λ dust. absurd (false≢true (sym none ∙ dust)))
+    (λ dust. absurd (false≢true (sym none ∙ dust)))
+    (λ bare. c.requires.right.empty p bare (ap (λ ps. has ps p) c.requires.fed))
+    (λ dust. absurd (false≢true (sym none ∙ dust)))
 
 pub returns-then-was-eq-FED-clause-right : goal.returns-then-was-eq-FED-clause-right
 returns-then-was-eq-FED-clause-right c =
@@ -37,11 +39,12 @@ returns-then-was-eq-FED-clause-right c =
     let dust : is_dust (w p) ≡ true = cc in
     let nowhere : has pending.unsure p ≡ false = ap (λ ps. has ps p) c.requires.fed in
     let known : KnowsLinks w old p = c.requires.right.linked p nowhere in
+    let bare : is_dust (w p) ≡ false → level_at old p ≡ 0 = λ none. c.requires.right.empty p none nowhere in
     let sure : (level_at old p == 15) ≡ is_fed w p = c.requires.right.kept.fed p dust nowhere in
     let all : (level_at old p == 15) ≡ true = just_15 _ (level_at old p) c.at-was.ensures.value c.if-was-eq-FED.true in
     let fed : is_fed w p ≡ true = sym sure ∙ all in
     let is : level_at old p ≡ 15 = eqb-true (level_at old p) 15 all in
-    left_right w old before pending p taken c.requires.right known
+    left_right w old before pending p taken c.requires.right known bare
     (λ dust. (sure, is ∙ sym (told_fed (is_fed w) (links w) (level_at old) p fed)))
 
 pub returns-then-was-told-clause-right : goal.returns-then-was-told-clause-right
@@ -55,6 +58,7 @@ returns-then-was-told-clause-right c =
     let dust : is_dust (w p) ≡ true = cc in
     let nowhere : has pending.unsure p ≡ false = ap (λ ps. has ps p) c.requires.fed in
     let known : KnowsLinks w old p = c.requires.right.linked p nowhere in
+    let bare : is_dust (w p) ≡ false → level_at old p ≡ 0 = λ none. c.requires.right.empty p none nowhere in
     let sure : (level_at old p == 15) ≡ is_fed w p = c.requires.right.kept.fed p dust nowhere in
     let other : (level_at old p == 15) ≡ false = not_15 _ (level_at old p) c.at-was.ensures.value c.if-was-eq-FED.false in
     let unfed : is_fed w p ≡ false = sym sure ∙ other in
@@ -68,7 +72,7 @@ returns-then-was-told-clause-right c =
     let one_less = c.saturating_sub-told.ensures in
     let below : to < 15 = omega (arith, one_less, most) in
     on_ok_three c.rise.result
-    (λ stay put is. risen_right w old before pending p taken c.requires.right known
+    (λ stay put is. risen_right w old before pending p taken c.requires.right known bare
     new c.rise.new.pending stay dust to put (omega (arith, value)) (omega (arith, below)) (under_15 to below ∙ sym unfed)
     (own_right w (level_at old) (level_at new) p to put unfed told) is)
     c.rise.ensures.links c.rise.ensures.levels c.rise.ensures.pending
@@ -90,9 +94,10 @@ returns-then-told-was-clause-right c =
     let dust : is_dust (w p) ≡ true = cc in
     let nowhere : has pending.unsure p ≡ false = ap (λ ps. has ps p) c.requires.fed in
     let known : KnowsLinks w old p = c.requires.right.linked p nowhere in
+    let bare : is_dust (w p) ≡ false → level_at old p ≡ 0 = λ none. c.requires.right.empty p none nowhere in
     let sure : (level_at old p == 15) ≡ is_fed w p = c.requires.right.kept.fed p dust nowhere in
     on_ok_weaker c.add_falling.result
-    (λ is. moved_right w old before pending p taken c.requires.right known
+    (λ is. moved_right w old before pending p taken c.requires.right known bare
     c.add_falling.new.self (ap (λ d. d.unsure) is) sure
     (λ q none. now_falling pending p q (sym (ap (λ d. is_pending d q) is) ∙ none)))
     c.add_falling.ensures
@@ -108,6 +113,7 @@ returns-else-told-was-clause-right c =
     let dust : is_dust (w p) ≡ true = cc in
     let nowhere : has pending.unsure p ≡ false = ap (λ ps. has ps p) c.requires.fed in
     let known : KnowsLinks w old p = c.requires.right.linked p nowhere in
+    let bare : is_dust (w p) ≡ false → level_at old p ≡ 0 = λ none. c.requires.right.empty p none nowhere in
     let sure : (level_at old p == 15) ≡ is_fed w p = c.requires.right.kept.fed p dust nowhere in
     let other : (level_at old p == 15) ≡ false = not_15 _ (level_at old p) c.at-was.ensures.value c.if-was-eq-FED.false in
     let unfed : is_fed w p ≡ false = sym sure ∙ other in
@@ -116,5 +122,5 @@ returns-else-told-was-clause-right c =
     ∙ ap (λ n. n - 1) (c.greatest_linked.ensures.value ∙ ap (greatest (level_at old)) (known dust)) in
     let value = c.at-was.ensures.value in
     let same : level_at old p ≡ greatest (level_at old) (links w p) - 1 = omega (arith, told, value) in
-    left_right w old before pending p taken c.requires.right known
+    left_right w old before pending p taken c.requires.right known bare
     (λ dust. (sure, same ∙ sym (told_unfed (is_fed w) (links w) (level_at old) p unfed)))

@@ -1,12 +1,11 @@
-use Rattle.std.proofs.Common.{◌≡◌, false, if◌then◌else◌, ◌++◌, ◌∷◌, [], sym, ap, ◌∙◌}
-use Rattle.std.proofs.lemmas.Bool.{false≢true}
+use Rattle.std.proofs.Common.{◌≡◌, false, if◌then◌else◌, ◌++◌, ◌∷◌, [], ap, ◌∙◌}
 use Rattle.std.proofs.lemmas.Result.{on_ok_weaker}
 use Rattle.vx_block.specs.Components.{is_dust}
 use Rattle.vx_cells.specs.Maps.{cell_on}
 use Rattle.vx_levels.specs.Linked.{links_at, linked}
 use Rattle.vx_levels.specs.Pending.{PendingData}
-use Rattle.vx_levels.proofs.Keeping.{taken_unsure}
-use Rattle.vx_levels.proofs.Mending.{left_right, relinked_right, follows_on}
+use Rattle.vx_levels.proofs.Keeping.{on_ok_both, taken_unsure}
+use Rattle.vx_levels.proofs.Mending.{cleared_right, relinked_right, follows_on}
 use Rattle.vx_power.proofs.Having.{own_place}
 use Rattle.vx_levels.proofs.repairing.look_anew.Goals as goal
 
@@ -17,8 +16,9 @@ returns-then-not-lies-clause-right c =
     let pending = c.args.pending.now in
     let before : PendingData = record pending { unsure = pending.unsure ++ p ∷ [] } in
     let none : is_dust (w p) ≡ false = cc in
-    left_right w c.args.levels.now before pending p (taken_unsure pending p) c.requires
-    (λ dust. absurd (false≢true (sym none ∙ dust))) (λ dust. absurd (false≢true (sym none ∙ dust)))
+    on_ok_both c.clear.result
+    (λ put stay. cleared_right w c.args.levels.now c.clear.new.levels before pending p none (taken_unsure pending p) c.requires put stay)
+    c.clear.ensures.levels c.clear.ensures.links
 
 pub feed-requires-clause-right : goal.feed-requires-clause-right
 feed-requires-clause-right c =

@@ -1,0 +1,5 @@
+pub mod Heeding
+pub mod Sensing
+pub mod Stilling
+pub mod Told
+pub mod Unsettling

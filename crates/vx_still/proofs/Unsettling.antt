@@ -1,0 +1,177 @@
+-- Outside what is marked all rests.
+use Rattle.std.proofs.Common.{◌≡◌, ℕ, true, false, ◌&&◌, ◌||◌, nat_eq, nat_lt, inl, inr, List, ◌++◌, sym, ap, ◌∙◌}
+use Rattle.std.specs.List.{list_any}
+use Rattle.std.proofs.lemmas.Bool.{and_from, cases_Bool, false≢true, or_left, or_parts, or_right}
+use Rattle.vx_geom.specs.declared.pos.Pos.{Pos}
+use Rattle.vx_geom.specs.Sizes.{is_inside}
+use Rattle.vx_block.specs.declared.cell.Cell.{Cell}
+use Rattle.vx_block.specs.Components.{is_component, is_device, is_dust}
+use Rattle.vx_cells.specs.Maps.{MapData, cell_on}
+use Rattle.vx_cells.proofs.MapLemmas.{outside_is_air}
+use Rattle.vx_levels.specs.Linked.{level_at}
+use Rattle.vx_levels.specs.Repairs.{ChangesAt, IsRight, IsRightBut}
+use Rattle.vx_places.specs.Around.{is_around, is_component_around}
+use Rattle.vx_places.specs.Places.{PlacesData, is_at, steps_between}
+use Rattle.vx_part.specs.Laws.{reads}
+use Rattle.vx_power.specs.Laws.{dust_level}
+use Rattle.vx_power.specs.Levels.{LevelTable, has}
+use Rattle.vx_power.specs.Local.{within_steps, sees, AreAlike}
+use Rattle.vx_power.specs.Nearness.{is_touched}
+use Rattle.vx_power.proofs.Having.{has_joined}
+use Rattle.vx_power.proofs.Reach.{any_at, any_from}
+use Rattle.vx_power.proofs.Stepping.{dust_inside}
+use Rattle.vx_still.specs.Mirrored.{IsMirror}
+use Rattle.vx_still.specs.Stillness.{IsStill, stored_on, has_power}
+use Rattle.vx_still.specs.Telling.{AreTold, IsTold, KeepsMarks}
+use Rattle.vx_still.proofs.Heeding.{no_store, no_dust_level}
+use Rattle.vx_still.proofs.Sensing.{dust_rests_by_level, others_rest_by_power}
+use Rattle.vx_still.proofs.Stilling.{mirrors_agree}
+use Rattle.vx_wake.specs.Waking.{Rests, WakingData}
+use Rattle.vx_wake.proofs.Looking.{change_around, place_listed, seen_around}
+use Rattle.vx_wake.proofs.Storing.{others_rest}
+
+-- where a component stands it is one around a change that so many steps lead to
+component_around : (w : Pos → Cell) (n : ℕ) (changed : List Pos) (p : Pos) → is_component (w p) ≡ true
+    → list_any (has changed) (within_steps n p) ≡ true
+    → list_any (λ c. is_component_around w c n p) changed ≡ true
+component_around w n changed p stands is =
+    let found = any_at (λ c. is_around c n p) changed (change_around n changed p is) in
+    any_from (λ c. is_component_around w c n p) changed found.0 found.1
+    (and_from (is_around found.0 n p) (is_component (w p)) found.2 stands)
+
+-- a component stands in the world
+pub component_inside : (m : MapData) (p : Pos) → is_component (cell_on m p) ≡ true → is_inside m.sizes p ≡ true
+component_inside m p component = elim (cases_Bool (is_inside m.sizes p)) [
+  | inl inside ↦ inside
+  | inr outside ↦
+      let air = outside_is_air m p (λ inside. false≢true (sym outside ∙ inside)) in
+      absurd (false≢true (sym (ap is_component air) ∙ component))
+]
+
+-- a table that mirrors what dust stores is right but where something changed, or dust sees a change
+pub mirror_right : (m : MapData) (waking : WakingData) (seen : List Pos) (table : LevelTable)
+    → IsStill m waking → IsMirror m waking.changed table
+    → ((p : Pos) → has seen p ≡ (is_inside m.sizes p && list_any (λ c. is_component_around (cell_on m) c 2 p) waking.changed))
+    → IsRightBut (cell_on m) table (seen ++ waking.changed)
+mirror_right m waking seen table still mirror sight = record {
+  consistent = λ p dust none. mirrors_agree m waking (level_at table) p still mirror.levels dust (unseen p dust (apart p none).0);
+  linked = λ p none dust. mirror.linked p (unseen p dust (apart p none).0) dust;
+  empty = λ p bare none. mirror.empty p bare (apart p none).1;
+}
+  where
+    apart : (p : Pos) → has (seen ++ waking.changed) p ≡ false → (has seen p ≡ false) × (has waking.changed p ≡ false)
+    apart p none = or_parts (has seen p) (has waking.changed p) (sym (has_joined seen waking.changed p) ∙ none)
+
+    unseen : (p : Pos) → is_dust (cell_on m p) ≡ true → has seen p ≡ false → is_touched (has waking.changed) p ≡ false
+    unseen p dust none = elim (cases_Bool (is_touched (has waking.changed) p)) [
+      | inl touched ↦
+          absurd (false≢true (sym none ∙ sight p
+          ∙ and_from (is_inside m.sizes p) (list_any (λ c. is_component_around (cell_on m) c 2 p) waking.changed)
+          (dust_inside m p dust)
+          (component_around (cell_on m) 2 waking.changed p (or_left (is_dust (cell_on m p)) (is_device (cell_on m p)) dust) touched)))
+      | inr away ↦ away
+    ]
+
+-- components around changes are marked
+pub around_marked : (m : MapData) (changed : List Pos) (old new : PlacesData) → old.sizes ≡ m.sizes
+    → ((p : Pos) → is_at new p
+    ≡ (is_at old p || (is_inside old.sizes p && list_any (λ c. is_component_around (cell_on m) c 4 p) changed)))
+    → (p : Pos) → is_component (cell_on m p) ≡ true
+    → list_any (λ c. is_component_around (cell_on m) c 4 p) changed ≡ true → is_at new p ≡ true
+around_marked m changed old new sizes marked p stands near =
+    let any = list_any (λ c. is_component_around (cell_on m) c 4 p) changed in
+    marked p
+    ∙ or_right (is_at old p) (is_inside old.sizes p && any)
+    (and_from (is_inside old.sizes p) any (ap (λ v. is_inside v p) sizes ∙ component_inside m p stands) near)
+
+-- and so are those besides
+pub besides_marked : (m : MapData) (besides : List Pos) (old new : PlacesData) → old.sizes ≡ m.sizes
+    → ((p : Pos) → is_at new p
+    ≡ (is_at old p || (is_inside old.sizes p && list_any (λ q. nat_eq (steps_between q p) 0) besides)))
+    → (p : Pos) → is_component (cell_on m p) ≡ true → has besides p ≡ true → is_at new p ≡ true
+besides_marked m besides old new sizes marked p stands listed =
+    let any = list_any (λ q. nat_eq (steps_between q p) 0) besides in
+    marked p
+    ∙ or_right (is_at old p) (is_inside old.sizes p && any)
+    (and_from (is_inside old.sizes p) any (ap (λ v. is_inside v p) sizes ∙ component_inside m p stands)
+    (place_listed besides p listed))
+
+-- with more marked, what is told is told
+pub still_told : (m : MapData) (level : Pos → ℕ) (old new : PlacesData) (p : Pos) → KeepsMarks old new
+    → IsTold m level old p → IsTold m level new p
+still_told m level old new p kept told = record {
+  own = elim told.own [ inl same ↦ inl same | inr marked ↦ inr (kept p marked) ];
+  near = elim told.near [ inl same ↦ inl same | inr marked ↦ inr (λ q stands near. kept q (marked q stands near)) ];
+}
+
+module _ (m : MapData) (waking : WakingData) (put : List Pos) (old new : LevelTable) (places : PlacesData)
+    (still : IsStill m waking) (mirror : IsMirror m waking.changed old) (right : IsRight (cell_on m) new)
+    (changes : ChangesAt put old new) (told_changed : AreTold m (level_at new) places waking.changed)
+    (told_put : AreTold m (level_at new) places put) where
+  abbrev w : Pos → Cell
+  w = cell_on m
+
+  -- dust or not, the table has the level of the map
+  exact : (q : Pos) → level_at new q ≡ dust_level w q
+  exact q = elim (cases_Bool (is_dust (w q))) [
+    | inl dust ↦ right.exact q dust
+    | inr bare ↦ right.empty q bare ∙ sym (no_dust_level w q bare)
+  ]
+
+  -- where nothing changed and no level was put the level is the one that is stored
+  stored_still : (q : Pos) → has waking.changed q ≡ false → has put q ≡ false → level_at new q ≡ stored_on m q
+  stored_still q unchanged kept = elim (cases_Bool (is_dust (w q))) [
+    | inl dust ↦ changes q kept ∙ mirror.levels q dust unchanged
+    | inr bare ↦ changes q kept ∙ mirror.empty q bare unchanged ∙ sym (no_store (w q) bare)
+  ]
+
+  -- so each position is told
+  told : (q : Pos) → IsTold m (level_at new) places q
+  told q = elim (cases_Bool (has waking.changed q)) [
+    | inl changed ↦ told_changed q changed
+    | inr unchanged ↦ elim (cases_Bool (has put q)) [
+      | inl listed ↦ told_put q listed
+      | inr kept ↦
+          let same = stored_still q unchanged kept in
+          record { own = inl same; near = inl (ap (nat_lt 0) same) }
+    ]
+  ]
+
+  module _ (around : (p : Pos) → is_component (w p) ≡ true → list_any (λ c. is_component_around w c 4 p) waking.changed ≡ true → is_at places p ≡ true)
+      (besides : (p : Pos) → is_component (w p) ≡ true → has waking.besides p ≡ true → is_at places p ≡ true)
+      (p : Pos) (away : is_at places p ≡ false) where
+    unmarked : is_at places p ≡ true → ⊥
+    unmarked marked = false≢true (sym away ∙ marked)
+
+    as_dust : is_dust (w p) ≡ true → Rests m p
+    as_dust dust = elim (told p).own [
+      | inl same ↦ dust_rests_by_level m p dust (sym same ∙ exact p)
+      | inr marked ↦ absurd (unmarked marked)
+    ]
+
+    none_besides : is_component (w p) ≡ true → has waking.besides p ≡ false
+    none_besides stands = elim (cases_Bool (has waking.besides p)) [
+      | inl listed ↦ absurd (unmarked (besides p stands listed))
+      | inr not ↦ not
+    ]
+
+    none_read : is_component (w p) ≡ true → list_any (has waking.changed) (reads p) ≡ false
+    none_read stands = elim (cases_Bool (list_any (has waking.changed) (reads p))) [
+      | inl read ↦ absurd (unmarked (around p stands (component_around w 4 waking.changed p stands read)))
+      | inr not ↦ not
+    ]
+
+    alike : is_component (w p) ≡ true → AreAlike (sees p) (has_power (stored_on m)) (has_power (dust_level w))
+    alike stands q among = elim (told q).near [
+      | inl same ↦ sym same ∙ ap (nat_lt 0) (exact q)
+      | inr marked ↦ absurd (unmarked (marked p stands (seen_around 2 p q among)))
+    ]
+
+    pub rests_unmarked : Rests m p
+    rests_unmarked = elim (cases_Bool (is_component (w p))) [
+      | inl stands ↦ elim (cases_Bool (is_dust (w p))) [
+        | inl dust ↦ as_dust dust
+        | inr other ↦ others_rest_by_power m waking p still (none_besides stands) (none_read stands) other (alike stands)
+      ]
+      | inr other ↦ others_rest m p other
+    ]

@@ -1,0 +1,21 @@
+use Rattle.std.proofs.Common.{ap, ◌∙◌}
+use Rattle.std.proofs.lemmas.Result.{on_ok_weaker}
+use Rattle.vx_power.specs.Levels.{stored_level}
+use Rattle.vx_still.proofs.Told.{told_alone, told_around}
+use Rattle.vx_still.proofs.telling.tell.Goals as goal
+
+pub returns-then-have_same_power-clause-told : goal.returns-then-have_same_power-clause-told
+returns-then-have_same_power-clause-told c =
+    told_alone c.args.map.now c.args.levels.now c.args.p c.at-level.result c.stored_level-stored.result c.requires.right
+    c.at-level.ensures.value (c.stored_level-stored.ensures.value ∙ ap stored_level c.cell.ensures) c.if-level-stored.false
+    c.args.places.now c.mark.new.self c.requires.sizes c.in_ok-mark.ensures.marked
+    (c.have_same_power.ensures c.if-have_same_power.true)
+
+pub returns-clause-told : goal.returns-clause-told
+returns-clause-told c =
+    on_ok_weaker c.mark_around.result
+    (told_around c.args.map.now c.args.levels.now c.args.p c.at-level.result c.stored_level-stored.result c.requires.right
+    c.at-level.ensures.value (c.stored_level-stored.ensures.value ∙ ap stored_level c.cell.ensures) c.if-level-stored.false
+    c.args.places.now c.mark.new.self c.requires.sizes c.in_ok-mark.ensures.marked c.mark_around.new.self
+    (c.in_ok-mark.ensures.sizes ∙ c.requires.sizes))
+    c.mark_around.ensures.marked

@@ -1,12 +1,13 @@
 -- A table of levels beside a map: what it tells between ticks.
-use Rattle.std.specs.Prelude.{◌≡◌, false, List}
+use Rattle.std.specs.Prelude.{◌≡◌, true, false, ◌++◌, List, []}
 use Rattle.vx_geom.specs.declared.pos.Pos.{Pos}
-use Rattle.vx_block.specs.Components.{is_dust}
+use Rattle.vx_block.specs.Components.{is_component, is_dust}
 use Rattle.vx_cells.specs.Maps.{MapData, cell_on}
 use Rattle.vx_levels.specs.Linked.{level_at, KnowsLinks}
+use Rattle.vx_levels.specs.Repairs.{IsRight}
 use Rattle.vx_power.specs.Levels.{LevelTable, has}
 use Rattle.vx_power.specs.Nearness.{is_touched}
-use Rattle.vx_still.specs.Stillness.{Mirrors}
+use Rattle.vx_still.specs.Stillness.{LeavesStill, Mirrors}
 
 -- it has the level that dust stores and none where no dust lies, but where something changed; and
 -- the links of dust that sees no change
@@ -15,3 +16,20 @@ pub record IsMirror (m : MapData) (changed : List Pos) (table : LevelTable) : Ty
   pub empty : (p : Pos) → is_dust (cell_on m p) ≡ false → has changed p ≡ false
       → level_at table p ≡ 0
   pub linked : (p : Pos) → is_touched (has changed) p ≡ false → KnowsLinks (cell_on m) table p
+
+-- cells are written, with their places among the changed ones
+abbrev pub WritesKeepMirror : Type 0
+WritesKeepMirror = (m next : MapData) (changed written : List Pos) (table : LevelTable)
+    → IsMirror m changed table
+    → ((p : Pos) → has written p ≡ false → cell_on next p ≡ cell_on m p)
+    → IsMirror next (changed ++ written) table
+
+-- after a tick, where the table had the levels and links of the map before it
+abbrev pub TicksLeaveMirror : Type 0
+TicksLeaveMirror = (m next : MapData) (changed besides : List Pos) (table : LevelTable)
+    → LeavesStill m next changed besides → IsRight (cell_on m) table → IsMirror next changed table
+
+-- and where nothing is known, the table without any level
+abbrev pub NothingKnownIsMirrored : Type 0
+NothingKnownIsMirrored = (m : MapData) (all : List Pos)
+    → ((p : Pos) → is_component (cell_on m p) ≡ true → has all p ≡ true) → IsMirror m all []

@@ -1,4 +1,5 @@
 //! What is known of maps by the levels that dust stores.
+ghost use Rattle.vx_still.specs.Mirrored.{WritesKeepMirror, TicksLeaveMirror, NothingKnownIsMirrored};
 ghost use Rattle.vx_still.specs.Stillness.{WritesKeepStill, TicksLeaveStill, StillRests, NothingKnownIsStill, MirrorsAgree, TicksMirror, PartsReadPower, OthersRest, DustRests};
 
 /// Far from what was changed the levels that dust stores agree, and what stays by them rests where
@@ -24,4 +25,12 @@ pub fn tables_mirror_cells()
     ensures unknown { NothingKnownIsStill }
     ensures agree { MirrorsAgree }
     ensures ticks { TicksMirror }
+{}
+
+/// A table that mirrors a map is one of it after writes, one with its levels and links is one of it
+/// after the tick, and one without any level is one of a map of which nothing is known.
+pub fn tables_stay_mirrors()
+    ensures writes { WritesKeepMirror }
+    ensures ticks { TicksLeaveMirror }
+    ensures unknown { NothingKnownIsMirrored }
 {}

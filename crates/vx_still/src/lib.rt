@@ -6,5 +6,5 @@ mod sight;
 mod telling;
 mod unrest;
 
-pub use laws::{maps_stay_still, parts_heed_power, tables_mirror_cells};
+pub use laws::{maps_stay_still, parts_heed_power, tables_mirror_cells, tables_stay_mirrors};
 pub use unrest::unsettled;

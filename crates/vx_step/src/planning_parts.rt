@@ -28,6 +28,7 @@ use vx_wake::{Settling, Waking, unsettled};
 
 // A further thread pays where it has so many components to look at, or so many moves to judge.
 const COMPONENTS_EACH: usize = 2_048;
+
 const MOVES_EACH: usize = 64;
 
 /// The same as `plan_woken`, its sectors worked by 1 to 8 threads, as `step_parts` shares them out.

@@ -3,6 +3,7 @@ pub mod Doing
 pub mod FateLines
 pub mod FirstFaults
 pub mod Going
+pub mod HeaderLines
 pub mod Lines
 pub mod OneText
 pub mod Openings

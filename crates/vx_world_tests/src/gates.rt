@@ -116,24 +116,39 @@ pub fn two_workers<
     passes: &mut [Pass<A, B>],
 ) -> Result<(), Fail> {
     let ann = passes.first_mut().ok_or("no pass")?;
-    // So much that several workers are taken.
-    for z in 0..9 {
-        assert!(rt; is_laid(rt, world, ann, z));
+    // So much that a second worker is taken: four layers of dust.
+    for y in [1, 3, 5, 7] {
+        assert!(rt; is_spread(rt, world, ann, y));
     }
     meet(rt, alloc, world, keeper);
     Ok(())
 }
 
-// Lays dust along a row of the world.
+// Lays dust on all of a layer of the world.
+fn is_spread<A: Places, B: Seats, R: Wait>(
+    rt: &R,
+    world: &World<A, B>,
+    ann: &mut Pass<A, B>,
+    y: i32,
+) -> bool {
+    let mut laid = true;
+    for z in 0..16 {
+        laid &= is_laid(rt, world, ann, y, z);
+    }
+    laid
+}
+
+// Lays dust along a row of a layer.
 fn is_laid<A: Places, B: Seats, R: Wait>(
     rt: &R,
     world: &World<A, B>,
     ann: &mut Pass<A, B>,
+    y: i32,
     z: i32,
 ) -> bool {
     let mut laid = true;
     for x in 0..32 {
-        let dust = Cmd::Place(Pos::new(x, 1, z), Part::Dust);
+        let dust = Cmd::Place(Pos::new(x, y, z), Part::Dust);
         laid &= is_placed(rt, world, ann, dust, &NoGate);
     }
     laid

@@ -238,6 +238,7 @@ class Drawing:
         words += [f"child of {region.parent}"] if region.parent else []
         words += [f"owners {', '.join(region.owners)}"] if region.owners else []
         words += [f"members {', '.join(region.members)}"] if region.members else []
+        words += [f"domains {', '.join(region.domains)}"] if region.domains else []
         words += [f"{flag} {setting}" for flag, setting in region.flags.items()]
         words += [] if region.is_in_force else ["this counts from the next tick on"]
         return "\n".join(words)

@@ -40,6 +40,7 @@ EDITS = {
     "clear": "ID FLAG",
     "owner": "ID CHANGE NAME",
     "member": "ID CHANGE NAME",
+    "domain": "ID CHANGE NAME",
 }
 HEADER = {"world": "SX SZ S", "player": "NAME", "set": "X Y Z PART"}
 OTHERS = {"tick": "", "explain": "NAME ACTION X Y Z", "together": "", "end": ""}
@@ -219,7 +220,7 @@ def edits_of_file(file):
         for verb in ("priority", "parent"):
             if verb in region:
                 yield ["region", verb, region["id"], str(region[verb])]
-        for role in ("owner", "member"):
+        for role in ("owner", "member", "domain"):
             for name in region.get(role + "s", []):
                 yield ["region", role, region["id"], "add", name]
         yield from flag_edits(region["id"], region.get("flags", {}))
@@ -244,6 +245,7 @@ class Region:
     parent: str = None
     owners: list = field(default_factory=list)
     members: list = field(default_factory=list)
+    domains: list = field(default_factory=list)
     flags: dict = field(default_factory=dict)
 
     def heights(self):

@@ -58,7 +58,7 @@ impl<'a> Frozen<'a> {
         }
     }
 
-    /// The same of sectors that stand each in a place of its own.
+    /// The map of these sectors, lent one by one, as where each stands in a place of its own.
     pub fn apart(bounds: Bounds, sectors: &'a [&'a Cells]) -> Frozen<'a>
         requires { AreSectors bounds (map (λ c. c.now) sectors.now) }
         ensures { result ≡ record { sizes = bounds; sectors = map (λ c. c.now) sectors.now } }

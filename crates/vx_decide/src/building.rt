@@ -161,7 +161,8 @@ impl Building<'_> {
         region.contains(self.contest.inquiry.place) && self.admits_on_top(number, region)
     }
 
-    // The same, with the subject asked about before the priority.
+    // Whether a region that holds the place is of highest priority and admits the subject; the
+    // subject is asked about first.
     #[tactic(auto, unfolding(crate::specs::Build::is_home))]
     fn admits_on_top(&self, number: RegionNo, region: &Region) -> bool
         ensures { result ≡ is_home (case_of self.now.contest.inquiry.now) (number.0, region.now) }

@@ -157,7 +157,8 @@ impl Contest<'_> {
         region.contains(self.inquiry.place) && self.denies_if_taken(number, region)
     }
 
-    // The same, with the value asked for before the regions below.
+    // Whether a region that holds the place is taken and its value denies; the value is asked for
+    // first, since it costs less than the regions below.
     #[tactic(auto, unfolding(crate::specs::Query::is_denying))]
     fn denies_if_taken(&self, number: RegionNo, region: &Region) -> bool
         ensures { result

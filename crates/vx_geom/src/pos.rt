@@ -54,7 +54,7 @@ impl Pos {
         })
     }
 
-    // The same upwards.
+    // The position so much further up, or `None` past the ends of `i32`.
     fn further_up(self, by: i32) -> Option<Pos>
         ensures { let p : Pos = record self { y = self.y +ℤ by } in SomeIff result (FitsPos p) p }
     {
@@ -64,7 +64,7 @@ impl Pos {
         })
     }
 
-    // The same to the south.
+    // The position so much further south, or `None` past the ends of `i32`.
     fn further_south(self, by: i32) -> Option<Pos>
         ensures { let p : Pos = record self { z = self.z +ℤ by } in SomeIff result (FitsPos p) p }
     {

@@ -41,7 +41,7 @@ impl<'a> Cached<'a> {
         }
     }
 
-    /// The same verdict as `decide` gives. A player's is kept, unless memory is wanting.
+    /// The verdict that `decide` gives. A player's is kept, unless memory is wanting.
     pub fn ask(&mut self, subject: &Subject, action: Action, p: Pos) -> Verdict
         ensures verdict { result ≡ verdict self.old (actor_of subject.now) action p }
         ensures same { self.new ≡ self.old }

@@ -25,7 +25,7 @@ pub fn next_part<L: Leveled>(map: &Frozen<'_>, levels: &L, p: Pos) -> Cell
     next_of(map, levels, p, map.cell(p))
 }
 
-/// The same where this cell stands there.
+/// What this cell is after the tick, which stands at the position.
 #[tactic(auto, unfolding(crate::specs::Parts::next_of))]
 pub fn next_of<L: Leveled>(map: &Frozen<'_>, levels: &L, p: Pos, cell: Cell) -> Cell
     ensures { result ≡ next_of (cell_on map.now) (L.level levels.now) p cell }

@@ -25,7 +25,7 @@ pub fn dust_near(
     dust_near_in(alloc, map, Columns::EVERYWHERE, places, most)
 }
 
-// The same by links that stay in some columns.
+// The dust that is near one of these places by links that stay in these columns.
 fn dust_near_in(
     alloc: Global,
     map: &Frozen<'_>,

@@ -57,7 +57,7 @@ fn rest_after<'a>(calls: &'a [Call], seat: u8, entries: &[Entry]) -> Option<&'a 
     Some(rest)
 }
 
-// The same after one entry.
+// What is left of the calls after one entry.
 fn rest_after_one<'a>(calls: &'a [Call], seat: u8, entry: &Entry) -> Option<&'a [Call]>
     ensures { MatchOption result
         ((more : List Call) → calls.now ≢ calls_of seat (entry_of entry.now ∷ []) ++ more)

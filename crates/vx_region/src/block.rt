@@ -147,7 +147,7 @@ impl Block {
         Ok(copy)
     }
 
-    /// The same block, with its first region at another place of the list.
+    /// The block as it stands from another place of the list on.
     pub(crate) fn moved_to(self, start: usize) -> Block
         ensures start { result.start ≡ start }
         ensures entries { result.entries ≡ self.entries }

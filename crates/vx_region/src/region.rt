@@ -327,7 +327,7 @@ fn is_among(these: &IndexSet<Name>, name: &Name) -> bool
     is_one_of(these.as_slice(), name)
 }
 
-// The same, one by one.
+// Whether the name is one of these, which are looked at one by one.
 fn is_one_of(these: &[Name], name: &Name) -> bool
     ensures { result ≡ list_any (λ k. bytes_eq name.now.text.bytes k.text.bytes) these.now }
 {

@@ -10,7 +10,7 @@ use arrayvec::ArrayString;
 pub enum Alphabet {
     /// Letters, digits and `_`.
     Name,
-    /// The same and `-`.
+    /// Letters, digits, `_` and `-`.
     Id,
 }
 

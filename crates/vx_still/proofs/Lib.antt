@@ -4,3 +4,4 @@ pub mod Sensing
 pub mod Stilling
 pub mod Told
 pub mod Unsettling
+pub mod Watching

@@ -1,3 +1,4 @@
 pub mod Mirrored
 pub mod Stillness
 pub mod Telling
+pub mod Watching

@@ -1,5 +1,6 @@
 //! What is known of maps by the levels that dust stores.
 ghost use Rattle.vx_still.specs.Mirrored.{WritesKeepMirror, TicksLeaveMirror, NothingKnownIsMirrored};
+ghost use Rattle.vx_still.specs.Watching.{WritesKeepWatch, TicksLeaveWatch};
 ghost use Rattle.vx_still.specs.Stillness.{WritesKeepStill, TicksLeaveStill, StillRests, NothingKnownIsStill, MirrorsAgree, TicksMirror, PartsReadPower, OthersRest, DustRests};
 
 /// Far from what was changed the levels that dust stores agree, and what stays by them rests where
@@ -33,4 +34,11 @@ pub fn tables_stay_mirrors()
     ensures writes { WritesKeepMirror }
     ensures ticks { TicksLeaveMirror }
     ensures unknown { NothingKnownIsMirrored }
+{}
+
+/// What is kept of a map between two ticks is right after cells were written, with their places
+/// among the changed ones; and so is what a tick leaves, with the levels of the map before it.
+pub fn watches_stay()
+    ensures writes { WritesKeepWatch }
+    ensures ticks { TicksLeaveWatch }
 {}

@@ -2,9 +2,15 @@
 #![tactic(auto)]
 
 mod laws;
+mod look;
 mod sight;
 mod telling;
 mod unrest;
+mod watch;
 
-pub use laws::{maps_stay_still, parts_heed_power, tables_mirror_cells, tables_stay_mirrors};
+pub use laws::{
+    maps_stay_still, parts_heed_power, tables_mirror_cells, tables_stay_mirrors, watches_stay,
+};
+pub use look::Look;
 pub use unrest::unsettled;
+pub use watch::Watch;

@@ -1,13 +1,13 @@
-//! The places of a map at which a tick has to look, by levels that are kept.
+//! Where a tick has to look, by levels that are kept and made right again.
 ghost use Rattle.std.specs.Prelude.{◌≡◌, IfOk, IfSome};
 ghost use Rattle.vx_cells.specs.Maps.{cell_on};
 ghost use Rattle.vx_levels.specs.Repairs.{IsRight};
-ghost use Rattle.vx_places.specs.Places.{is_at};
 ghost use Rattle.vx_still.specs.Mirrored.{IsMirror};
 ghost use Rattle.vx_still.specs.Stillness.{IsStill};
+ghost use Rattle.vx_still.specs.Watching.{IsLook};
 ghost use Rattle.vx_wake.specs.Laws.{with_changed};
-ghost use Rattle.vx_wake.specs.Waking.{IsSettled};
 
+use crate::look::Look;
 use crate::sight::{in_sight, mark_around_all};
 use crate::telling::tell_all;
 use std::alloc::{AllocError, Global};
@@ -20,38 +20,61 @@ use vx_wake::Waking;
 // A part reads cells that at most so many steps lead to.
 const CELLS_OFF: u8 = 4;
 
-/// The places of a map outside which all rests, where it is still but for what is told and what was
-/// written since, and the table mirrors what dust stores. The table has the levels of the map then.
-/// `None` where it took more turns than are allowed; then nothing is known of the table. It costs a
-/// look at each place near what was changed, and what dust gets another level.
+// What is near a changed cell costs as much to find as a look at so many components.
+const PER_CHANGE: usize = 8;
+
+// And what heeds dust that got another level, as much as a look at so many.
+const PER_LEVEL: usize = 2;
+
+// A repair may take so many turns for each component, and for a map at least so many; one that takes
+// more is given up.
+const TURNS_EACH: usize = 64;
+const TURNS: usize = 4_096;
+
+/// Where a tick has to look of a map that is still but for what is told and what was written since,
+/// and of which the table mirrors what dust stores. The table has the levels of the map then, and
+/// their links. `None` where to make it so took too many turns; then nothing is known of the table.
+/// It costs a look at each place near what was changed, and what dust gets another level.
 pub fn unsettled(
     alloc: Global,
     map: &Frozen<'_>,
     waking: &Waking,
     written: &[Pos],
     levels: &mut LinkedLevels,
-    turns: usize,
-) -> Result<Option<Places>, AllocError>
+) -> Result<Option<Look>, AllocError>
     requires still { IsStill map.now (with_changed waking.now written.now) }
     requires mirror { IsMirror map.now (with_changed waking.now written.now).changed levels.old }
-    ensures right { IfOk result (λ found. IfSome found (λ places.
+    ensures right { IfOk result (λ found. IfSome found (λ look.
         IsRight (cell_on map.now) levels.new)) }
-    ensures sizes { IfOk result (λ found. IfSome found (λ places.
-        places.sizes ≡ map.now.sizes)) }
-    ensures settled { IfOk result (λ found. IfSome found (λ places.
-        IsSettled map.now (is_at places))) }
+    ensures look { IfOk result (λ found. IfSome found (IsLook map.now)) }
 {
     let mut changed = Vec::from_slice(alloc, &waking.changed)?;
     changed.extend_from_slice(written)?;
     let mut unsure = in_sight(alloc, map, changed.as_slice())?;
     unsure.extend_from_slice(changed.as_slice())?;
-    let Some(put) = repair(alloc, map, levels, unsure, turns)? else {
+    let components = map.component_count() as usize;
+    let Some(put) = repair(alloc, map, levels, unsure, turns_for(components))? else {
         return Ok(None);
     };
+    if is_much(components, changed.len(), put.len()) {
+        return Ok(Some(Look::Everywhere));
+    }
     let mut places = Places::new(alloc, map.bounds())?;
     mark_around_all(alloc, map, &mut places, changed.as_slice(), CELLS_OFF)?;
     places.mark_all(alloc, waking.besides.as_slice())?;
     tell_all(alloc, map, levels, &mut places, changed.as_slice())?;
     tell_all(alloc, map, levels, &mut places, put.as_slice())?;
-    Ok(Some(places))
+    Ok(Some(Look::Among(places)))
+}
+
+// How many turns a repair may take on a map with so many components.
+fn turns_for(components: usize) -> usize {
+    components.saturating_mul(TURNS_EACH).saturating_add(TURNS)
+}
+
+// Whether to find what so many changed cells and levels wake costs more than a look at all
+// components.
+fn is_much(components: usize, changed: usize, levels: usize) -> bool {
+    let near = changed.saturating_mul(PER_CHANGE);
+    components < near.saturating_add(levels.saturating_mul(PER_LEVEL))
 }

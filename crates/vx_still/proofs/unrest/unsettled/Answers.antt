@@ -28,8 +28,8 @@ repair-requires c =
     (λ p. c.in_ok-unsure.ensures p
     ∙ ap (λ ps. is_inside m.sizes p && list_any (λ d. is_component_around (cell_on m) d 2 p) ps) (c.as_slice.ensures.value ∙ is)))
 
-pub returns-clause-settled : goal.returns-clause-settled
-returns-clause-settled c =
+pub returns-clause-look : goal.returns-clause-look
+returns-clause-look c =
     let m = c.args.map.now in
     let all = with_changed c.args.waking.now c.args.written.now in
     let is : c.extend_from_slice.new.self.items ≡ all.changed =
@@ -49,6 +49,8 @@ returns-clause-settled c =
     let after_marks : (q : _) → is_at second q ≡ true → is_at last q ≡ true = λ q at. c.in_ok-tell_all-2.ensures.kept q (c.in_ok-tell_all.ensures.kept q at) in
     let after_first : (q : _) → is_at first q ≡ true → is_at last q ≡ true = λ q at.
     after_marks q (c.in_ok-mark_all.ensures.marked q ∙ or_left (is_at first q) _ at) in
+    let sizes_4 = c.in_ok-tell_all-2.ensures.sizes ∙ c.tell_all.ensures.sizes ∙ c.mark_all.ensures.sizes ∙ sizes_1 in
+    (sizes_4,
     rests_unmarked m all put old new last c.requires.still c.requires.mirror
     (subst (λ o. IfSome o (λ p. IsRight (cell_on m) new)) c.in-Some.is c.in_ok-put.ensures.right)
     (subst (λ o. IfSome o (λ p. ChangesAt p.items old new)) c.in-Some.is c.in_ok-put.ensures.changes)
@@ -60,4 +62,4 @@ returns-clause-settled c =
     (ap (list_any (λ d. is_component_around (cell_on m) d 4 q)) (c.as_slice-3.ensures.value ∙ is) ∙ near)))
     (λ q stands listed. after_marks q
     (besides_marked m c.as_slice-4.result.now first second sizes_1 c.in_ok-mark_all.ensures.marked q stands
-    (subst (λ ps. has ps q ≡ true) (sym (c.as_slice-4.ensures.value ∙ ap (λ d. d.besides) c.waking.view_is)) listed)))
+    (subst (λ ps. has ps q ≡ true) (sym (c.as_slice-4.ensures.value ∙ ap (λ d. d.besides) c.waking.view_is)) listed))))

@@ -1,0 +1,74 @@
+-- What a watch tells: that it stays one, and that all rests where it tells of nothing.
+use Rattle.std.proofs.Common.{◌≡◌, ℕ, ◌≤◌, ◌%◌, Bool, true, false, ◌||◌, inl, inr, List, [], ◌∷◌, refl, sym, ap, ◌∙◌, subst, arith}
+use Rattle.std.specs.List.{list_any}
+use Rattle.std.proofs.lemmas.Bool.{cases_Bool}
+use Rattle.vx_geom.specs.declared.pos.Pos.{Pos}
+use Rattle.vx_block.specs.Components.{is_dust}
+use Rattle.vx_cells.specs.Maps.{MapData, cell_on}
+use Rattle.vx_levels.specs.Consistency.{IsConsistent}
+use Rattle.vx_levels.specs.Linked.{level_at}
+use Rattle.vx_levels.specs.Repairs.{IsRight}
+use Rattle.vx_levels.proofs.Agreeing.{consistent_is_exact}
+use Rattle.vx_part.specs.Laws.{reads}
+use Rattle.vx_power.specs.Laws.{dust_level}
+use Rattle.vx_power.specs.Levels.{AreAllLevels, LevelTable, has, level_in}
+use Rattle.vx_power.specs.Local.{sees}
+use Rattle.vx_power.specs.Nearness.{is_touched}
+use Rattle.vx_still.specs.Stillness.{stored_on}
+use Rattle.vx_still.specs.Watching.{IsWatch, WatchData, WritesKeepWatch, TicksLeaveWatch}
+use Rattle.vx_still.proofs.Heeding.{no_store, no_dust_level}
+use Rattle.vx_still.proofs.Mirroring.{writes_keep_mirror, ticks_leave_mirror}
+use Rattle.vx_still.proofs.Stilling.{mirrors_agree, still_rests, ticks_leave_still, writes_keep_still}
+use Rattle.vx_wake.specs.Waking.{Rests, WakingData}
+
+pub writes_keep_watch : WritesKeepWatch
+writes_keep_watch m next watch written is kept = record {
+  still = writes_keep_still m next watch.waking written is.still kept;
+  mirror = writes_keep_mirror m next watch.waking.changed written watch.levels is.mirror kept;
+}
+
+pub ticks_leave_watch : TicksLeaveWatch
+ticks_leave_watch m next watch left right = record {
+  still = ticks_leave_still m next watch.waking.changed watch.waking.besides left;
+  mirror = ticks_leave_mirror m next watch.waking.changed watch.waking.besides watch.levels left right;
+}
+
+-- a table that is right has the levels of the map at every position
+pub right_levels : (m : MapData) (table : LevelTable) → IsRight (cell_on m) table → AreAllLevels m (level_at table)
+right_levels m table right p = elim (cases_Bool (is_dust (cell_on m p))) [
+  | inl dust ↦ right.exact p dust
+  | inr bare ↦ right.empty p bare ∙ sym (no_dust_level (cell_on m) p bare)
+]
+
+none_of_none : (ps : List Pos) → list_any (has []) ps ≡ false
+none_of_none [] = refl
+none_of_none (p ∷ ps) = none_of_none ps
+
+low : (n : ℕ) → n % 16 ≤ 15
+low n = omega arith
+
+-- nothing has to be looked at
+abbrev nowhere : WakingData
+nowhere = record { changed = []; besides = [] }
+
+-- where a watch tells of nothing all rests
+module _ (m : MapData) (table : LevelTable) (is : IsWatch m (record { waking = nowhere; levels = table })) where
+  agrees : (q : Pos) → is_dust (cell_on m q) ≡ true
+      → (level_at table q ≤ 15) × IsConsistent (cell_on m) (level_at table) q
+  agrees q dust = (
+    low (level_in table q),
+    mirrors_agree m nowhere (level_at table) q is.still is.mirror.levels dust (none_of_none (sees q)),
+  )
+
+  stored : (q : Pos) → stored_on m q ≡ dust_level (cell_on m) q
+  stored q = elim (cases_Bool (is_dust (cell_on m q))) [
+    | inl dust ↦ sym (is.mirror.levels q dust refl) ∙ consistent_is_exact (cell_on m) (level_at table) agrees q dust
+    | inr bare ↦ no_store (cell_on m q) bare ∙ sym (no_dust_level (cell_on m) q bare)
+  ]
+
+  pub all_still : (p : Pos) → Rests m p
+  all_still p = still_rests m nowhere p is.still refl (none_of_none (reads p)) (λ q among. stored q)
+
+pub all_rests : (m : MapData) (watch : WatchData) → watch.waking ≡ nowhere → IsWatch m watch → (p : Pos) → Rests m p
+all_rests m watch none is =
+    all_still m watch.levels (subst (λ w. IsWatch m (record { waking = w; levels = watch.levels })) none is)

@@ -1,0 +1,44 @@
+-- What is kept of a map between two ticks: where it is not still, and the levels of its dust.
+use Rattle.std.specs.Prelude.{◌≡◌, false, List}
+use Rattle.std.specs.Bool.{⊤}
+use Rattle.vx_geom.specs.declared.pos.Pos.{Pos}
+use Rattle.vx_cells.specs.Maps.{MapData, cell_on}
+use Rattle.vx_levels.specs.Repairs.{IsRight}
+use Rattle.vx_places.specs.Places.{is_at}
+use Rattle.vx_power.specs.Levels.{LevelTable, has}
+use Rattle.vx_still.specs.declared.look.Look.{Look}
+use Rattle.vx_still.specs.declared.look.Look.TheVariants.{Among, Everywhere}
+use Rattle.vx_still.specs.Mirrored.{IsMirror}
+use Rattle.vx_still.specs.Stillness.{IsStill, LeavesStill}
+use Rattle.vx_wake.specs.Laws.{with_changed}
+use Rattle.vx_wake.specs.Waking.{IsSettled, WakingData}
+
+pub record WatchData : Type 0 where
+  pub waking : WakingData
+  pub levels : LevelTable
+
+-- the map is still but where that tells, and the table mirrors what its dust stores
+pub record IsWatch (m : MapData) (watch : WatchData) : Type 0 where
+  pub still : IsStill m watch.waking
+  pub mirror : IsMirror m watch.waking.changed watch.levels
+
+-- with more changed positions
+abbrev pub with_written : WatchData → List Pos → WatchData
+with_written watch written = record watch { waking = with_changed watch.waking written }
+
+-- cells are written, with their places among the changed ones
+abbrev pub WritesKeepWatch : Type 0
+WritesKeepWatch = (m next : MapData) (watch : WatchData) (written : List Pos) → IsWatch m watch
+    → ((p : Pos) → has written p ≡ false → cell_on next p ≡ cell_on m p)
+    → IsWatch next (with_written watch written)
+
+-- after a tick, where the table had the levels and links of the map before it
+abbrev pub TicksLeaveWatch : Type 0
+TicksLeaveWatch = (m next : MapData) (watch : WatchData)
+    → LeavesStill m next watch.waking.changed watch.waking.besides → IsRight (cell_on m) watch.levels
+    → IsWatch next watch
+
+-- a tick has to look at no more than this
+abbrev pub IsLook : MapData → Look → Type 0
+IsLook m (Among places) = (places.sizes ≡ m.sizes) × IsSettled m (is_at places)
+IsLook m Everywhere = ⊤

@@ -5,7 +5,7 @@ use Rattle.vx_cells.specs.Wholes.{IsMap}
 use Rattle.vx_region.specs.Regions.{Regions}
 use Rattle.vx_policy.specs.Asked.{Asked}
 use Rattle.vx_policy.specs.Edits.{AreAccepted}
-use Rattle.vx_wake.specs.Waking.{WakingData, RestsBut}
+use Rattle.vx_still.specs.Waking.{WakingData, RestsBut}
 use Rattle.vx_windows.specs.Sectors.{first_version}
 use Rattle.vx_record.specs.Openings.{OpeningData}
 use Rattle.vx_record.specs.Archives.{ArchiveData, IsArchive}

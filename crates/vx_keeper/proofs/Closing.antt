@@ -13,7 +13,7 @@ use Rattle.vx_region.specs.Regions.{Regions}
 use Rattle.vx_sector.specs.SectorData.{SectorData}
 use Rattle.vx_sector.specs.Windows.{IsSector}
 use Rattle.vx_tick.specs.Ticks.{fates_on, stepped}
-use Rattle.vx_wake.specs.Waking.{WakingData, RestsBut}
+use Rattle.vx_still.specs.Waking.{WakingData, RestsBut}
 use Rattle.vx_windows.specs.Sectors.{entries_of, first_version}
 use Rattle.vx_windows.specs.Limits.{most_ticks}
 use Rattle.vx_record.specs.Chronicles.{TickData, AreSeated, AreWindows, all_after, map_acted, map_after}

@@ -12,7 +12,7 @@ use vx_geom::Pos;
 use vx_policy::Version;
 use vx_sector::{Entry, Next, Sector};
 use vx_tick::Fate;
-use vx_wake::Waking;
+use vx_still::Waking;
 use vx_windows::all_next;
 
 /// All that it takes to close the windows of sectors and to begin their next ones. It is made

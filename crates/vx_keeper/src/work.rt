@@ -1,5 +1,5 @@
 use vx_tick::Plan;
-use vx_wake::Waking;
+use vx_still::Waking;
 
 /// What a tick does to the map, as it was worked, and where the next tick has to look.
 #[derive(Drop)]

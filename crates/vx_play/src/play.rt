@@ -3,7 +3,7 @@ ghost use Rattle.std.specs.Prelude.{◌≡◌, false, [], map, vec_len, IfOk, On
 ghost use Rattle.vx_cells.specs.SectorCells.{is_chest};
 ghost use Rattle.vx_cells.specs.Wholes.{with_cells_on};
 ghost use Rattle.vx_windows.specs.Sectors.{entries_in, entries_of};
-ghost use Rattle.vx_wake.specs.Waking.{RestsBut};
+ghost use Rattle.vx_still.specs.Waking.{RestsBut};
 
 use crate::names::number_of;
 use crate::tick_error::TickError;
@@ -18,7 +18,7 @@ use vx_policy::{Edit, Policy, Version};
 use vx_region::Name;
 use vx_sector::{Cmd, Entry, Refusal, Reply, Seat, Sector};
 use vx_tick::{Plan, plan_woken};
-use vx_wake::Waking;
+use vx_still::Waking;
 use vx_windows::{
     MAX_PLAYERS, MAX_TICKS, all_awake, all_next, cells_of, open_sectors, renew_sectors, written,
 };
@@ -45,7 +45,7 @@ impl<J: Naming> Model for Play<J> {
     ghost use Rattle.vx_windows.specs.Limits.{most_ticks};
     ghost use Rattle.vx_windows.specs.Writing.{map_before};
     ghost use Rattle.vx_windows.specs.declared.limits.TheConstants.{MAX_PLAYERS};
-    ghost use Rattle.vx_wake.specs.Waking.{RestsBut};
+    ghost use Rattle.vx_still.specs.Waking.{RestsBut};
 
     ghost Value = { PlayData };
 

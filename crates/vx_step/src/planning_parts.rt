@@ -9,8 +9,8 @@ ghost use Rattle.vx_places.specs.Places.{is_at};
 ghost use Rattle.vx_tick.specs.Leaving.{IsPlanned};
 ghost use Rattle.vx_tick.specs.Pieces.{restless_up_to, RestsOutside};
 ghost use Rattle.vx_tick.specs.Ticks.{changed_up_to, fates_on, stepped, AreMoves};
-ghost use Rattle.vx_wake.specs.Laws.{with_changed};
-ghost use Rattle.vx_wake.specs.Waking.{IsSettled, RestsBut};
+ghost use Rattle.vx_still.specs.Waking.{with_changed};
+ghost use Rattle.vx_still.specs.Waking.{IsSettled, RestsBut};
 
 use crate::ending_parts::fates_in_parts;
 use crate::gate::Gate;
@@ -24,7 +24,7 @@ use vx_places::Places;
 use vx_policy::Version;
 use vx_power::{Leveled, all_levels};
 use vx_tick::{Found, Plan, at_rest, finished};
-use vx_wake::{Settling, Waking, unsettled};
+use vx_still::{Settling, Waking, unsettled};
 
 // A further thread pays where it has so many components to look at, or so many moves to judge.
 const COMPONENTS_EACH: usize = 2_048;

@@ -7,6 +7,7 @@ use Rattle.vx_geom.specs.Dirs.{all_dirs}
 use Rattle.vx_block.specs.declared.cell.Cell.{Cell}
 use Rattle.vx_block.specs.declared.cell.Cell.TheVariants as cell
 use Rattle.vx_block.specs.Components.{is_dust, is_component}
+use Rattle.vx_cells.specs.Maps.{MapData, cell_on}
 use Rattle.vx_power.specs.Dust.{links}
 use Rattle.vx_power.specs.Laws.{dust_level}
 use Rattle.vx_power.specs.Levels.{stored_level}
@@ -18,7 +19,9 @@ use Rattle.vx_power.proofs.Reaching.{no_links}
 use Rattle.vx_power.proofs.Rounds.{no_level}
 use Rattle.vx_part.specs.Laws.{reads}
 use Rattle.vx_part.specs.Parts.{next_of}
-use Rattle.vx_piston.specs.Moves.{restless_as}
+use Rattle.vx_part.proofs.Changing.{stays}
+use Rattle.vx_piston.specs.Moves.{is_restless, restless_as}
+use Rattle.vx_still.specs.Waking.{Rests}
 
 -- two steps lead nowhere that four don't
 pub sees_reads : (p q : Pos) → IsAmong (sees p) q → IsAmong (reads p) q
@@ -82,3 +85,11 @@ pub no_piston : (w : Pos → Cell) (level : Pos → ℕ) (p : Pos) (c : Cell) �
     → restless_as w level p c ≡ false
 no_piston w level p (cell.Piston facing sticky extended) none = cc
 no_piston w level p _ none = refl
+
+-- and it rests
+pub others_rest : (m : MapData) (p : Pos) → is_component (cell_on m p) ≡ false → Rests m p
+unfolding is_restless
+others_rest m p none = record {
+  part = stays (cell_on m) (dust_level (cell_on m)) p (cell_on m p) none;
+  piston = no_piston (cell_on m) (dust_level (cell_on m)) p (cell_on m p) none;
+}

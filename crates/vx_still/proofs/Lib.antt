@@ -1,4 +1,5 @@
 pub mod Heeding
+pub mod Looking
 pub mod Mirroring
 pub mod Sensing
 pub mod Stilling

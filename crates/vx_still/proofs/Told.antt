@@ -16,7 +16,8 @@ use Rattle.vx_power.proofs.Stepping.{dust_inside}
 use Rattle.vx_still.specs.Stillness.{stored_on}
 use Rattle.vx_still.specs.Telling.{AreTold, IsTold, KeepsMarks}
 use Rattle.vx_still.proofs.Heeding.{no_store}
-use Rattle.vx_still.proofs.Unsettling.{component_inside, still_told}
+use Rattle.vx_still.proofs.Looking.{component_inside}
+use Rattle.vx_still.proofs.Unsettling.{still_told}
 
 -- only dust has another level than what is stored
 unlike_is_dust : (m : MapData) (table : LevelTable) (p : Pos) (level stored : ℕ) → IsRight (cell_on m) table

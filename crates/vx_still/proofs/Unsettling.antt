@@ -23,12 +23,11 @@ use Rattle.vx_power.proofs.Stepping.{dust_inside}
 use Rattle.vx_still.specs.Mirrored.{IsMirror}
 use Rattle.vx_still.specs.Stillness.{IsStill, stored_on, has_power}
 use Rattle.vx_still.specs.Telling.{AreTold, IsTold, KeepsMarks}
-use Rattle.vx_still.proofs.Heeding.{no_store, no_dust_level}
+use Rattle.vx_still.proofs.Heeding.{no_store, no_dust_level, others_rest}
 use Rattle.vx_still.proofs.Sensing.{dust_rests_by_level, others_rest_by_power}
 use Rattle.vx_still.proofs.Stilling.{mirrors_agree}
-use Rattle.vx_wake.specs.Waking.{Rests, WakingData}
-use Rattle.vx_wake.proofs.Looking.{change_around, place_listed, seen_around}
-use Rattle.vx_wake.proofs.Storing.{others_rest}
+use Rattle.vx_still.specs.Waking.{Rests, WakingData}
+use Rattle.vx_still.proofs.Looking.{change_around, component_inside, place_listed, seen_around}
 
 -- where a component stands it is one around a change that so many steps lead to
 component_around : (w : Pos → Cell) (n : ℕ) (changed : List Pos) (p : Pos) → is_component (w p) ≡ true
@@ -38,15 +37,6 @@ component_around w n changed p stands is =
     let found = any_at (λ c. is_around c n p) changed (change_around n changed p is) in
     any_from (λ c. is_component_around w c n p) changed found.0 found.1
     (and_from (is_around found.0 n p) (is_component (w p)) found.2 stands)
-
--- a component stands in the world
-pub component_inside : (m : MapData) (p : Pos) → is_component (cell_on m p) ≡ true → is_inside m.sizes p ≡ true
-component_inside m p component = elim (cases_Bool (is_inside m.sizes p)) [
-  | inl inside ↦ inside
-  | inr outside ↦
-      let air = outside_is_air m p (λ inside. false≢true (sym outside ∙ inside)) in
-      absurd (false≢true (sym (ap is_component air) ∙ component))
-]
 
 -- a table that mirrors what dust stores is right but where something changed, or dust sees a change
 pub mirror_right : (m : MapData) (waking : WakingData) (seen : List Pos) (table : LevelTable)

@@ -19,7 +19,7 @@ use Rattle.vx_still.specs.Watching.{IsWatch, WatchData, WritesKeepWatch, TicksLe
 use Rattle.vx_still.proofs.Heeding.{no_store, no_dust_level}
 use Rattle.vx_still.proofs.Mirroring.{writes_keep_mirror, ticks_leave_mirror}
 use Rattle.vx_still.proofs.Stilling.{mirrors_agree, still_rests, ticks_leave_still, writes_keep_still}
-use Rattle.vx_wake.specs.Waking.{Rests, WakingData}
+use Rattle.vx_still.specs.Waking.{Rests, WakingData}
 
 pub writes_keep_watch : WritesKeepWatch
 writes_keep_watch m next watch written is kept = record {

@@ -13,8 +13,8 @@ use Rattle.vx_power.specs.Nearness.{is_touched}
 use Rattle.vx_part.specs.Laws.{reads}
 use Rattle.vx_part.specs.Parts.{next_part}
 use Rattle.vx_piston.specs.Moves.{is_restless}
-use Rattle.vx_wake.specs.Laws.{with_changed}
-use Rattle.vx_wake.specs.Waking.{Rests, WakingData}
+use Rattle.vx_still.specs.Waking.{with_changed}
+use Rattle.vx_still.specs.Waking.{Rests, WakingData}
 
 -- the level that dust at each position stores
 abbrev pub stored_on : MapData → Pos → ℕ

@@ -10,8 +10,8 @@ use Rattle.vx_still.specs.declared.look.Look.{Look}
 use Rattle.vx_still.specs.declared.look.Look.TheVariants.{Among, Everywhere}
 use Rattle.vx_still.specs.Mirrored.{IsMirror}
 use Rattle.vx_still.specs.Stillness.{IsStill, LeavesStill}
-use Rattle.vx_wake.specs.Laws.{with_changed}
-use Rattle.vx_wake.specs.Waking.{IsSettled, WakingData}
+use Rattle.vx_still.specs.Waking.{with_changed}
+use Rattle.vx_still.specs.Waking.{IsSettled, WakingData}
 
 pub record WatchData : Type 0 where
   pub waking : WakingData

@@ -5,17 +5,17 @@ ghost use Rattle.vx_levels.specs.Repairs.{IsRight};
 ghost use Rattle.vx_still.specs.Mirrored.{IsMirror};
 ghost use Rattle.vx_still.specs.Stillness.{IsStill};
 ghost use Rattle.vx_still.specs.Watching.{IsLook};
-ghost use Rattle.vx_wake.specs.Laws.{with_changed};
+ghost use Rattle.vx_still.specs.Waking.{with_changed};
 
 use crate::look::Look;
 use crate::sight::{in_sight, mark_around_all};
 use crate::telling::tell_all;
+use crate::waking::Waking;
 use std::alloc::{AllocError, Global};
 use vx_cells::Frozen;
 use vx_geom::Pos;
 use vx_levels::{LinkedLevels, repair};
 use vx_places::Places;
-use vx_wake::Waking;
 
 // A part reads cells that at most so many steps lead to.
 const CELLS_OFF: u8 = 4;
@@ -29,6 +29,7 @@ const PER_LEVEL: usize = 2;
 // A repair may take so many turns for each component, and for a map at least so many; one that takes
 // more is given up.
 const TURNS_EACH: usize = 64;
+
 const TURNS: usize = 4_096;
 
 /// Where a tick has to look of a map that is still but for what is told and what was written since,

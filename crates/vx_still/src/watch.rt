@@ -1,8 +1,8 @@
 ghost use Rattle.std.specs.Prelude.{◌≡◌, true, []};
 
+use crate::waking::Waking;
 use std::marker::Model;
 use vx_levels::LinkedLevels;
-use vx_wake::Waking;
 
 /// What is kept of a map between two ticks: where it is not still, and the levels and links of its
 /// dust.

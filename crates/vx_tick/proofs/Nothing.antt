@@ -17,8 +17,8 @@ use Rattle.vx_tick.specs.Leaving.{IsPlanned, IsWorked}
 use Rattle.vx_tick.specs.Ticks.{asked, asked_up_to, changed_up_to, stepped, AreMoves}
 use Rattle.vx_tick.proofs.Asking.{kept_ask}
 use Rattle.vx_tick.proofs.Plans.{all_puts, is_worked, no_chests}
-use Rattle.vx_wake.specs.Laws.{with_changed}
-use Rattle.vx_wake.specs.Waking.{Rests, RestsBut, WakingData}
+use Rattle.vx_still.specs.Waking.{with_changed}
+use Rattle.vx_still.specs.Waking.{Rests, RestsBut, WakingData}
 use Rattle.vx_wake.proofs.Nothing.{nothing_awake}
 
 none_kept : (ps : List Pos) → filter (λ p. false) ps ≡ []

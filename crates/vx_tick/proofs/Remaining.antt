@@ -26,7 +26,7 @@ use Rattle.vx_tick.specs.Ticks.{advanced, changed_up_to, stepped}
 use Rattle.vx_tick.proofs.Advancing.{no_change, a_change, is_among, parts_become_next}
 use Rattle.vx_tick.proofs.Puts.{none_put, puts_filled}
 use Rattle.vx_wake.specs.Laws.{IsLeft}
-use Rattle.vx_wake.specs.Waking.{RestsBut}
+use Rattle.vx_still.specs.Waking.{RestsBut}
 use Rattle.vx_wake.proofs.Carrying.{ticks_wake}
 
 module _ (w : Pos → Cell) where

@@ -24,7 +24,7 @@ use Rattle.vx_piston.proofs.Restless.{others_stay}
 use Rattle.vx_tick.specs.Pieces.{changed_in, restless_in, restless_up_to}
 use Rattle.vx_tick.specs.Ticks.{asked, asked_up_to}
 use Rattle.vx_tick.proofs.Asking.{asked_joined, kept_ask, changes_exact}
-use Rattle.vx_wake.specs.Waking.{IsSettled}
+use Rattle.vx_still.specs.Waking.{IsSettled}
 
 -- what is left out passes no test, so it may be left out before the test
 pub kept_pass : (keep test : Pos → Bool) → ((p : Pos) → keep p ≡ false → test p ≡ false) → (ps : List Pos)

@@ -11,7 +11,7 @@ use Rattle.vx_cells.specs.SectorCells.{is_chest}
 use Rattle.vx_cells.specs.Wholes.{with_cells_on}
 use Rattle.vx_power.specs.Local.{shown}
 use Rattle.vx_region.specs.Regions.{Regions}
-use Rattle.vx_wake.specs.Waking.{RestsBut, WakingData}
+use Rattle.vx_still.specs.Waking.{RestsBut, WakingData}
 use Rattle.vx_tick.specs.declared.fate.Fate.{Fate}
 use Rattle.vx_tick.specs.declared.planned.Plan.{Plan}
 use Rattle.vx_tick.specs.Ticks.{advanced, changed_up_to, fates_on, stepped}

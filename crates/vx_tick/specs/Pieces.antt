@@ -9,7 +9,7 @@ use Rattle.vx_power.specs.Laws.{dust_level}
 use Rattle.vx_part.specs.Changes.{changes}
 use Rattle.vx_piston.specs.Moves.{Moving, is_restless}
 use Rattle.vx_places.specs.Places.{PlacesData, is_at}
-use Rattle.vx_wake.specs.Waking.{IsSettled}
+use Rattle.vx_still.specs.Waking.{IsSettled}
 use Rattle.vx_tick.specs.Ticks.{asked}
 
 -- what becomes another cell in the sector of number k

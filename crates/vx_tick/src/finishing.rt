@@ -7,8 +7,8 @@ ghost use Rattle.vx_tick.specs.Fates.{AreFates};
 ghost use Rattle.vx_tick.specs.Leaving.{IsPlanned, IsWorked};
 ghost use Rattle.vx_tick.specs.Pieces.{restless_up_to};
 ghost use Rattle.vx_tick.specs.Ticks.{changed_up_to, AreMoves};
-ghost use Rattle.vx_wake.specs.Laws.{with_changed};
-ghost use Rattle.vx_wake.specs.Waking.{RestsBut};
+ghost use Rattle.vx_still.specs.Waking.{with_changed};
+ghost use Rattle.vx_still.specs.Waking.{RestsBut};
 
 use crate::effects::put_down;
 use crate::fate::Fate;
@@ -23,7 +23,7 @@ use vx_cells::Frozen;
 use vx_geom::Pos;
 use vx_piston::Move;
 use vx_power::Leveled;
-use vx_wake::Waking;
+use vx_still::Waking;
 
 /// What a tick does where nothing is told and nothing was written: nothing.
 pub fn at_rest(

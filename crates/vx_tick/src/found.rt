@@ -6,7 +6,7 @@ ghost use Rattle.vx_geom.specs.Sizes.{sector_count};
 ghost use Rattle.vx_piston.specs.Moves.{is_restless};
 ghost use Rattle.vx_places.specs.Places.{is_at};
 ghost use Rattle.vx_power.specs.Levels.{AreAllLevels};
-ghost use Rattle.vx_wake.specs.Waking.{IsSettled};
+ghost use Rattle.vx_still.specs.Waking.{IsSettled};
 ghost use Rattle.vx_tick.specs.Pieces.{asked_in, changed_in, restless_in, restless_up_to, RestsOutside};
 ghost use Rattle.vx_tick.specs.Ticks.{asked, changed_up_to, AreInOrder, AreMoves};
 

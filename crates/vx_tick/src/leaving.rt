@@ -9,7 +9,7 @@ use std::alloc::{AllocError, Global};
 use vx_block::{Cell, Lamp, Level, Repeater};
 use vx_cells::{Frozen, is_same};
 use vx_geom::Pos;
-use vx_wake::Waking;
+use vx_still::Waking;
 
 /// Where the next tick has to look after these changes, and after what moves put down: all that
 /// shows other than before wakes what sees it; what else changed is looked at alone, and so is each

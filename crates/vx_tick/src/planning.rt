@@ -9,8 +9,8 @@ ghost use Rattle.vx_places.specs.Places.{is_at};
 ghost use Rattle.vx_tick.specs.Leaving.{IsPlanned};
 ghost use Rattle.vx_tick.specs.Pieces.{restless_up_to};
 ghost use Rattle.vx_tick.specs.Ticks.{changed_up_to, fates_on, stepped, AreMoves};
-ghost use Rattle.vx_wake.specs.Laws.{with_changed};
-ghost use Rattle.vx_wake.specs.Waking.{IsSettled, RestsBut};
+ghost use Rattle.vx_still.specs.Waking.{with_changed};
+ghost use Rattle.vx_still.specs.Waking.{IsSettled, RestsBut};
 
 use crate::ending::fates_under;
 use crate::finishing::{at_rest, finished, planned, worked};
@@ -22,7 +22,7 @@ use vx_geom::Pos;
 use vx_places::Places;
 use vx_policy::Version;
 use vx_power::{Leveled, all_levels};
-use vx_wake::{Settling, Waking, unsettled};
+use vx_still::{Settling, Waking, unsettled};
 
 /// What a tick of this map does that this version of the policy judges (docs/RULES.md). Nothing of
 /// the map is copied. It costs what the components of the map are, and the dust that has power.

@@ -8,7 +8,7 @@ ghost use Rattle.vx_part.specs.Changes.{change_at, changes};
 ghost use Rattle.vx_piston.specs.Moves.{is_restless};
 ghost use Rattle.vx_places.specs.Places.{is_at};
 ghost use Rattle.vx_power.specs.Levels.{AreAllLevels};
-ghost use Rattle.vx_wake.specs.Waking.{IsSettled};
+ghost use Rattle.vx_still.specs.Waking.{IsSettled};
 ghost use Rattle.vx_tick.specs.Pieces.{changed_in, restless_in, RestsOutside};
 
 use std::alloc::{AllocError, Global};

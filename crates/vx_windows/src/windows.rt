@@ -7,7 +7,7 @@ ghost use Rattle.vx_cells.specs.SectorCells.{is_chest};
 ghost use Rattle.vx_cells.specs.Wholes.{with_cells_on};
 ghost use Rattle.vx_windows.specs.Nexts.{AreNextOf, put_at, put_all};
 ghost use Rattle.vx_windows.specs.Sectors.{cells_of, opened_by, all_renewed, entries_in, entries_of};
-ghost use Rattle.vx_wake.specs.Waking.{RestsBut};
+ghost use Rattle.vx_still.specs.Waking.{RestsBut};
 
 use std::alloc::{AllocError, Global};
 use vx_block::Cell;
@@ -15,7 +15,7 @@ use vx_cells::{Cells, Frozen};
 use vx_geom::{Bounds, Pos};
 use vx_policy::Version;
 use vx_sector::{Entry, Fresh, Next, Sector};
-use vx_wake::Waking;
+use vx_still::Waking;
 
 /// The sectors of these cells in their first windows, judged by copies of this version. The cells
 /// are taken, and each is copied once.

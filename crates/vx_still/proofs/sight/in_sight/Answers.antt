@@ -7,7 +7,7 @@ use Rattle.vx_cells.specs.Maps.{cell_on}
 use Rattle.vx_places.specs.Around.{is_component_around}
 use Rattle.vx_places.specs.Places.{is_at, steps_between}
 use Rattle.vx_power.specs.Levels.{has}
-use Rattle.vx_wake.proofs.Looking.{same_listed}
+use Rattle.vx_still.proofs.Looking.{same_listed}
 use Rattle.vx_still.proofs.sight.in_sight.Goals as goal
 
 pub returns : goal.returns

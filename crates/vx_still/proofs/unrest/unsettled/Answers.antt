@@ -10,7 +10,7 @@ use Rattle.vx_places.specs.Places.{is_at}
 use Rattle.vx_power.specs.Levels.{has}
 use Rattle.vx_still.specs.Telling.{AreTold}
 use Rattle.vx_still.proofs.Unsettling.{around_marked, besides_marked, mirror_right, rests_unmarked, still_told}
-use Rattle.vx_wake.specs.Laws.{with_changed}
+use Rattle.vx_still.specs.Waking.{with_changed}
 use Rattle.vx_still.proofs.unrest.unsettled.Goals as goal
 
 pub repair-requires : goal.repair-requires
@@ -49,17 +49,18 @@ returns-clause-look c =
     let after_marks : (q : _) → is_at second q ≡ true → is_at last q ≡ true = λ q at. c.in_ok-tell_all-2.ensures.kept q (c.in_ok-tell_all.ensures.kept q at) in
     let after_first : (q : _) → is_at first q ≡ true → is_at last q ≡ true = λ q at.
     after_marks q (c.in_ok-mark_all.ensures.marked q ∙ or_left (is_at first q) _ at) in
-    let sizes_4 = c.in_ok-tell_all-2.ensures.sizes ∙ c.tell_all.ensures.sizes ∙ c.mark_all.ensures.sizes ∙ sizes_1 in
-    (sizes_4,
-    rests_unmarked m all put old new last c.requires.still c.requires.mirror
-    (subst (λ o. IfSome o (λ p. IsRight (cell_on m) new)) c.in-Some.is c.in_ok-put.ensures.right)
-    (subst (λ o. IfSome o (λ p. ChangesAt p.items old new)) c.in-Some.is c.in_ok-put.ensures.changes)
-    (λ q there. still_told m level third last q c.in_ok-tell_all-2.ensures.kept
-    (subst (AreTold m level third) (c.as_slice-5.ensures.value ∙ is) c.in_ok-tell_all.ensures.told q there))
-    (subst (AreTold m level last) c.as_slice-6.ensures.value c.in_ok-tell_all-2.ensures.told)
-    (λ q stands near. after_first q
-    (around_marked m c.as_slice-3.result.now c.in_ok-places.places first sizes_0 c.in_ok-mark_around_all.ensures.marked q stands
-    (ap (list_any (λ d. is_component_around (cell_on m) d 4 q)) (c.as_slice-3.ensures.value ∙ is) ∙ near)))
-    (λ q stands listed. after_marks q
-    (besides_marked m c.as_slice-4.result.now first second sizes_1 c.in_ok-mark_all.ensures.marked q stands
-    (subst (λ ps. has ps q ≡ true) (sym (c.as_slice-4.ensures.value ∙ ap (λ d. d.besides) c.waking.view_is)) listed))))
+    let sizes_4 = c.in_ok-tell_all-2.ensures.sizes ∙ c.tell_all.ensures.sizes ∙ c.mark_all.ensures.sizes ∙ sizes_1 in (
+      sizes_4,
+      rests_unmarked m all put old new last c.requires.still c.requires.mirror
+          (subst (λ o. IfSome o (λ p. IsRight (cell_on m) new)) c.in-Some.is c.in_ok-put.ensures.right)
+          (subst (λ o. IfSome o (λ p. ChangesAt p.items old new)) c.in-Some.is c.in_ok-put.ensures.changes)
+          (λ q there. still_told m level third last q c.in_ok-tell_all-2.ensures.kept
+          (subst (AreTold m level third) (c.as_slice-5.ensures.value ∙ is) c.in_ok-tell_all.ensures.told q there))
+          (subst (AreTold m level last) c.as_slice-6.ensures.value c.in_ok-tell_all-2.ensures.told)
+          (λ q stands near. after_first q
+          (around_marked m c.as_slice-3.result.now c.in_ok-places.places first sizes_0 c.in_ok-mark_around_all.ensures.marked q stands
+          (ap (list_any (λ d. is_component_around (cell_on m) d 4 q)) (c.as_slice-3.ensures.value ∙ is) ∙ near)))
+          (λ q stands listed. after_marks q
+          (besides_marked m c.as_slice-4.result.now first second sizes_1 c.in_ok-mark_all.ensures.marked q stands
+          (subst (λ ps. has ps q ≡ true) (sym (c.as_slice-4.ensures.value ∙ ap (λ d. d.besides) c.waking.view_is)) listed))),
+    )

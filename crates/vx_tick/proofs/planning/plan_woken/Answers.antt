@@ -7,7 +7,7 @@ use Rattle.vx_cells.specs.SectorCells.{is_chest}
 use Rattle.vx_cells.specs.Wholes.{with_cells_on}
 use Rattle.vx_tick.specs.Leaving.{IsPlanned}
 use Rattle.vx_tick.specs.Ticks.{fates_on, stepped}
-use Rattle.vx_wake.specs.Waking.{RestsBut}
+use Rattle.vx_still.specs.Waking.{RestsBut}
 use Rattle.vx_tick.proofs.planning.plan_woken.Goals as goal
 
 pub returns-clause-puts : goal.returns-clause-puts

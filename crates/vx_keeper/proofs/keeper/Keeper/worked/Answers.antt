@@ -2,8 +2,8 @@ use Rattle.std.proofs.Common.{◌≡◌, false, map, sym, ap, subst, ◌∙◌}
 use Rattle.vx_geom.specs.declared.pos.Pos.{Pos}
 use Rattle.vx_cells.specs.Maps.{MapData, AreSectors, cell_on}
 use Rattle.vx_power.specs.Levels.{has}
-use Rattle.vx_wake.specs.Laws.{with_changed}
-use Rattle.vx_wake.specs.Waking.{RestsBut}
+use Rattle.vx_still.specs.Waking.{with_changed}
+use Rattle.vx_still.specs.Waking.{RestsBut}
 use Rattle.vx_wake.proofs.Carrying.{writes_wake}
 use Rattle.vx_windows.specs.Sectors.{cells_of}
 use Rattle.vx_windows.specs.Writing.{map_before}

@@ -7,7 +7,7 @@ use Rattle.vx_sector.specs.Commands.{place_of}
 use Rattle.vx_sector.specs.SectorData.{SectorData, seat_of}
 use Rattle.vx_sector.specs.Windows.{sector_after}
 use Rattle.vx_cells.specs.Maps.{AreSectors}
-use Rattle.vx_wake.specs.Waking.{RestsBut}
+use Rattle.vx_still.specs.Waking.{RestsBut}
 use Rattle.vx_windows.specs.Sectors.{base_of, cells_of}
 use Rattle.vx_play.specs.Plays.{PlayData}
 use Rattle.vx_windows.proofs.Sparing.{base_stays, before_stays}

@@ -1,6 +1,6 @@
 use Rattle.std.proofs.Common.{map, sym, ap, ◌∙◌, subst, lit≤}
 use Rattle.vx_cells.specs.Maps.{AreSectors}
-use Rattle.vx_wake.specs.Waking.{RestsBut}
+use Rattle.vx_still.specs.Waking.{RestsBut}
 use Rattle.vx_windows.specs.Sectors.{base_of, cells_of}
 use Rattle.vx_windows.proofs.Sparing.{bases_begun}
 use Rattle.vx_play.proofs.Whole.{cells_opened}

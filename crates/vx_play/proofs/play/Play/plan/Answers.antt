@@ -3,8 +3,8 @@ use Rattle.std.specs.List.{All}
 use Rattle.vx_geom.specs.declared.pos.Pos.{Pos}
 use Rattle.vx_cells.specs.Maps.{MapData, cell_on}
 use Rattle.vx_power.specs.Levels.{has}
-use Rattle.vx_wake.specs.Laws.{with_changed}
-use Rattle.vx_wake.specs.Waking.{RestsBut}
+use Rattle.vx_still.specs.Waking.{with_changed}
+use Rattle.vx_still.specs.Waking.{RestsBut}
 use Rattle.vx_wake.proofs.Carrying.{writes_wake}
 use Rattle.vx_windows.specs.Sectors.{cells_of}
 use Rattle.vx_windows.specs.Writing.{IsSpared, map_before}

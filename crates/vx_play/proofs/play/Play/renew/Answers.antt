@@ -5,7 +5,7 @@ use Rattle.vx_cells.specs.SectorCells.{SectorCells}
 use Rattle.vx_cells.specs.Wholes.{with_cells_on}
 use Rattle.vx_sector.specs.SectorData.{SectorData}
 use Rattle.vx_cells.specs.Maps.{AreSectors}
-use Rattle.vx_wake.specs.Waking.{RestsBut}
+use Rattle.vx_still.specs.Waking.{RestsBut}
 use Rattle.vx_play.specs.Plays.{PlayData, map_of}
 use Rattle.vx_windows.specs.Sectors.{cells_of, all_renewed}
 use Rattle.vx_windows.specs.Writing.{map_before}

@@ -1,7 +1,7 @@
 use Rattle.std.proofs.Common.{ap, ◌∙◌, arith}
 use Rattle.vx_geom.specs.Sizes.{sector_count}
-use Rattle.vx_wake.proofs.Looking.{more_components, all_components}
-use Rattle.vx_wake.proofs.waking.components.Goals as goal
+use Rattle.vx_still.proofs.Looking.{more_components, all_components}
+use Rattle.vx_still.proofs.anew.components.Goals as goal
 
 pub loop-sector-preserved : goal.loop-sector-preserved
 loop-sector-preserved c =

@@ -4,7 +4,7 @@ use Rattle.vx_geom.specs.Sizes.{sector_of}
 use Rattle.vx_block.specs.Components.{is_component}
 use Rattle.vx_cells.specs.Maps.{cell_on}
 use Rattle.vx_power.specs.Levels.{has}
-use Rattle.vx_wake.proofs.waking.components.Given as goal
+use Rattle.vx_still.proofs.anew.components.Given as goal
 
 -- the components of the sectors so far are found
 abbrev pub invariant-loop-sector : goal.invariant-loop-sector

@@ -1,0 +1,34 @@
+//! The levels of a map of which nothing is known.
+ghost use Rattle.std.specs.Prelude.{◌≡◌, true, IfOk};
+ghost use Rattle.vx_block.specs.Components.{is_component};
+ghost use Rattle.vx_cells.specs.Maps.{cell_on};
+ghost use Rattle.vx_geom.specs.declared.pos.Pos.{Pos};
+ghost use Rattle.vx_levels.specs.Repairs.{IsRight};
+ghost use Rattle.vx_power.specs.Levels.{has};
+
+use std::alloc::{AllocError, Global};
+use vx_cells::Frozen;
+use vx_geom::Pos;
+use vx_levels::{LinkedLevels, all_linked};
+
+/// The levels and links of all dust of a map. It costs a look at each component.
+pub fn linked_anew(alloc: Global, map: &Frozen<'_>) -> Result<LinkedLevels, AllocError>
+    ensures { IfOk result (λ levels. IsRight (cell_on map.now) levels) }
+{
+    let places = components(alloc, map)?;
+    all_linked(alloc, map, places.as_slice())
+}
+
+// The positions of all components of a map.
+fn components(alloc: Global, map: &Frozen<'_>) -> Result<Vec<Pos>, AllocError>
+    ensures { IfOk result (λ found. (p : Pos) → is_component (cell_on map.now p) ≡ true
+        → has found.items p ≡ true) }
+{
+    map.soundness();
+    let mut found = Vec::new(alloc);
+    for sector in 0..map.bounds().sectors() {
+        let mut here = map.components(alloc, sector)?;
+        found.append(&mut here)?;
+    }
+    Ok(found)
+}

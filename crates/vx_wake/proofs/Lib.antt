@@ -1,4 +1,0 @@
-pub mod Carrying
-pub mod Looking
-pub mod Nothing
-pub mod Storing

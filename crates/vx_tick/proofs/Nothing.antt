@@ -18,8 +18,9 @@ use Rattle.vx_tick.specs.Ticks.{asked, asked_up_to, changed_up_to, stepped, AreM
 use Rattle.vx_tick.proofs.Asking.{kept_ask}
 use Rattle.vx_tick.proofs.Plans.{all_puts, is_worked, no_chests}
 use Rattle.vx_still.specs.Waking.{with_changed}
-use Rattle.vx_still.specs.Waking.{Rests, RestsBut, WakingData}
-use Rattle.vx_wake.proofs.Nothing.{nothing_awake}
+use Rattle.vx_still.specs.Waking.{Rests}
+use Rattle.vx_still.specs.Watching.{with_written, IsWatch, WatchData}
+use Rattle.vx_still.proofs.Watching.{all_rests}
 
 none_kept : (ps : List Pos) → filter (λ p. false) ps ≡ []
 none_kept [] = refl
@@ -65,28 +66,27 @@ none_listed : (ps : List Pos) → length ps ≡ 0 → ps ≡ []
 none_listed [] none = refl
 none_listed (p ∷ ps) none = absurd (omega (arith, none))
 
--- where nothing is told and nothing was written, everything rests
-pub all_rests : (m : MapData) (waking : WakingData) (written : List Pos)
-    → waking ≡ record { changed = []; besides = [] } → length written ≡ 0
-    → RestsBut m (with_changed waking written) → (p : Pos) → Rests m p
-all_rests m waking written none empty rests =
-    nothing_awake m (subst (RestsBut m) (λ i. with_changed (none i) (none_listed written empty i)) rests)
+-- where nothing was written, what is kept is kept
+pub unwritten : (m : MapData) (watch : WatchData) (written : List Pos)
+    → watch.waking ≡ record { changed = []; besides = [] } → length written ≡ 0
+    → IsWatch m (with_written watch written) → IsWatch m watch
+unwritten m watch written none empty is =
+    subst (λ w. IsWatch m (record { waking = w; levels = watch.levels })) (sym none)
+    (subst (λ w. IsWatch m (record { waking = w; levels = watch.levels }))
+    (λ i. with_changed (none i) (none_listed written empty i)) is)
 
--- and still does after the tick
-rests_still : (m : MapData) (rs : Regions) (next : WakingData) → IsFilled m
-    → next ≡ record { changed = []; besides = [] } → ((p : Pos) → Rests m p) → RestsBut (stepped rs m) next
-rests_still m rs next filled none rests =
-    subst (RestsBut (stepped rs m)) (sym none)
-    (subst (λ n. RestsBut n (record { changed = []; besides = [] })) (sym (nothing_stepped m rests rs filled))
-    (λ p away. rests p))
-
--- so a plan of nothing, after which the next tick has to look nowhere, tells the tick
-pub nothing_planned : (m : MapData) → ((p : Pos) → Rests m p) → (rs : Regions) → IsFilled m
-    → (done : Plan × WakingData) → done.0.puts.items ≡ [] → done.0.fates.items ≡ []
-    → done.1 ≡ record { changed = []; besides = [] } → IsPlanned rs m done
-nothing_planned m rests rs filled done puts fates none = record {
-  puts = all_puts rs m [] [] done.0.puts.items [] (nothing_worked m rests rs filled) puts;
-  fates = fates ∙ (nothing_worked m rests rs filled).told;
-  chests = no_chests rs m [] [] done.0.puts.items [] (nothing_worked m rests rs filled) puts;
-  waking = rests_still m rs done.1 filled none rests;
-}
+-- so a plan of nothing, after which it is still kept, tells the tick
+pub nothing_planned : (m : MapData) (watch : WatchData)
+    → watch.waking ≡ record { changed = []; besides = [] } → IsWatch m watch → (rs : Regions) → IsFilled m
+    → (done : Plan × WatchData) → done.0.puts.items ≡ [] → done.0.fates.items ≡ []
+    → done.1 ≡ watch → IsPlanned rs m done
+nothing_planned m watch none is rs filled done puts fates kept =
+    let rests = all_rests m watch none is in
+    record {
+      puts = all_puts rs m [] [] done.0.puts.items [] (nothing_worked m rests rs filled) puts;
+      fates = fates ∙ (nothing_worked m rests rs filled).told;
+      chests = no_chests rs m [] [] done.0.puts.items [] (nothing_worked m rests rs filled) puts;
+      watch =
+          subst (IsWatch (stepped rs m)) (sym kept)
+          (subst (λ n. IsWatch n watch) (sym (nothing_stepped m rests rs filled)) is);
+    }

@@ -11,7 +11,7 @@ use Rattle.vx_cells.specs.SectorCells.{is_chest}
 use Rattle.vx_cells.specs.Wholes.{with_cells_on}
 use Rattle.vx_power.specs.Local.{shown}
 use Rattle.vx_region.specs.Regions.{Regions}
-use Rattle.vx_still.specs.Waking.{RestsBut, WakingData}
+use Rattle.vx_still.specs.Watching.{IsWatch, WatchData}
 use Rattle.vx_tick.specs.declared.fate.Fate.{Fate}
 use Rattle.vx_tick.specs.declared.planned.Plan.{Plan}
 use Rattle.vx_tick.specs.Ticks.{advanced, changed_up_to, fates_on, stepped}
@@ -25,12 +25,12 @@ pub record IsWorked (rs : Regions) (m : MapData) (changes moved : List (Pos × C
   pub told : fates ≡ fates_on rs m
   pub chests : All (λ (put : Pos × Cell). is_chest put.1 ≡ false) (changes ++ moved)
 
--- what a tick does, told as a plan, and where the next one has to look: all rests but there then
-pub record IsPlanned (rs : Regions) (m : MapData) (done : Plan × WakingData) : Type 0 where
+-- what a tick does, told as a plan, and what is kept of the map after it
+pub record IsPlanned (rs : Regions) (m : MapData) (done : Plan × WatchData) : Type 0 where
   pub puts : stepped rs m ≡ with_cells_on m done.0.puts.items
   pub fates : done.0.fates.items ≡ fates_on rs m
   pub chests : All (λ (put : Pos × Cell). is_chest put.1 ≡ false) done.0.puts.items
-  pub waking : RestsBut (stepped rs m) done.1
+  pub watch : IsWatch (stepped rs m) done.1
 
 -- two cells show the same
 abbrev pub shows_same : Cell → Cell → Bool

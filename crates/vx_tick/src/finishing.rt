@@ -1,14 +1,15 @@
 //! What a tick does once it is known what it found and what becomes of the moves.
-ghost use Rattle.std.specs.Prelude.{◌≡◌, ◌++◌, length, IfOk, IfSome};
+ghost use Rattle.std.specs.Prelude.{◌≡◌, ◌++◌, [], length, IfOk};
+ghost use Rattle.vx_cells.specs.Maps.{cell_on};
 ghost use Rattle.vx_geom.specs.Sizes.{sector_count};
+ghost use Rattle.vx_levels.specs.Repairs.{IsRight};
 ghost use Rattle.vx_power.specs.Levels.{AreAllLevels};
 ghost use Rattle.vx_region.specs.Regions.{Regions};
+ghost use Rattle.vx_still.specs.Watching.{with_written, IsWatch};
 ghost use Rattle.vx_tick.specs.Fates.{AreFates};
 ghost use Rattle.vx_tick.specs.Leaving.{IsPlanned, IsWorked};
 ghost use Rattle.vx_tick.specs.Pieces.{restless_up_to};
 ghost use Rattle.vx_tick.specs.Ticks.{changed_up_to, AreMoves};
-ghost use Rattle.vx_still.specs.Waking.{with_changed};
-ghost use Rattle.vx_still.specs.Waking.{RestsBut};
 
 use crate::effects::put_down;
 use crate::fate::Fate;
@@ -21,37 +22,34 @@ use std::alloc::{AllocError, Global};
 use vx_block::Cell;
 use vx_cells::Frozen;
 use vx_geom::Pos;
+use vx_levels::LinkedLevels;
 use vx_piston::Move;
 use vx_power::Leveled;
-use vx_still::Waking;
+use vx_still::Watch;
 
-/// What a tick does where nothing is told and nothing was written: nothing.
-pub fn at_rest(
-    alloc: Global,
-    map: &Frozen<'_>,
-    waking: &Waking,
-    written: &[Pos],
-) -> Option<(Plan, Waking)>
-    requires { RestsBut map.now (with_changed waking.now written.now) }
-    ensures { IfSome result (λ done. (rs : Regions) → IsPlanned rs map.now done) }
+/// What a tick does where nothing is told and nothing was written: nothing. What was kept of the map
+/// is kept.
+pub fn undisturbed(alloc: Global, map: &Frozen<'_>, watch: Watch, written: &[Pos]) -> (Plan, Watch)
+    requires watch { IsWatch map.now (with_written watch written.now) }
+    requires nothing { watch.waking ≡ record { changed = []; besides = [] } }
+    requires unwritten { length written.now ≡ 0 }
+    ensures { (rs : Regions) → IsPlanned rs map.now result }
 {
     map.filling();
-    if waking.is_nothing() && written.is_empty() {
-        return Some((Plan::nothing(alloc), Waking::nothing(alloc)));
-    }
-    None
+    let _unwritten = written;
+    (Plan::nothing(alloc), watch)
 }
 
-/// What a tick does that found this, with these fates of the moves, and where the next one has to
-/// look.
-pub fn finished<L: Leveled>(
+/// What a tick does that found this by the levels and links of all dust, with these fates of the
+/// moves, and what is kept of the map after it.
+pub fn finished(
     alloc: Global,
     map: &Frozen<'_>,
-    levels: &L,
+    levels: LinkedLevels,
     found: Found,
     fates: Vec<(Pos, Fate)>,
-) -> Result<(Plan, Waking), AllocError>
-    requires levels { AreAllLevels map.now (L.level levels.now) }
+) -> Result<(Plan, Watch), AllocError>
+    requires right { IsRight (cell_on map.now) levels }
     requires changes { found.changes.items ≡ changed_up_to map.now (sector_count map.now.sizes) }
     requires restless { found.restless.items
         ≡ restless_up_to map.now (sector_count map.now.sizes) }
@@ -68,9 +66,9 @@ pub fn finished<L: Leveled>(
         restless,
         moves,
     } = found;
-    let done = worked(alloc, map, levels, changes, moves.as_slice(), fates)?;
-    let next = left(alloc, map, &done.changes, &done.moved, restless.as_slice())?;
-    Ok((planned(done)?, next))
+    let done = worked(alloc, map, &levels, changes, moves.as_slice(), fates)?;
+    let waking = left(alloc, map, &done.changes, &done.moved, restless.as_slice())?;
+    Ok((planned(done)?, Watch { waking, levels }))
 }
 
 /// What a tick does that found these changes, where these moves are asked for and have these fates.

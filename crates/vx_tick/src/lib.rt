@@ -2,6 +2,8 @@
 //! no other piston has the cells.
 #![tactic(auto)]
 
+mod alone;
+mod crew;
 mod effects;
 mod ending;
 mod fate;
@@ -18,12 +20,13 @@ mod standing;
 mod stepping;
 mod worked;
 
+pub use alone::Alone;
+pub use crew::Crew;
 pub use ending::{denials, fates, fates_by};
 pub use fate::Fate;
-pub use finishing::{at_rest, finished};
 pub use found::{Found, sort_moves};
 pub use laws::{heads_stay_with_pistons, parts_become_next, there_is_one_tick, ticks_by_position};
 pub use phase::Phase;
 pub use planned::Plan;
-pub use planning::{plan, plan_woken};
+pub use planning::{plan, plan_by};
 pub use stepping::{moved, step_owned, step_plain};

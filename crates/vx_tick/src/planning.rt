@@ -1,28 +1,28 @@
 //! A tick of a map that is only read.
-ghost use Rattle.std.specs.Prelude.{◌≡◌, false, IfOk};
+ghost use Rattle.std.specs.Prelude.{◌≡◌, false, IfOk, IfSome};
 ghost use Rattle.std.specs.List.{All};
+ghost use Rattle.vx_cells.specs.Maps.{cell_on};
 ghost use Rattle.vx_cells.specs.SectorCells.{is_chest};
 ghost use Rattle.vx_cells.specs.Wholes.{with_cells_on};
-ghost use Rattle.vx_geom.specs.Sizes.{sector_count};
-ghost use Rattle.vx_power.specs.Levels.{AreAllLevels};
-ghost use Rattle.vx_places.specs.Places.{is_at};
+ghost use Rattle.vx_levels.specs.Repairs.{IsRight};
+ghost use Rattle.vx_still.specs.Watching.{with_written, IsWatch};
 ghost use Rattle.vx_tick.specs.Leaving.{IsPlanned};
-ghost use Rattle.vx_tick.specs.Pieces.{restless_up_to};
-ghost use Rattle.vx_tick.specs.Ticks.{changed_up_to, fates_on, stepped, AreMoves};
-ghost use Rattle.vx_still.specs.Waking.{with_changed};
-ghost use Rattle.vx_still.specs.Waking.{IsSettled, RestsBut};
+ghost use Rattle.vx_tick.specs.Pieces.{RestsOutside};
+ghost use Rattle.vx_tick.specs.Ticks.{fates_on, stepped};
 
+use crate::crew::Crew;
 use crate::ending::fates_under;
-use crate::finishing::{at_rest, finished, planned, worked};
+use crate::finishing::{finished, planned, undisturbed, worked};
 use crate::found::Found;
 use crate::planned::Plan;
 use std::alloc::{AllocError, Global};
 use vx_cells::Frozen;
 use vx_geom::Pos;
+use vx_levels::LinkedLevels;
 use vx_places::Places;
 use vx_policy::Version;
-use vx_power::{Leveled, all_levels};
-use vx_still::{Settling, Waking, unsettled};
+use vx_power::all_levels;
+use vx_still::{Look, Watch, linked_anew, unsettled};
 
 /// What a tick of this map does that this version of the policy judges (docs/RULES.md). Nothing of
 /// the map is copied. It costs what the components of the map are, and the dust that has power.
@@ -39,92 +39,100 @@ pub fn plan(alloc: Global, map: &Frozen<'_>, version: &Version) -> Result<Plan, 
     planned(done)
 }
 
-/// The same of a map that rests but for what is told and what was written since, and where the next
-/// tick has to look. It costs what has changed, and no more than a look at all components.
-pub fn plan_woken(
+/// What a tick of this map does that this version of the policy judges, worked by this crew, and
+/// what is kept of the map for the tick after it. It goes by what was kept of the map before, and
+/// by what was written since, and costs what has changed, or no more than a look at all components;
+/// where nothing was kept it looks at all of them.
+pub fn plan_by<C: Crew>(
+    crew: &C,
     alloc: Global,
     map: &Frozen<'_>,
     version: &Version,
-    waking: &Waking,
+    watch: Option<Watch>,
     written: &[Pos],
-) -> Result<(Plan, Waking), AllocError>
-    requires { RestsBut map.now (with_changed waking.now written.now) }
+) -> Result<(Plan, Watch), AllocError>
+    requires { IfSome watch (λ watch. IsWatch map.now (with_written watch written.now)) }
     ensures puts { IfOk result (λ done.
         stepped version.now.policy map.now ≡ with_cells_on map.now done.0.puts.items) }
     ensures fates { IfOk result (λ done.
         done.0.fates.items ≡ fates_on version.now.policy map.now) }
     ensures chests { IfOk result (λ done.
         All (λ put. is_chest put.1 ≡ false) done.0.puts.items) }
-    ensures waking { IfOk result (λ done.
-        RestsBut (stepped version.now.policy map.now) done.1) }
+    ensures watch { IfOk result (λ done.
+        IsWatch (stepped version.now.policy map.now) done.1) }
 {
-    woken(alloc, map, version, waking, written)
+    by_watch(crew, alloc, map, version, watch, written)
 }
 
-// The same, as one fact.
-fn woken(
+// What the tick does, and what is kept, as one fact.
+fn by_watch<C: Crew>(
+    crew: &C,
     alloc: Global,
     map: &Frozen<'_>,
     version: &Version,
-    waking: &Waking,
+    watch: Option<Watch>,
     written: &[Pos],
-) -> Result<(Plan, Waking), AllocError>
-    requires { RestsBut map.now (with_changed waking.now written.now) }
+) -> Result<(Plan, Watch), AllocError>
+    requires { IfSome watch (λ watch. IsWatch map.now (with_written watch written.now)) }
     ensures { IfOk result (λ done. IsPlanned version.now.policy map.now done) }
 {
-    if let Some(done) = at_rest(alloc, map, waking, written) {
-        return Ok(done);
-    }
-    match unsettled(alloc, map, waking, written)? {
-        Some(places) => plan_among(alloc, map, version, &places),
-        None => plan_all(alloc, map, version),
+    match watch {
+        Some(watch) => watched(crew, alloc, map, version, watch, written),
+        None => unknown(crew, alloc, map, version),
     }
 }
 
-// The same of a map that rests outside these places.
-fn plan_among(
+// What a tick does by what was kept of the map, and what was written since.
+fn watched<C: Crew>(
+    crew: &C,
     alloc: Global,
     map: &Frozen<'_>,
     version: &Version,
-    places: &Places,
-) -> Result<(Plan, Waking), AllocError>
-    requires sizes { places.now.sizes ≡ map.now.sizes }
-    requires settled { IsSettled map.now (is_at places.now) }
+    watch: Watch,
+    written: &[Pos],
+) -> Result<(Plan, Watch), AllocError>
+    requires { IsWatch map.now (with_written watch written.now) }
     ensures { IfOk result (λ done. IsPlanned version.now.policy map.now done) }
 {
-    let levels = Settling::on(alloc, map, places)?;
-    let found = Found::among(alloc, map, &levels, places)?;
-    ended(alloc, map, version, &levels, found)
+    if watch.is_still() && written.is_empty() {
+        return Ok(undisturbed(alloc, map, watch, written));
+    }
+    let Watch { waking, mut levels } = watch;
+    match unsettled(alloc, map, &waking, written, &mut levels)? {
+        Some(Look::Among(places)) => by_levels(crew, alloc, map, version, levels, Some(&places)),
+        Some(Look::Everywhere) => by_levels(crew, alloc, map, version, levels, None),
+        None => unknown(crew, alloc, map, version),
+    }
 }
 
-// The same of a map of which nothing is known.
-fn plan_all(
+// What a tick does of a map of which nothing is known.
+fn unknown<C: Crew>(
+    crew: &C,
     alloc: Global,
     map: &Frozen<'_>,
     version: &Version,
-) -> Result<(Plan, Waking), AllocError>
+) -> Result<(Plan, Watch), AllocError>
     ensures { IfOk result (λ done. IsPlanned version.now.policy map.now done) }
 {
-    let levels = all_levels(alloc, map)?;
-    let found = Found::on(alloc, map, &levels)?;
-    ended(alloc, map, version, &levels, found)
+    let levels = linked_anew(alloc, map)?;
+    by_levels(crew, alloc, map, version, levels, None)
 }
 
-// What a tick does that found this, and where the next one has to look.
-fn ended<L: Leveled>(
+// What a tick does by the levels and links of all dust: at the places outside which the map rests,
+// where these are told, and else at all components.
+fn by_levels<C: Crew>(
+    crew: &C,
     alloc: Global,
     map: &Frozen<'_>,
     version: &Version,
-    levels: &L,
-    found: Found,
-) -> Result<(Plan, Waking), AllocError>
-    requires levels { AreAllLevels map.now (L.level levels.now) }
-    requires changes { found.changes.items ≡ changed_up_to map.now (sector_count map.now.sizes) }
-    requires restless { found.restless.items
-        ≡ restless_up_to map.now (sector_count map.now.sizes) }
-    requires moves { AreMoves map.now found.moves.items }
+    levels: LinkedLevels,
+    places: Option<&Places>,
+) -> Result<(Plan, Watch), AllocError>
+    requires right { IsRight (cell_on map.now) levels }
+    requires rests { IfSome places (λ places. RestsOutside map.now places.now) }
     ensures { IfOk result (λ done. IsPlanned version.now.policy map.now done) }
 {
-    let fates = fates_under(alloc, version, found.moves.as_slice())?;
+    let found = crew.find(alloc, map, &levels, places)?;
+    let fates = crew.judge(alloc, map.bounds(), version, found.moves.as_slice())?;
     finished(alloc, map, levels, found, fates)
 }

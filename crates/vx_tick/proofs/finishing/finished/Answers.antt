@@ -1,19 +1,23 @@
 use Rattle.std.proofs.Common.{◌++◌, sym, ap, ◌∙◌, subst}
 use Rattle.vx_cells.specs.Maps.{cell_on}
 use Rattle.vx_power.specs.Levels.{has}
+use Rattle.vx_still.proofs.Watching.{right_levels}
 use Rattle.vx_tick.specs.Fates.{AreFates}
 use Rattle.vx_tick.specs.Leaving.{shown_changes, hidden_changes, places_of}
 use Rattle.vx_tick.proofs.Plans.{all_puts, no_chests}
-use Rattle.vx_tick.proofs.Remaining.{rests_after}
+use Rattle.vx_tick.proofs.Remaining.{watch_after}
 use Rattle.vx_tick.proofs.Resting.{all_restless}
 use Rattle.vx_tick.proofs.finishing.finished.Goals as goal
 
+pub worked-requires-clause-levels : goal.worked-requires-clause-levels
+worked-requires-clause-levels c = right_levels c.args.map.now c.args.levels c.requires.right
+
 pub returns : goal.returns
-returns g c = λ rs told.
+returns c = λ rs told.
     let m = c.args.map.now in
     let w = cell_on m in
     let done = c.in_ok-done.done in
-    let next = c.in_ok-next.next in
+    let next = c.in_ok-waking.waking in
     let plan = c.in_ok-planned.field-0 in
     let joined = c.in_ok-planned.ensures.puts in
     let changes = c.deref.ensures.value in
@@ -24,11 +28,12 @@ returns g c = λ rs told.
       puts = all_puts rs m done.changes.items done.moved.items plan.puts.items done.fates.items worked joined;
       fates = c.in_ok-planned.ensures.fates ∙ worked.told;
       chests = no_chests rs m done.changes.items done.moved.items plan.puts.items done.fates.items worked joined;
-      waking =
-          rests_after rs m done.changes.items done.moved.items done.fates.items
+      watch =
+          watch_after rs m done.changes.items done.moved.items done.fates.items
           c.filling.ensures worked next.changed next.besides c.as_slice-2.result.now
-          (c.in_ok-next.ensures.changed ∙ (λ i. shown_changes w (changes i) ++ places_of (moved i)))
-          (c.in_ok-next.ensures.besides ∙ (λ i. hidden_changes w (changes i) ++ c.as_slice-2.result.now))
+          (c.in_ok-waking.ensures.changed ∙ (λ i. shown_changes w (changes i) ++ places_of (moved i)))
+          (c.in_ok-waking.ensures.besides ∙ (λ i. hidden_changes w (changes i) ++ c.as_slice-2.result.now))
           (λ p is. ap (λ ps. has ps p) (c.as_slice-2.ensures.value ∙ c.requires.restless)
-          ∙ all_restless m c.soundness.ensures.valid p is);
+          ∙ all_restless m c.soundness.ensures.valid p is)
+          c.args.levels c.requires.right;
     }

@@ -5,7 +5,6 @@ use Rattle.vx_cells.specs.Wholes.{IsMap}
 use Rattle.vx_region.specs.Regions.{Regions}
 use Rattle.vx_policy.specs.Asked.{Asked}
 use Rattle.vx_policy.specs.Edits.{AreAccepted}
-use Rattle.vx_still.specs.Waking.{WakingData, RestsBut}
 use Rattle.vx_windows.specs.Sectors.{first_version}
 use Rattle.vx_record.specs.Openings.{OpeningData}
 use Rattle.vx_record.specs.Archives.{ArchiveData, IsArchive}
@@ -24,18 +23,17 @@ opened_archive o =
       total = zeros_total many;
     }
 
-pub opened_keeps : (first : Regions) (many : ℕ) (o : OpeningData) (a : ArchiveData) (world : WorldData) (waking : WakingData) (seen : List Asked)
-    → AreAccepted first seen → IsMap o.terrain → RestsBut o.terrain waking → o.policy ≡ first → length o.terrain.sectors ≡ many
+pub opened_keeps : (first : Regions) (many : ℕ) (o : OpeningData) (a : ArchiveData) (world : WorldData) (seen : List Asked)
+    → AreAccepted first seen → IsMap o.terrain → o.policy ≡ first → length o.terrain.sectors ≡ many
     → a.chronicle ≡ record { opening = o; ticks = [] } → a.counts ≡ replicate (length o.terrain.sectors) 0
     → world ≡ record { map = o.terrain; version = first_version o.policy }
-    → IsKeeper first many (keeper_data a world waking seen)
-opened_keeps first many o a world waking seen accepted whole rests named all chronicle counts known =
+    → IsKeeper first many (keeper_data a world seen)
+opened_keeps first many o a world seen accepted whole named all chronicle counts known =
     subst (IsKeeper first many)
     (λ i. record {
       chronicle = sym chronicle i;
       counts = sym counts i;
       world = sym known i;
-      waking = waking;
       seen = seen;
       is_roomy = a.is_roomy;
     })
@@ -53,6 +51,5 @@ opened_keeps first many o a world waking seen accepted whole rests named all chr
         last = ap first_version named;
         within = omega arith;
       };
-      rests = rests;
       most = search (rules, arith);
     })

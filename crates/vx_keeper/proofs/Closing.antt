@@ -13,7 +13,6 @@ use Rattle.vx_region.specs.Regions.{Regions}
 use Rattle.vx_sector.specs.SectorData.{SectorData}
 use Rattle.vx_sector.specs.Windows.{IsSector}
 use Rattle.vx_tick.specs.Ticks.{fates_on, stepped}
-use Rattle.vx_still.specs.Waking.{WakingData, RestsBut}
 use Rattle.vx_windows.specs.Sectors.{entries_of, first_version}
 use Rattle.vx_windows.specs.Limits.{most_ticks}
 use Rattle.vx_record.specs.Chronicles.{TickData, AreSeated, AreWindows, all_after, map_acted, map_after}
@@ -69,19 +68,18 @@ module _ (first : Regions) (all : ℕ) (k : KeeperData) (keeper : IsKeeper first
       ∙ sym (map_after_one_more k.chronicle.opening.terrain k.chronicle.ticks tick)
 
   -- so the keeper goes on
-  pub keeps : (counts : List ℕ) (v : Version) (waking : WakingData) (b : Bool)
+  pub keeps : (counts : List ℕ) (v : Version) (b : Bool)
       → IsArchive (chronicle_next k ss) counts → length counts ≡ all → v ≡ version_next first k
-      → RestsBut (map_next k ss) waking → length k.chronicle.ticks < most_ticks
+      → length k.chronicle.ticks < most_ticks
       → IsMap (map_next k ss) → length (map_next k ss).sectors ≡ all
       → IsKeeper first all (record {
         chronicle = chronicle_next k ss;
         counts = counts;
         world = record { map = map_next k ss; version = v };
-        waking = waking;
         seen = k.seen;
         is_roomy = b;
       })
-  keeps counts v waking b archive many version rests more whole each =
+  keeps counts v b archive many version more whole each =
       let longer : length (k.chronicle.ticks ++ tick ∷ []) ≡ length k.chronicle.ticks + 1 = length_push k.chronicle.ticks tick in
       record {
         archive = archive;
@@ -93,16 +91,15 @@ module _ (first : Regions) (all : ℕ) (k : KeeperData) (keeper : IsKeeper first
         edits =
             subst (AreByEdits first k.seen (k.chronicle.ticks ++ tick ∷ [])) (sym version)
             (one_tick_more first k.seen k.chronicle.ticks tick keeper.edits refl);
-        rests = rests;
         most = omega (arith, longer, more);
       }
 
 -- with more or less room it is the same keeper
-pub still_keeps : (first : Regions) (all : ℕ) (a b : ArchiveData) (world : WorldData) (waking : WakingData)
+pub still_keeps : (first : Regions) (all : ℕ) (a b : ArchiveData) (world : WorldData)
     (seen : List Asked) → b.chronicle ≡ a.chronicle → b.counts ≡ a.counts
-    → IsKeeper first all (keeper_data a world waking seen) → IsKeeper first all (keeper_data b world waking seen)
-still_keeps first all a b world waking seen chronicle counts h =
-    let roomed : IsKeeper first all (record (keeper_data a world waking seen) { is_roomy = b.is_roomy }) =
+    → IsKeeper first all (keeper_data a world seen) → IsKeeper first all (keeper_data b world seen)
+still_keeps first all a b world seen chronicle counts h =
+    let roomed : IsKeeper first all (record (keeper_data a world seen) { is_roomy = b.is_roomy }) =
     record {
       archive = h.archive;
       opening = h.opening;
@@ -111,7 +108,6 @@ still_keeps first all a b world waking seen chronicle counts h =
       whole = h.whole;
       map = h.map;
       edits = h.edits;
-      rests = h.rests;
       most = h.most;
     } in
     subst (IsKeeper first all)
@@ -119,17 +115,16 @@ still_keeps first all a b world waking seen chronicle counts h =
       chronicle = sym chronicle i;
       counts = sym counts i;
       world = world;
-      waking = waking;
       seen = seen;
       is_roomy = b.is_roomy;
     })
     roomed
 
 -- and so it is when it has seen more edits
-pub sees_more : (first : Regions) (all : ℕ) (a : ArchiveData) (world : WorldData) (waking : WakingData)
+pub sees_more : (first : Regions) (all : ℕ) (a : ArchiveData) (world : WorldData)
     (seen later : List Asked) → IsPrefix seen later → AreAccepted first later
-    → IsKeeper first all (keeper_data a world waking seen) → IsKeeper first all (keeper_data a world waking later)
-sees_more first all a world waking seen later more accepted h = record {
+    → IsKeeper first all (keeper_data a world seen) → IsKeeper first all (keeper_data a world later)
+sees_more first all a world seen later more accepted h = record {
   archive = h.archive;
   opening = h.opening;
   all = h.all;
@@ -137,6 +132,5 @@ sees_more first all a world waking seen later more accepted h = record {
   whole = h.whole;
   map = h.map;
   edits = edits_more first seen later a.chronicle.ticks world.version more accepted h.edits;
-  rests = h.rests;
   most = h.most;
 }

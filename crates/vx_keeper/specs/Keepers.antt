@@ -13,7 +13,7 @@ use Rattle.vx_region.specs.Regions.{Regions}
 use Rattle.vx_sector.specs.SectorData.{SectorData}
 use Rattle.vx_tick.specs.Ticks.{fates_on, stepped}
 use Rattle.vx_tick.specs.declared.fate.Fate.{Fate}
-use Rattle.vx_still.specs.Waking.{WakingData, RestsBut}
+use Rattle.vx_still.specs.Watching.{IsWatch, WatchData}
 use Rattle.vx_windows.specs.Sectors.{cells_of, entries_of, first_version}
 use Rattle.vx_windows.specs.Limits.{most_ticks}
 use Rattle.vx_record.specs.Chronicles.{TickData, ChronicleData, AreGrown, map_after, version_by}
@@ -22,22 +22,19 @@ use Rattle.vx_record.specs.Settling.{KnownData}
 use Rattle.vx_keeper.specs.Marks.{WorldData}
 
 -- a keeper: the chronicle, how many entries of each sector are closed in it, the world as its windows
--- began, where that does not rest, the edits that it has seen, and whether the chronicle has room for
--- a tick more
+-- began, the edits that it has seen, and whether the chronicle has room for a tick more
 pub record KeeperData : Type 0 where
   pub chronicle : ChronicleData
   pub counts : List ℕ
   pub world : WorldData
-  pub waking : WakingData
   pub seen : List Asked
   pub is_roomy : Bool
 
-abbrev pub keeper_data : ArchiveData → WorldData → WakingData → List Asked → KeeperData
-keeper_data archive world waking seen = record {
+abbrev pub keeper_data : ArchiveData → WorldData → List Asked → KeeperData
+keeper_data archive world seen = record {
   chronicle = archive.chronicle;
   counts = archive.counts;
   world = world;
-  waking = waking;
   seen = seen;
   is_roomy = archive.is_roomy;
 }
@@ -63,7 +60,6 @@ pub record IsKeeper (first : Regions) (sectors : ℕ) (k : KeeperData) : Type 0 
   pub whole : IsMap k.world.map
   pub map : k.world.map ≡ map_after k.chronicle.opening.terrain k.chronicle.ticks
   pub edits : AreByEdits first k.seen k.chronicle.ticks k.world.version
-  pub rests : RestsBut k.world.map k.waking
   pub most : length k.chronicle.ticks ≤ most_ticks
 
 -- what it has of the sector of number n
@@ -103,10 +99,10 @@ chronicle_next k sectors = record k.chronicle {
 }
 
 -- what a tick does to a map, as it was worked: what is put down, no chest among it, what becomes of
--- the moves, and where the next tick has to look
+-- the moves, and what is kept of the map after it
 pub record IsWorked (policy : Regions) (m : MapData) (puts : List (Pos × Cell))
-    (fates : List (Pos × Fate)) (waking : WakingData) : Type 0 where
+    (fates : List (Pos × Fate)) (watch : WatchData) : Type 0 where
   pub after : stepped policy m ≡ with_cells_on m puts
   pub told : fates ≡ fates_on policy m
   pub chests : All (λ (put : Pos × Cell). is_chest put.1 ≡ false) puts
-  pub rests : RestsBut (stepped policy m) waking
+  pub watch : IsWatch (stepped policy m) watch

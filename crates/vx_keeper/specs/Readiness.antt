@@ -16,7 +16,7 @@ pub record IsReady (sectors : List SectorData) (work : Work) (next : Version) (r
   pub puts : ready.puts.items ≡ work.plan.puts.items
   pub fates : ready.fates.items ≡ work.plan.fates.items
   pub told : ready.told.items ≡ work.plan.fates.items
-  pub waking : ready.waking ≡ work.waking
+  pub watch : ready.watch ≡ work.watch
   pub nexts : AreNextOf next sectors ready.nexts.items
   pub bases : AreNextBases sectors (map (λ base. option_map (λ b. b.value) base) ready.bases.items)
   pub none : ready.windows.items ≡ []
@@ -27,7 +27,7 @@ pub record IsReady (sectors : List SectorData) (work : Work) (next : Version) (r
 pub record CanClose (first : Regions) (k : KeeperData) (sectors : List SectorData) (ready : Ready)
     : Type 0 where
   pub worked : IsWorked k.world.version.policy (map_now k sectors) ready.puts.items ready.fates.items
-      ready.waking
+      ready.watch
   pub told : ready.told.items ≡ ready.fates.items
   pub version : ready.version ≡ version_next first k
   pub nexts : AreNextOf ready.version sectors ready.nexts.items

@@ -4,7 +4,7 @@ ghost use mathlib.Core.List.{IsPrefix};
 ghost use Rattle.std.specs.Prelude.{◌≡◌, ℕ, ◌<◌, ◌≤◌, ◌+◌, ◌↔◌, ◌⊎◌, true, [], length, map, replicate, Some, Err, IfOk, IfErr, IfSome, MatchOption, OnOk};
 ghost use Rattle.vx_windows.specs.Sectors.{cells_of, all_renewed, opened_by, opened_with, first_version};
 ghost use Rattle.vx_windows.specs.Limits.{most_ticks};
-ghost use Rattle.vx_still.specs.Waking.{RestsBut};
+ghost use Rattle.vx_still.specs.Watching.{IsWatch};
 ghost use Rattle.vx_sector.specs.Windows.{count_of};
 ghost use Rattle.vx_record.specs.Records.{chronicle_in};
 ghost use Rattle.vx_record.specs.Settling.{AreKnown, BeganWith, IsKnown, IsTorn};
@@ -32,19 +32,20 @@ use vx_record::{Archive, Chronicle, Opening, Tick, follows};
 use vx_sector::Sector;
 use vx_stamp::{Mark, Stamper};
 use vx_step::{Gate, plan_parts};
+use vx_still::Watch;
 use vx_tick::Fate;
-use vx_still::Waking;
 use vx_windows::{MAX_TICKS, cells_of, open_sectors, renew_sectors, written};
 
 /// The keeper of a world: its chronicle, and what it knows of the world between two ticks. One who
 /// holds it makes the ticks, of sectors that were taken out of their locks.
-// It keeps where the map as the windows began does not rest, so that a tick looks there alone, a
-// view of the desk, by which it fixes versions, and the mark of what it knows, which it gives to the
+// It keeps what is known of the map as the windows began, so that a tick looks only where it changed;
+// where that was lost, for want of memory in a tick, the next one looks everywhere. It keeps a view
+// of the desk, by which it fixes versions, and the mark of what it knows, which it gives to the
 // sectors that are part of that.
 pub struct Keeper<A: Places> {
     archive: Archive,
     known: Known,
-    waking: Waking,
+    watch: Option<Watch>,
     view: View<A>,
     stamper: Stamper<Known, A>,
     mark: Option<Mark<Known, A>>,
@@ -53,13 +54,15 @@ pub struct Keeper<A: Places> {
 impl<A: Places> Model for Keeper<A> {
     ghost use Rattle.std.specs.Prelude.{◌≡◌, Some, IfSome};
     ghost use Rattle.vx_keeper.specs.Keepers.{KeeperData, IsKeeper, keeper_data};
+    ghost use Rattle.vx_still.specs.Watching.{IsWatch};
 
     ghost Value = { KeeperData };
 
-    ghost view = { λ a. keeper_data a.archive a.known a.waking a.view };
+    ghost view = { λ a. keeper_data a.archive a.known a.view };
 
-    ghost invariant = { λ a. IsKeeper A.first A.all (keeper_data a.archive a.known a.waking a.view)
-        × IfSome a.mark (λ m. m ≡ Some a.known) };
+    ghost invariant = { λ a. IsKeeper A.first A.all (keeper_data a.archive a.known a.view)
+        × IfSome a.mark (λ m. m ≡ Some a.known)
+        × IfSome a.watch (IsWatch a.known.map) };
 }
 
 // Written out, so that what is above this crate need not prove how its parts are let go.
@@ -68,7 +71,7 @@ impl<A: Places> Drop for Keeper<A> {
         let Keeper {
             archive: _archive,
             known: _known,
-            waking: _waking,
+            watch: _watch,
             view: _view,
             stamper: _stamper,
             mark: _mark,
@@ -98,11 +101,11 @@ impl<A: Places> Keeper<A> {
             All (IsPartOf opened.0.world) opened.1.items) }
     {
         opening.soundness();
-        let (known, waking) = begun(alloc, &opening)?;
+        let known = begun(&opening)?;
         let sectors = first_sectors(alloc, &opening, known.version())?;
         let archive = Archive::new(alloc, opening)?;
         view.soundness();
-        let keeper = Keeper::opened(archive, known, waking, view, stamper);
+        let keeper = Keeper::opened(archive, known, view, stamper);
         Ok((keeper, sectors))
     }
 
@@ -110,19 +113,18 @@ impl<A: Places> Keeper<A> {
     fn opened(
         archive: Archive,
         known: Known,
-        waking: Waking,
         view: View<A>,
         stamper: Stamper<Known, A>,
     ) -> Keeper<A>
-        requires { IsKeeper A.first A.all (keeper_data archive known waking view) }
-        ensures { result ≡ keeper_data archive known waking view }
+        requires { IsKeeper A.first A.all (keeper_data archive known view) }
+        ensures { result ≡ keeper_data archive known view }
     {
         let mut stamper = stamper;
         let mark = stamper.mark(&known);
         Keeper {
             archive,
             known,
-            waking,
+            watch: None,
             view,
             stamper,
             mark,
@@ -172,9 +174,10 @@ impl<A: Places> Keeper<A> {
 
     /// What the next tick does, whose windows these sectors have, all of the world in order of their
     /// numbers. Where one is not what the keeper has of it the first of these is told; but first of
-    /// all, that there is no number left. The sectors are worked by 1 to 8 threads.
+    /// all, that there is no number left. The sectors are worked by 1 to 8 threads. What the keeper
+    /// kept of the map goes into the work, so that a second call for one tick looks everywhere.
     pub fn work<R: Threads + Sync, G: Gate + Sync>(
-        &self,
+        &mut self,
         rt: &R,
         alloc: Global,
         sectors: &[Sector],
@@ -183,16 +186,17 @@ impl<A: Places> Keeper<A> {
         gate: &G,
     ) -> Result<Work, TickError>
         requires each { length sectors.now ≡ A.all }
-        requires parts { AreParts self.now.world are_parts.now sectors.now }
+        requires parts { AreParts self.old.world are_parts.now sectors.now }
         requires workers { (0 < workers) × (workers ≤ 8) }
+        ensures same { self.new ≡ self.old }
         ensures full { (result ≡ Err HistoryFull)
-            ↔ (most_ticks ≤ length self.now.chronicle.ticks) }
-        ensures refused { IfErr result (IsNoWork (known self.now) (map Some sectors.now)) }
+            ↔ (most_ticks ≤ length self.old.chronicle.ticks) }
+        ensures refused { IfErr result (IsNoWork (known self.old) (map Some sectors.now)) }
         ensures torn { (k : ℕ) → result ≡ Err (Torn k) → k < A.all }
-        ensures known { OnOk result (AreKnown (known self.now) (map Some sectors.now)) }
-        ensures worked { IfOk result (λ work. IsWorked self.now.world.version.policy
-            (map_now self.now sectors.now) work.plan.puts.items work.plan.fates.items
-            work.waking) }
+        ensures known { OnOk result (AreKnown (known self.old) (map Some sectors.now)) }
+        ensures worked { IfOk result (λ work. IsWorked self.old.world.version.policy
+            (map_now self.old sectors.now) work.plan.puts.items work.plan.fates.items
+            work.watch) }
     {
         if self.is_full() {
             return Err(TickError::HistoryFull);
@@ -200,7 +204,8 @@ impl<A: Places> Keeper<A> {
         if let Some(at) = self.first_torn(sectors, are_parts) {
             return Err(TickError::Torn(at));
         }
-        Ok(self.worked(rt, alloc, sectors, workers, gate)?)
+        let watch = self.take_watch();
+        Ok(self.worked(rt, alloc, watch, sectors, workers, gate)?)
     }
 
     /// From now on it fixes no version without the edits of this list. It takes no memory.
@@ -271,7 +276,7 @@ impl<A: Places> Keeper<A> {
             puts,
             fates,
             told,
-            waking,
+            watch,
             nexts,
             bases,
             windows,
@@ -292,7 +297,7 @@ impl<A: Places> Keeper<A> {
             windows,
             fates,
         });
-        self.waking = waking;
+        self.watch = Some(watch);
         self.mark = self.stamper.mark(&self.known);
         told
     }
@@ -355,7 +360,7 @@ impl<A: Places> Keeper<A> {
         let Keeper {
             archive,
             known,
-            waking: _waking,
+            watch: _watch,
             view: _view,
             stamper: _stamper,
             mark: _mark,
@@ -395,38 +400,49 @@ impl<A: Places> Keeper<A> {
         None
     }
 
-    // What the next tick does, where all sectors are what the keeper has of them.
+    // What is kept of the map as the windows began. It is kept no more then.
+    fn take_watch(&mut self) -> Option<Watch>
+        ensures same { self.new ≡ self.old }
+        ensures watch { IfSome result (IsWatch self.old.world.map) }
+    {
+        self.watch.take()
+    }
+
+    // What the next tick does by what was kept of the map, where all sectors are what the keeper has
+    // of them.
     fn worked<R: Threads + Sync, G: Gate + Sync>(
         &self,
         rt: &R,
         alloc: Global,
+        watch: Option<Watch>,
         sectors: &[Sector],
         workers: usize,
         gate: &G,
     ) -> Result<Work, AllocError>
+        requires watch { IfSome watch (IsWatch self.now.world.map) }
         requires known { AreKnown (known self.now) (map Some sectors.now) }
         requires each { length sectors.now ≡ A.all }
         requires workers { (0 < workers) × (workers ≤ 8) }
         ensures { IfOk result (λ work. IsWorked self.now.world.version.policy
             (map_now self.now sectors.now) work.plan.puts.items work.plan.fates.items
-            work.waking) }
+            work.watch) }
     {
         self.soundness();
         are_sectors(sectors);
         let cells = cells_of(alloc, sectors)?;
         let written = written(alloc, sectors)?;
         let map = Frozen::apart(self.known.bounds(), &cells);
-        let (plan, waking) = plan_parts(
+        let (plan, watch) = plan_parts(
             rt,
             alloc,
             &map,
             self.known.version(),
-            &self.waking,
+            watch,
             written.as_slice(),
             workers,
             gate,
         )?;
-        Ok(Work { plan, waking })
+        Ok(Work { plan, watch })
     }
 }
 
@@ -437,19 +453,16 @@ fn is_at(sector: &Sector, at: usize) -> bool
     sector.base().sector() as usize == at
 }
 
-// The world of this opening as its windows begin, and where it does not rest.
-fn begun(alloc: Global, opening: &Opening) -> Result<(Known, Waking), AllocError>
-    ensures known { IfOk result (λ begun. begun.0 ≡ record {
+// The world of this opening as its windows begin.
+fn begun(opening: &Opening) -> Result<Known, AllocError>
+    ensures { IfOk result (λ known. known ≡ record {
       map = opening.now.terrain;
       version = first_version opening.now.policy;
     }) }
-    ensures rests { IfOk result (λ begun. RestsBut opening.now.terrain begun.1) }
 {
-    opening.soundness();
     let version = first_version(opening)?;
     let (bounds, cells) = opening.terrain().try_clone()?.into_parts();
-    let waking = Waking::all(alloc, &opening.terrain().frozen())?;
-    Ok((Known::new(bounds, cells, version), waking))
+    Ok(Known::new(bounds, cells, version))
 }
 
 // The sectors of this opening in their first windows.

@@ -11,8 +11,8 @@ use vx_cells::Cells;
 use vx_geom::Pos;
 use vx_policy::Version;
 use vx_sector::{Entry, Next, Sector};
+use vx_still::Watch;
 use vx_tick::Fate;
-use vx_still::Waking;
 use vx_windows::all_next;
 
 /// All that it takes to close the windows of sectors and to begin their next ones. It is made
@@ -24,7 +24,7 @@ pub struct Ready {
     pub(crate) fates: Vec<(Pos, Fate)>,
     // A copy of the fates, one for the chronicle and one for whoever asks for the tick.
     pub(crate) told: Vec<(Pos, Fate)>,
-    pub(crate) waking: Waking,
+    pub(crate) watch: Watch,
     pub(crate) nexts: Vec<Next>,
     pub(crate) bases: Vec<Option<Box<Cells>>>,
     // No window yet, and room for one of each sector.
@@ -43,13 +43,13 @@ impl Ready {
     {
         let told = work.plan.fates.as_slice().to_vec(alloc)?;
         let (nexts, bases, windows) = room_for(alloc, sectors, &version)?;
-        let Work { plan, waking } = work;
+        let Work { plan, watch } = work;
         Ok(Ready {
             version,
             puts: plan.puts,
             fates: plan.fates,
             told,
-            waking,
+            watch,
             nexts,
             bases,
             windows,

@@ -1,9 +1,9 @@
+use vx_still::Watch;
 use vx_tick::Plan;
-use vx_still::Waking;
 
-/// What a tick does to the map, as it was worked, and where the next tick has to look.
+/// What a tick does to the map, as it was worked, and what is kept of the map after it.
 #[derive(Drop)]
 pub struct Work {
     pub plan: Plan,
-    pub waking: Waking,
+    pub watch: Watch,
 }

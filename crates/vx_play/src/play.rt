@@ -1,9 +1,10 @@
 ghost use Rattle.std.specs.List.{All};
-ghost use Rattle.std.specs.Prelude.{◌≡◌, false, [], map, vec_len, IfOk, OnOk, OnErr};
+ghost use Rattle.std.specs.Prelude.{◌≡◌, false, [], map, vec_len, IfOk, IfSome, OnOk, OnErr};
 ghost use Rattle.vx_cells.specs.SectorCells.{is_chest};
 ghost use Rattle.vx_cells.specs.Wholes.{with_cells_on};
 ghost use Rattle.vx_windows.specs.Sectors.{entries_in, entries_of};
-ghost use Rattle.vx_still.specs.Waking.{RestsBut};
+ghost use Rattle.vx_still.specs.Watching.{IsWatch};
+ghost use Rattle.vx_windows.specs.Writing.{map_before};
 
 use crate::names::number_of;
 use crate::tick_error::TickError;
@@ -17,15 +18,16 @@ use vx_geom::{Bounds, Pos};
 use vx_policy::{Edit, Policy, Version};
 use vx_region::Name;
 use vx_sector::{Cmd, Entry, Refusal, Reply, Seat, Sector};
-use vx_tick::{Plan, plan_woken};
-use vx_still::Waking;
+use vx_still::Watch;
+use vx_tick::{Plan, plan_by};
 use vx_windows::{
-    MAX_PLAYERS, MAX_TICKS, all_awake, all_next, cells_of, open_sectors, renew_sectors, written,
+    MAX_PLAYERS, MAX_TICKS, all_next, cells_of, open_sectors, renew_sectors, written,
 };
 
 /// A world at play: its sectors in their places, its players in order of their seats, and the desk
 /// where its policy is edited.
-// It keeps where the map as the windows began does not rest, so that a tick looks there alone.
+// It keeps what is known of the map as the windows began, so that a tick looks only where it changed.
+// Where that was lost, for want of memory in a tick, the next one looks everywhere.
 pub struct Play<J: Naming> {
     bounds: Bounds,
     sectors: Vec<Sector>,
@@ -33,11 +35,11 @@ pub struct Play<J: Naming> {
     names: Vec<Name>,
     desk: DeskState<J>,
     ticks: u64,
-    waking: Waking,
+    watch: Option<Watch>,
 }
 
 impl<J: Naming> Model for Play<J> {
-    ghost use Rattle.std.specs.Prelude.{◌≤◌, vec_len, map};
+    ghost use Rattle.std.specs.Prelude.{◌≤◌, vec_len, map, IfSome};
     ghost use Rattle.vx_region.specs.Texts.{texts};
     ghost use Rattle.vx_cells.specs.Maps.{AreSectors};
     ghost use Rattle.vx_play.specs.Plays.{PlayData};
@@ -45,7 +47,7 @@ impl<J: Naming> Model for Play<J> {
     ghost use Rattle.vx_windows.specs.Limits.{most_ticks};
     ghost use Rattle.vx_windows.specs.Writing.{map_before};
     ghost use Rattle.vx_windows.specs.declared.limits.TheConstants.{MAX_PLAYERS};
-    ghost use Rattle.vx_still.specs.Waking.{RestsBut};
+    ghost use Rattle.vx_still.specs.Watching.{IsWatch};
 
     ghost Value = { PlayData };
 
@@ -61,7 +63,7 @@ impl<J: Naming> Model for Play<J> {
 
     ghost invariant = { λ a. (vec_len a.names ≤ MAX_PLAYERS) × (a.ticks ≤ most_ticks)
         × AreSectors a.bounds (map cells_of a.sectors.items)
-        × RestsBut (map_before a.bounds a.sectors.items) a.waking };
+        × IfSome a.watch (IsWatch (map_before a.bounds a.sectors.items)) };
 }
 
 // Written out, so that what is above this crate need not prove how its parts are let go.
@@ -74,7 +76,7 @@ impl<J: Naming> Drop for Play<J> {
             names: _names,
             desk: _desk,
             ticks: _,
-            waking: _waking,
+            watch: _watch,
         } = self;
     }
 }
@@ -106,7 +108,6 @@ impl<J: Naming> Play<J> {
         let desk = DeskState::new(alloc, policy);
         let version = desk.fix(1)?;
         let sectors = open_sectors(alloc, cells, &version)?;
-        let waking = all_awake(alloc, bounds, &sectors)?;
         Ok(Play {
             bounds,
             sectors,
@@ -114,7 +115,7 @@ impl<J: Naming> Play<J> {
             names,
             desk,
             ticks: 0,
-            waking,
+            watch: None,
         })
     }
 
@@ -184,39 +185,49 @@ impl<J: Naming> Play<J> {
         if MAX_TICKS <= self.ticks {
             return Err(TickError::HistoryFull);
         }
-        let (plan, waking) = self.plan(alloc)?;
-        let windows = self.renew(alloc, plan.puts.as_slice(), waking)?;
+        let watch = self.take_watch();
+        let (plan, watch) = self.plan(alloc, watch)?;
+        let windows = self.renew(alloc, plan.puts.as_slice(), watch)?;
         Ok(Ticked {
             windows,
             fates: plan.fates,
         })
     }
 
-    // What the next tick does, and where the one after it has to look.
-    fn plan(&self, alloc: Global) -> Result<(Plan, Waking), AllocError>
+    // What is kept of the map as the windows began. It is kept no more then.
+    fn take_watch(&mut self) -> Option<Watch>
+        ensures same { self.new ≡ self.old }
+        ensures watch { IfSome result (IsWatch (map_before self.old.sizes self.old.sectors)) }
+    {
+        self.watch.take()
+    }
+
+    // What the next tick does by this, and what is kept of the map after it.
+    fn plan(&self, alloc: Global, watch: Option<Watch>) -> Result<(Plan, Watch), AllocError>
+        requires { IfSome watch (IsWatch (map_before self.now.sizes self.now.sectors)) }
         ensures puts { IfOk result (λ done.
             next_map self.now ≡ with_cells_on (map_of self.now) done.0.puts.items) }
         ensures fates { IfOk result (λ done. done.0.fates.items ≡ next_fates self.now) }
         ensures chests { IfOk result (λ done.
             All (λ put. is_chest put.1 ≡ false) done.0.puts.items) }
-        ensures waking { IfOk result (λ done. RestsBut (next_map self.now) done.1) }
+        ensures watch { IfOk result (λ done. IsWatch (next_map self.now) done.1) }
     {
         let cells = cells_of(alloc, &self.sectors)?;
         let written = written(alloc, &self.sectors)?;
         let map = Frozen::apart(self.bounds, &cells);
-        plan_woken(alloc, &map, &self.version, &self.waking, written.as_slice())
+        plan_by(alloc, &map, &self.version, watch, written.as_slice())
     }
 
     // Begins the next window of each sector over its cells with these put down, judged by the
     // policy after the edits so far, and hands out the records of the windows that this closes. The
-    // next tick looks where it is told.
+    // next tick goes by what is kept of the map after this one.
     fn renew(
         &mut self,
         alloc: Global,
         puts: &[(Pos, Cell)],
-        waking: Waking,
+        watch: Watch,
     ) -> Result<Vec<Vec<Entry>>, AllocError>
-        requires rests { RestsBut (with_cells_on (map_of self.old) puts.now) waking }
+        requires watch { IsWatch (with_cells_on (map_of self.old) puts.now) watch }
         requires chests { All (λ put. is_chest put.1 ≡ false) puts.now }
         requires more { self.old.ticks < most_ticks }
         ensures ok { OnOk result (self.new ≡ record self.old {
@@ -234,7 +245,7 @@ impl<J: Naming> Play<J> {
         let room = Vec::with_capacity(alloc, self.sectors.len())?;
         let windows = renew_sectors(self.bounds, &version, &mut self.sectors, nexts, room, puts);
         self.version = version;
-        self.waking = waking;
+        self.watch = Some(watch);
         self.ticks += 1;
         Ok(windows)
     }
@@ -271,7 +282,7 @@ impl<J: Naming> Play<J> {
             names: _names,
             desk: _desk,
             ticks: _,
-            waking: _waking,
+            watch: _watch,
         } = self;
         sectors
     }

@@ -23,5 +23,5 @@ pub use parts::step_parts;
 pub use planning_parts::plan_parts;
 pub use point::Point;
 pub use shares::{each_share, in_parts, sectors_of};
-pub use vx_tick::{Fate, Phase, Plan, fates, plan, plan_woken, step_owned, step_plain};
+pub use vx_tick::{Fate, Phase, Plan, fates, plan, step_owned, step_plain};
 pub use work::Work;

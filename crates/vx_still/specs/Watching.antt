@@ -1,13 +1,11 @@
 -- What is kept of a map between two ticks: where it is not still, and the levels of its dust.
-use Rattle.std.specs.Prelude.{◌≡◌, false, List}
-use Rattle.std.specs.Bool.{⊤}
+use Rattle.std.specs.Prelude.{◌≡◌, false, List, IfSome}
 use Rattle.vx_geom.specs.declared.pos.Pos.{Pos}
 use Rattle.vx_cells.specs.Maps.{MapData, cell_on}
 use Rattle.vx_levels.specs.Repairs.{IsRight}
 use Rattle.vx_places.specs.Places.{is_at}
 use Rattle.vx_power.specs.Levels.{LevelTable, has}
 use Rattle.vx_still.specs.declared.look.Look.{Look}
-use Rattle.vx_still.specs.declared.look.Look.TheVariants.{Among, Everywhere}
 use Rattle.vx_still.specs.Mirrored.{IsMirror}
 use Rattle.vx_still.specs.Stillness.{IsStill, LeavesStill}
 use Rattle.vx_still.specs.Waking.{with_changed}
@@ -38,7 +36,7 @@ TicksLeaveWatch = (m next : MapData) (watch : WatchData)
     → LeavesStill m next watch.waking.changed watch.waking.besides → IsRight (cell_on m) watch.levels
     → IsWatch next watch
 
--- a tick has to look at no more than this
+-- all rests outside the places that are told
 abbrev pub IsLook : MapData → Look → Type 0
-IsLook m (Among places) = (places.sizes ≡ m.sizes) × IsSettled m (is_at places)
-IsLook m Everywhere = ⊤
+IsLook m look =
+    IfSome look.places (λ places. (places.sizes ≡ m.sizes) × IsSettled m (is_at places))

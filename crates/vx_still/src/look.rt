@@ -1,10 +1,8 @@
 use vx_places::Places;
 
-/// Where a tick has to look.
+/// Where a tick has to look: at places outside which all rests, or, where none are told, at all
+/// components, which costs less where much was changed.
 #[derive(Drop)]
-pub enum Look {
-    /// At these places, outside which all rests.
-    Among(Places),
-    /// At all components, which costs less where much was changed.
-    Everywhere,
+pub struct Look {
+    pub places: Option<Places>,
 }

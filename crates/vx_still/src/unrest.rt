@@ -58,14 +58,16 @@ pub fn unsettled(
         return Ok(None);
     };
     if is_much(components, changed.len(), put.len()) {
-        return Ok(Some(Look::Everywhere));
+        return Ok(Some(Look { places: None }));
     }
     let mut places = Places::new(alloc, map.bounds())?;
     mark_around_all(alloc, map, &mut places, changed.as_slice(), CELLS_OFF)?;
     places.mark_all(alloc, waking.besides.as_slice())?;
     tell_all(alloc, map, levels, &mut places, changed.as_slice())?;
     tell_all(alloc, map, levels, &mut places, put.as_slice())?;
-    Ok(Some(Look::Among(places)))
+    Ok(Some(Look {
+        places: Some(places),
+    }))
 }
 
 // How many turns a repair may take on a map with so many components.

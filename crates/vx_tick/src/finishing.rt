@@ -24,27 +24,33 @@ use vx_cells::Frozen;
 use vx_geom::Pos;
 use vx_levels::LinkedLevels;
 use vx_piston::Move;
+use vx_policy::Version;
 use vx_power::Leveled;
 use vx_still::Watch;
 
-/// What a tick does where nothing is told and nothing was written: nothing. What was kept of the map
-/// is kept.
-pub fn undisturbed(alloc: Global, map: &Frozen<'_>, watch: Watch, written: &[Pos]) -> (Plan, Watch)
-    requires watch { IsWatch map.now (with_written watch written.now) }
+/// What a tick does that this version judges, of a map of which nothing is told: nothing. What was
+/// kept of the map is kept.
+pub fn undisturbed(
+    alloc: Global,
+    map: &Frozen<'_>,
+    version: &Version,
+    watch: Watch,
+) -> Result<(Plan, Watch), AllocError>
+    requires watch { IsWatch map.now watch }
     requires nothing { watch.waking ≡ record { changed = []; besides = [] } }
-    requires unwritten { length written.now ≡ 0 }
-    ensures { (rs : Regions) → IsPlanned rs map.now result }
+    ensures { IfOk result (λ done. IsPlanned version.now.policy map.now done) }
 {
     map.filling();
-    let _unwritten = written;
-    (Plan::nothing(alloc), watch)
+    let _by_any = version;
+    Ok((Plan::nothing(alloc), watch))
 }
 
-/// What a tick does that found this by the levels and links of all dust, with these fates of the
-/// moves, and what is kept of the map after it.
+/// What a tick does that this version judges and that found this by the levels and links of all
+/// dust, with these fates of the moves, and what is kept of the map after it.
 pub fn finished(
     alloc: Global,
     map: &Frozen<'_>,
+    version: &Version,
     levels: LinkedLevels,
     found: Found,
     fates: Vec<(Pos, Fate)>,
@@ -54,13 +60,12 @@ pub fn finished(
     requires restless { found.restless.items
         ≡ restless_up_to map.now (sector_count map.now.sizes) }
     requires moves { AreMoves map.now found.moves.items }
-    requires each { length fates.items ≡ length found.moves.items }
-    ensures { IfOk result (λ done. (rs : Regions)
-        → AreFates rs found.moves.items found.moves.items fates.items
-        → IsPlanned rs map.now done) }
+    requires fates { AreFates version.now.policy found.moves.items found.moves.items fates.items }
+    ensures { IfOk result (λ done. IsPlanned version.now.policy map.now done) }
 {
     map.soundness();
     map.filling();
+    let _judge = version;
     let Found {
         changes,
         restless,

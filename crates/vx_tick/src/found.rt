@@ -48,8 +48,30 @@ impl Found {
         Found::by(alloc, map, seen)
     }
 
-    /// The same by the places outside which a map rests. It costs what those are.
-    pub fn among<L: Leveled>(
+    /// What a tick finds on a map, by the levels of all its dust: at the places outside which the map
+    /// rests, where these are told, and else at all components.
+    pub fn at<L: Leveled>(
+        alloc: Global,
+        map: &Frozen<'_>,
+        levels: &L,
+        places: Option<&Places>,
+    ) -> Result<Found, AllocError>
+        requires levels { AreAllLevels map.now (L.level levels.now) }
+        requires rests { IfSome places (λ places. RestsOutside map.now places.now) }
+        ensures changes { IfOk result (λ found.
+            found.changes.items ≡ changed_up_to map.now (sector_count map.now.sizes)) }
+        ensures restless { IfOk result (λ found.
+            found.restless.items ≡ restless_up_to map.now (sector_count map.now.sizes)) }
+        ensures moves { IfOk result (λ found. AreMoves map.now found.moves.items) }
+    {
+        match places {
+            Some(places) => Found::among(alloc, map, levels, places),
+            None => Found::on(alloc, map, levels),
+        }
+    }
+
+    // What a tick finds at the places outside which a map rests. It costs what those are.
+    fn among<L: Leveled>(
         alloc: Global,
         map: &Frozen<'_>,
         levels: &L,
@@ -71,7 +93,7 @@ impl Found {
         Found::by(alloc, map, seen)
     }
 
-    // The same by what was seen in all sectors.
+    // What a tick finds that saw this in all sectors.
     fn by(alloc: Global, map: &Frozen<'_>, seen: Seen) -> Result<Found, AllocError>
         requires changes { seen.changes.items
             ≡ changed_up_to map.now (sector_count map.now.sizes) }

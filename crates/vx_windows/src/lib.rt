@@ -7,5 +7,5 @@ mod windows;
 mod writes;
 
 pub use limits::{MAX_PLAYERS, MAX_TICKS};
-pub use windows::{all_awake, all_next, cells_of, open_sectors, renew_sectors};
+pub use windows::{all_next, cells_of, open_sectors, renew_sectors};
 pub use writes::written;

@@ -7,15 +7,13 @@ ghost use Rattle.vx_cells.specs.SectorCells.{is_chest};
 ghost use Rattle.vx_cells.specs.Wholes.{with_cells_on};
 ghost use Rattle.vx_windows.specs.Nexts.{AreNextOf, put_at, put_all};
 ghost use Rattle.vx_windows.specs.Sectors.{cells_of, opened_by, all_renewed, entries_in, entries_of};
-ghost use Rattle.vx_still.specs.Waking.{RestsBut};
 
 use std::alloc::{AllocError, Global};
 use vx_block::Cell;
-use vx_cells::{Cells, Frozen};
+use vx_cells::Cells;
 use vx_geom::{Bounds, Pos};
 use vx_policy::Version;
 use vx_sector::{Entry, Fresh, Next, Sector};
-use vx_still::Waking;
 
 /// The sectors of these cells in their first windows, judged by copies of this version. The cells
 /// are taken, and each is copied once.
@@ -43,17 +41,6 @@ pub fn cells_of<'a>(alloc: Global, sectors: &'a [Sector]) -> Result<Vec<&'a Cell
         cells.push(sector.cells())?;
     }
     Ok(cells)
-}
-
-/// Where a tick has to look of a map of which nothing is known yet: at all components of the
-/// sectors of a world of this size.
-pub fn all_awake(alloc: Global, bounds: Bounds, sectors: &[Sector]) -> Result<Waking, AllocError>
-    requires { AreSectors bounds (map cells_of sectors.now) }
-    ensures { IfOk result (λ waking.
-        RestsBut (record { sizes = bounds; sectors = map cells_of sectors.now }) waking) }
-{
-    let cells = cells_of(alloc, sectors)?;
-    Waking::all(alloc, &Frozen::apart(bounds, &cells))
 }
 
 /// What the next window of each sector takes, judged by copies of this version, in order of the

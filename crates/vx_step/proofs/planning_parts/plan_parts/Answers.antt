@@ -7,34 +7,34 @@ use Rattle.vx_cells.specs.SectorCells.{is_chest}
 use Rattle.vx_cells.specs.Wholes.{with_cells_on}
 use Rattle.vx_tick.specs.Leaving.{IsPlanned}
 use Rattle.vx_tick.specs.Ticks.{fates_on, stepped}
-use Rattle.vx_still.specs.Waking.{RestsBut}
+use Rattle.vx_still.specs.Watching.{IsWatch}
 use Rattle.vx_step.proofs.planning_parts.plan_parts.Goals as goal
 
 pub returns-clause-puts : goal.returns-clause-puts
 returns-clause-puts g c =
     let rs = c.args.version.now.policy in
     let m = c.args.map.now in
-    IfOk-weaker c.woken.result (λ done. IsPlanned rs m done) (λ done. stepped rs m ≡ with_cells_on m done.0.puts.items)
-    (λ done is. is.puts) c.woken.ensures
+    IfOk-weaker c.started.result (λ done. IsPlanned rs m done) (λ done. stepped rs m ≡ with_cells_on m done.0.puts.items)
+    (λ done is. is.puts) c.started.ensures
 
 pub returns-clause-fates : goal.returns-clause-fates
 returns-clause-fates g c =
     let rs = c.args.version.now.policy in
     let m = c.args.map.now in
-    IfOk-weaker c.woken.result (λ done. IsPlanned rs m done) (λ done. done.0.fates.items ≡ fates_on rs m)
-    (λ done is. is.fates) c.woken.ensures
+    IfOk-weaker c.started.result (λ done. IsPlanned rs m done) (λ done. done.0.fates.items ≡ fates_on rs m)
+    (λ done is. is.fates) c.started.ensures
 
 pub returns-clause-chests : goal.returns-clause-chests
 returns-clause-chests g c =
     let rs = c.args.version.now.policy in
     let m = c.args.map.now in
-    IfOk-weaker c.woken.result (λ done. IsPlanned rs m done)
+    IfOk-weaker c.started.result (λ done. IsPlanned rs m done)
     (λ done. All (λ (put : Pos × Cell). is_chest put.1 ≡ false) done.0.puts.items)
-    (λ done is. is.chests) c.woken.ensures
+    (λ done is. is.chests) c.started.ensures
 
-pub returns-clause-waking : goal.returns-clause-waking
-returns-clause-waking g c =
+pub returns-clause-watch : goal.returns-clause-watch
+returns-clause-watch g c =
     let rs = c.args.version.now.policy in
     let m = c.args.map.now in
-    IfOk-weaker c.woken.result (λ done. IsPlanned rs m done) (λ done. RestsBut (stepped rs m) done.1)
-    (λ done is. is.waking) c.woken.ensures
+    IfOk-weaker c.started.result (λ done. IsPlanned rs m done) (λ done. IsWatch (stepped rs m) done.1)
+    (λ done is. is.watch) c.started.ensures

@@ -1,4 +1,4 @@
-use Rattle.std.proofs.Common.{◌++◌, sym, ap, ◌∙◌, subst}
+use Rattle.std.proofs.Common.{◌++◌, length, sym, ap, ◌∙◌, subst}
 use Rattle.vx_cells.specs.Maps.{cell_on}
 use Rattle.vx_power.specs.Levels.{has}
 use Rattle.vx_still.proofs.Watching.{right_levels}
@@ -7,13 +7,21 @@ use Rattle.vx_tick.specs.Leaving.{shown_changes, hidden_changes, places_of}
 use Rattle.vx_tick.proofs.Plans.{all_puts, no_chests}
 use Rattle.vx_tick.proofs.Remaining.{watch_after}
 use Rattle.vx_tick.proofs.Resting.{all_restless}
+use Rattle.vx_tick.proofs.Told.{fates_length}
 use Rattle.vx_tick.proofs.finishing.finished.Goals as goal
+
+pub worked-requires-clause-each : goal.worked-requires-clause-each
+worked-requires-clause-each c =
+    fates_length c.args.version.now.policy c.args.found.moves.items c.args.found.moves.items c.args.fates.items c.requires.fates
+    ∙ ap length (sym c.as_slice.ensures.value)
 
 pub worked-requires-clause-levels : goal.worked-requires-clause-levels
 worked-requires-clause-levels c = right_levels c.args.map.now c.args.levels c.requires.right
 
 pub returns : goal.returns
-returns c = λ rs told.
+returns c =
+    let rs = c.args.version.now.policy in
+    let told = c.requires.fates in
     let m = c.args.map.now in
     let w = cell_on m in
     let done = c.in_ok-done.done in

@@ -8,6 +8,7 @@ use Rattle.vx_cells.specs.Wholes.{IsMap, with_cells_on}
 use Rattle.vx_sector.specs.SectorData.{SectorData}
 use Rattle.vx_sector.specs.Windows.{count_of, most_entries}
 use Rattle.vx_cells.proofs.Setting.{puts_whole}
+use Rattle.vx_still.specs.Watching.{IsWatch}
 use Rattle.vx_windows.specs.Nexts.{AreNextOf}
 use Rattle.vx_windows.specs.Sectors.{cells_of, entries_in, entries_of, all_renewed}
 use Rattle.vx_record.specs.Chronicles.{TickData, ChronicleData}
@@ -165,7 +166,7 @@ module _ (g : Over) (c : goal.After-drop-puts g) where
       })
 
   keeper_is : IsKeeper g.A.Naming.first g.A.Places.all
-      (keeper_data c.add.new.self c.go_on-was.new.self c.args.ready.waking c.self.inside.view)
+      (keeper_data c.add.new.self c.go_on-was.new.self c.self.inside.view)
   keeper_is =
       let first = g.A.Naming.first in
       let many = g.A.Places.all in
@@ -181,16 +182,19 @@ module _ (g : Over) (c : goal.After-drop-puts g) where
         chronicle = sym chronicle_is i;
         counts = sym counts_are i;
         world = sym world_is i;
-        waking = c.args.ready.waking;
         seen = sym seen i;
         is_roomy = c.add.new.self.is_roomy;
       })
       (keeps first many k c.soundness.ensures ss c.are_sectors.ensures held (map count_of ss) c.args.ready.version
-      c.args.ready.waking c.add.new.self.is_roomy archive (length-map ss count_of ∙ c.requires.each)
-      c.requires.ready.version c.requires.ready.worked.rests c.requires.more next_whole next_each)
+      c.add.new.self.is_roomy archive (length-map ss count_of ∙ c.requires.each)
+      c.requires.ready.version c.requires.more next_whole next_each)
 
 pub invariant_of-self : goal.invariant_of-self
-invariant_of-self g c = (keeper_is g c, c.mark.ensures)
+invariant_of-self g c = (
+  keeper_is g c,
+  c.mark.ensures,
+  subst (λ m. IsWatch m c.args.ready.watch) (sym (map_is g c)) c.requires.ready.worked.watch,
+)
 
 pub returns-clause-counts : goal.returns-clause-counts
 returns-clause-counts g c = counts_are g c

@@ -4,13 +4,15 @@ use Rattle.vx_keeper.proofs.keeper.Keeper.fresh.Goals as goal
 pub invariant_of-self : goal.invariant_of-self
 invariant_of-self g c = (
   still_keeps g.A.Naming.first g.A.Places.all c.self.inside.archive c.reserve.new.self c.self.inside.known
-      c.self.inside.waking c.self.inside.view c.reserve.ensures.chronicle c.reserve.ensures.counts c.self.invariant.0,
+      c.self.inside.view c.reserve.ensures.chronicle c.reserve.ensures.counts c.self.invariant.0,
   c.self.invariant.1,
+  c.self.invariant.2,
 )
 
 pub invariant_of-self-2 : goal.invariant_of-self-2
 invariant_of-self-2 g c = (
   still_keeps g.A.Naming.first g.A.Places.all c.self.inside.archive c.reserve.new.self c.self.inside.known
-      c.self.inside.waking c.self.inside.view c.reserve.ensures.chronicle c.reserve.ensures.counts c.self.invariant.0,
+      c.self.inside.view c.reserve.ensures.chronicle c.reserve.ensures.counts c.self.invariant.0,
   c.self.invariant.1,
+  c.self.invariant.2,
 )

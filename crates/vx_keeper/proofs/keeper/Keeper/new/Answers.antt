@@ -19,6 +19,6 @@ returns-clause-parts g c =
 
 pub opened-keeper-requires : goal.opened-keeper-requires
 opened-keeper-requires g c =
-    opened_keeps g.A.Naming.first g.A.Places.all c.args.opening c.in_ok-archive.archive c.in_ok-known.known c.in_ok-known.waking c.args.view
-    c.soundness-2.ensures c.soundness.ensures.map c.in_ok-known.ensures.rests c.requires.first c.requires.all
-    c.in_ok-archive.ensures.chronicle c.in_ok-archive.ensures.counts c.in_ok-known.ensures.known
+    opened_keeps g.A.Naming.first g.A.Places.all c.args.opening c.in_ok-archive.archive c.in_ok-known.known c.args.view
+    c.soundness-2.ensures c.soundness.ensures.map c.requires.first c.requires.all
+    c.in_ok-archive.ensures.chronicle c.in_ok-archive.ensures.counts c.in_ok-known.ensures

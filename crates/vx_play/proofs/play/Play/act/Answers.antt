@@ -1,4 +1,4 @@
-use Rattle.std.proofs.Common.{◌≡◌, List, Some, length, map, slice_get, set, refl, sym, ap, ◌∙◌, subst, inl, inr, arith}
+use Rattle.std.proofs.Common.{◌≡◌, List, Some, IfSome, length, map, slice_get, set, refl, sym, ap, ◌∙◌, subst, inl, inr, arith}
 use Rattle.std.proofs.lemmas.Option.{slice_get_read}
 use Rattle.std.specs.Vec.{vec_len}
 use Rattle.vx_geom.specs.Sizes.{sector_of}
@@ -7,7 +7,7 @@ use Rattle.vx_sector.specs.Commands.{place_of}
 use Rattle.vx_sector.specs.SectorData.{SectorData, seat_of}
 use Rattle.vx_sector.specs.Windows.{sector_after}
 use Rattle.vx_cells.specs.Maps.{AreSectors}
-use Rattle.vx_still.specs.Waking.{RestsBut}
+use Rattle.vx_still.specs.Watching.{IsWatch}
 use Rattle.vx_windows.specs.Sectors.{base_of, cells_of}
 use Rattle.vx_play.specs.Plays.{PlayData}
 use Rattle.vx_windows.proofs.Sparing.{base_stays, before_stays}
@@ -39,7 +39,7 @@ invariant_of-self-2 g c =
       c.self.invariant.1,
       subst (λ s. AreSectors i.bounds (map cells_of (set i.sectors.items c.in-Some.number s))) (sym c.act.ensures.after)
           (answer_keeps_world (with_sectors g c i.sectors.items) (seat_of c.args.seat) c.args.cmd c.in-Some.number c.in-Some-get_mut.sector.now (found g c) (there g c) c.act.result c.self.invariant.2),
-      subst (λ m. RestsBut m i.waking)
+      subst (λ m. IfSome i.watch (IsWatch m))
           (sym (before_stays i.bounds i.sectors.items c.in-Some.number c.in-Some-get_mut.sector.now c.act.new.self (there g c)
           (ap base_of c.act.ensures.after ∙ base_stays c.in-Some-get_mut.sector.now (seat_of c.args.seat) c.args.cmd c.act.result)))
           c.self.invariant.3,

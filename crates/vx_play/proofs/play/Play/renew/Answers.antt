@@ -5,7 +5,7 @@ use Rattle.vx_cells.specs.SectorCells.{SectorCells}
 use Rattle.vx_cells.specs.Wholes.{with_cells_on}
 use Rattle.vx_sector.specs.SectorData.{SectorData}
 use Rattle.vx_cells.specs.Maps.{AreSectors}
-use Rattle.vx_still.specs.Waking.{RestsBut}
+use Rattle.vx_still.specs.Watching.{IsWatch}
 use Rattle.vx_play.specs.Plays.{PlayData, map_of}
 use Rattle.vx_windows.specs.Sectors.{cells_of, all_renewed}
 use Rattle.vx_windows.specs.Writing.{map_before}
@@ -25,9 +25,9 @@ invariant_of-self g c =
       c.self.invariant.0,
       omega (arith, c.requires.more, ap (λ (p : PlayData). p.ticks) c.self.view_is),
       subst (λ ts. AreSectors i.bounds (map cells_of ts)) (sym written) c.renew_sectors-windows.ensures.placed,
-      subst (λ m. RestsBut m c.args.waking)
+      subst (λ m. IsWatch m c.args.watch)
           (sym (ap (map_before i.bounds) (written ∙ begun) ∙ begun_over v i.bounds ss c.args.puts.now c.self.invariant.2))
-          (subst (λ (p : PlayData). RestsBut (with_cells_on (map_of p) c.args.puts.now) c.args.waking) (sym c.self.view_is) c.requires.rests),
+          (subst (λ (p : PlayData). IsWatch (with_cells_on (map_of p) c.args.puts.now) c.args.watch) (sym c.self.view_is) c.requires.watch),
     )
 
 pub returns-clause-ok : goal.returns-clause-ok

@@ -1,11 +1,8 @@
 -- Levels made right again in place: what another level at one position leaves of what agrees.
 use Rattle.std.proofs.Common.{◌≡◌, ◌≢◌, OnOk, Result, Ok, Err, ℕ, ◌+◌, ◌-◌, ◌<◌, ◌≤◌, ◌==◌, max, inl, inr, Bool, true, false, ◌||◌, if◌then◌else◌, List, [], ◌∷◌, ◌++◌, nat_lt, nat_le, refl, sym, ap, ◌∙◌, subst, arith}
-use Rattle.std.specs.List.{filter}
 use Rattle.std.proofs.Math.Nat.{le-max_left, le-max_right, max-le, zero-max}
 use Rattle.std.proofs.lemmas.Bool.{cases_Bool, false≢true, ltb-true, ltb-false, le-leb, eqb-true, or_parts, and_from}
 use Rattle.std.proofs.lemmas.Int.{ints}
-use Rattle.std.proofs.lemmas.List.{append_assoc}
-use Rattle.std.proofs.lemmas.List.Elements.{filter-append}
 use Rattle.vx_geom.specs.declared.pos.Pos.{Pos}
 use Rattle.vx_block.specs.declared.cell.Cell.{Cell}
 use Rattle.vx_block.specs.declared.side.Side.{Side}
@@ -216,6 +213,11 @@ pub record IsTaken (before pending : PendingData) (p : Pos) : Type 0 where
   pub unsure : (q : Pos) → same_place q p ≡ false → has pending.unsure q ≡ false → has before.unsure q ≡ false
   pub all : (q : Pos) → same_place q p ≡ false → is_pending pending q ≡ false → is_pending before q ≡ false
 
+-- what was pending is so still, and p is now
+pub record IsMoved (pending final : PendingData) (p : Pos) : Type 0 where
+  pub unsure : (q : Pos) → has final.unsure q ≡ false → has pending.unsure q ≡ false
+  pub all : (q : Pos) → is_pending final q ≡ false → (same_place q p ≡ false) × (is_pending pending q ≡ false)
+
 module _ (pending : PendingData) (p : Pos) where
   pub taken_unsure : IsTaken (record pending { unsure = pending.unsure ++ p ∷ [] }) pending p
   taken_unsure = record {
@@ -264,16 +266,14 @@ module _ (w : Pos → Cell) (level : Pos → ℕ) (before pending : PendingData)
   }
 
   -- p was put into another list
-  pub moved_to : (final : PendingData) → ((level p == 15) ≡ is_fed w p)
-      → ((q : Pos) → is_pending final q ≡ false → (same_place q p ≡ false) × (is_pending pending q ≡ false))
-      → ((q : Pos) → has final.unsure q ≡ false → has pending.unsure q ≡ false)
+  pub moved_to : (final : PendingData) → ((level p == 15) ≡ is_fed w p) → IsMoved pending final p
       → AreKept w level final
-  moved_to final fed more unsure = record {
+  moved_to final fed moved = record {
     low = kept.low;
     fed = here_or {P = λ q. is_dust (w q) ≡ true → has final.unsure q ≡ false → (level q == 15) ≡ is_fed w q}
         (λ dust none. fed)
-        (λ q off dust none. kept.fed q dust (taken.unsure q off (unsure q none)));
-    sure = λ q dust none. let parts = more q none in kept.sure q dust (taken.all q parts.0 parts.1);
+        (λ q off dust none. kept.fed q dust (taken.unsure q off (moved.unsure q none)));
+    sure = λ q dust none. let parts = moved.all q none in kept.sure q dust (taken.all q parts.0 parts.1);
   }
 
   module _ (new : Pos → ℕ) where
@@ -327,28 +327,31 @@ module _ (w : Pos → Cell) (level : Pos → ℕ) (before pending : PendingData)
     })
 
 module _ (pending : PendingData) (p : Pos) where
-  pub now_falling : (q : Pos) → is_pending (record pending { falling = pending.falling ++ p ∷ [] }) q ≡ false
-      → (same_place q p ≡ false) × (is_pending pending q ≡ false)
-  now_falling q none =
-      let parts = parts_of (record pending { falling = pending.falling ++ p ∷ [] }) q none in
-      let falling = none_in pending.falling (p ∷ []) q parts.1 in
-      ((or_parts (same_place q p) false falling.1).0, of_parts pending q parts.0 falling.0 parts.2)
+  pub now_falling : (final : PendingData) → final ≡ record pending { falling = pending.falling ++ p ∷ [] }
+      → IsMoved pending final p
+  now_falling final is = record {
+    unsure = λ q none. sym (ap (λ d. has d.unsure q) is) ∙ none;
+    all = λ q none.
+        let parts = parts_of (record pending { falling = pending.falling ++ p ∷ [] }) q (sym (ap (λ d. is_pending d q) is) ∙ none) in
+        let falling = none_in pending.falling (p ∷ []) q parts.1 in
+        ((or_parts (same_place q p) false falling.1).0, of_parts pending q parts.0 falling.0 parts.2);
+  }
 
-  pub now_rising : (q : Pos) → is_pending (record pending { rising = pending.rising ++ p ∷ [] }) q ≡ false
-      → (same_place q p ≡ false) × (is_pending pending q ≡ false)
-  now_rising q none =
-      let parts = parts_of (record pending { rising = pending.rising ++ p ∷ [] }) q none in
-      let rising = none_in pending.rising (p ∷ []) q parts.2 in
-      ((or_parts (same_place q p) false rising.1).0, of_parts pending q parts.0 parts.1 rising.0)
+  pub now_rising : (final : PendingData) → final ≡ record pending { rising = pending.rising ++ p ∷ [] }
+      → IsMoved pending final p
+  now_rising final is = record {
+    unsure = λ q none. sym (ap (λ d. has d.unsure q) is) ∙ none;
+    all = λ q none.
+        let parts = parts_of (record pending { rising = pending.rising ++ p ∷ [] }) q (sym (ap (λ d. is_pending d q) is) ∙ none) in
+        let rising = none_in pending.rising (p ∷ []) q parts.2 in
+        ((or_parts (same_place q p) false rising.1).0, of_parts pending q parts.0 parts.1 rising.0);
+  }
 
 pub under_15 : (n : ℕ) → n < 15 → (n == 15) ≡ false
 under_15 n less = elim (cases_Bool (n == 15)) [ inl is ↦ let same = eqb-true n 15 is in absurd (omega (arith, less, same)) | inr isnt ↦ isnt ]
 
 pub not_15 : (was n : ℕ) → was ≡ n → was ≢ 15 → (n == 15) ≡ false
 not_15 was n is other = elim (cases_Bool (n == 15)) [ inl is_15 ↦ let same = eqb-true n 15 is_15 in absurd (other (is ∙ same)) | inr isnt ↦ isnt ]
-
-pub just_15 : (was n : ℕ) → was ≡ n → was ≡ 15 → (n == 15) ≡ true
-just_15 was n is same = ap (λ k. k == 15) (sym is ∙ same)
 
 -- levels that are right but at some positions
 pub begun_at : (w : Pos → Cell) (level : Pos → ℕ) (unsure : List Pos) → ((p : Pos) → level p ≤ 15)
@@ -379,14 +382,6 @@ on_ok_both (Err e) both p q = tt
 pub on_ok_three : {T E P Q R S : Type 0} (r : Result T E) → (P → Q → R → S) → OnOk r P → OnOk r Q → OnOk r R → OnOk r S
 on_ok_three (Ok v) all p q r = all p q r
 on_ok_three (Err e) all p q r = tt
-
--- what passes, added list by list
-pub added : {X : Type 0} (test : X → Bool) (a b start middle end : List X) → middle ≡ start ++ filter test a
-    → end ≡ middle ++ filter test b → end ≡ start ++ filter test (a ++ b)
-added test a b start middle end first second =
-    second ∙ ap (λ xs. xs ++ filter test b) first
-    ∙ append_assoc start (filter test a) (filter test b)
-    ∙ ap (λ xs. start ++ xs) (sym (filter-append test a b))
 
 -- the greatest of three lists, and of four
 pub greatest_of_three : {X : Type 0} (level : X → ℕ) (a b c : List X) (x y z yz r : ℕ)

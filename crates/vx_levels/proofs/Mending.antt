@@ -1,25 +1,25 @@
 -- One position looked at while levels are made right, over a table that keeps links too.
-use Rattle.std.proofs.Common.{◌≡◌, ℕ, ◌+◌, ◌-◌, ◌≤◌, ◌==◌, inl, inr, true, false, if◌then◌else◌, List, [], ◌∷◌, ◌++◌, refl, sym, ap, ◌∙◌, subst, arith}
+use Rattle.std.proofs.Common.{◌≡◌, ℕ, ◌+◌, ◌-◌, ◌<◌, ◌≤◌, ◌==◌, inl, inr, true, false, if◌then◌else◌, List, [], ◌∷◌, ◌++◌, refl, sym, ap, ◌∙◌, subst, arith}
 use Rattle.std.specs.List.{filter}
-use Rattle.std.proofs.lemmas.Bool.{cases_Bool, or_parts, false≢true}
+use Rattle.std.proofs.lemmas.Bool.{cases_Bool, or_parts, eqb-true, false≢true}
 use Rattle.vx_geom.specs.declared.pos.Pos.{Pos}
 use Rattle.vx_block.specs.declared.cell.Cell.{Cell}
 use Rattle.vx_block.specs.Components.{is_dust}
-use Rattle.vx_levels.specs.Consistency.{pulled, IsConsistent}
+use Rattle.vx_levels.specs.Consistency.{greatest, pulled, IsConsistent}
 use Rattle.vx_levels.specs.Linked.{level_at, links_at, linked, KnowsLinks}
-use Rattle.vx_levels.specs.Pending.{PendingData, is_pending, AreKept, is_between, IsPut}
+use Rattle.vx_levels.specs.Pending.{PendingData, AreKept, is_between, IsPut}
 use Rattle.vx_levels.specs.Repairs.{Follows, IsRight, IsRightBut, IsUnderRepair}
-use Rattle.vx_levels.proofs.Agreeing.{greatest_same, links_to_dust}
-use Rattle.vx_levels.proofs.Keeping.{IsTaken, none_in, left_out, moved_to, after_fall, after_rise, begun_at, all_exact}
+use Rattle.vx_levels.proofs.Agreeing.{greatest_same, links_to_dust, told_fed, told_unfed}
+use Rattle.vx_levels.proofs.Keeping.{IsMoved, IsTaken, none_in, left_out, moved_to, after_fall, after_rise, begun_at, all_exact, greatest_most, own_right, under_15}
 use Rattle.vx_power.specs.Dust.{links}
 use Rattle.vx_power.specs.Levels.{LevelTable, has, same_place}
 use Rattle.vx_power.specs.Signals.{is_fed}
 use Rattle.vx_power.proofs.Having.{place_is}
 
 -- one position more is listed, where the level is another
-pub follows_put : (put more : List Pos) (old new : LevelTable) (p : Pos) (level : ℕ) → more ≡ put ++ p ∷ []
+pub follows_put : {more : List Pos} {p : Pos} {level : ℕ} (put : List Pos) (old new : LevelTable) → more ≡ put ++ p ∷ []
     → IsPut (level_at old) (level_at new) p level → Follows put old more new
-follows_put put more old new p level is changed q none =
+follows_put {p = p} {level = level} put old new is changed q none =
     let parts = none_in put (p ∷ []) q (sym (ap (λ ps. has ps q) is) ∙ none) in
     let off = (or_parts (same_place q p) false parts.1).0 in
     (parts.0, changed q ∙ ap (λ b. if b then level else level_at old q) off)
@@ -92,13 +92,12 @@ module _ (w : Pos → Cell) (old : LevelTable) (before pending : PendingData) (p
   }
 
   -- it was put into another list
-  pub moved_right : (final : PendingData) → final.unsure ≡ pending.unsure → ((level_at old p == 15) ≡ is_fed w p)
-      → ((q : Pos) → is_pending final q ≡ false → (same_place q p ≡ false) × (is_pending pending q ≡ false))
+  pub moved_right : (final : PendingData) → ((level_at old p == 15) ≡ is_fed w p) → IsMoved pending final p
       → IsUnderRepair w old final
-  moved_right final same fed more = record {
-    kept = moved_to w (level_at old) before pending p taken right.kept final fed more (λ q none. sym (ap (λ ps. has ps q) same) ∙ none);
-    linked = λ q none. links_known old (λ q. refl) q (sym (ap (λ ps. has ps q) same) ∙ none);
-    empty = λ q bare none. still_empty old (λ q bare. refl) q bare (sym (ap (λ ps. has ps q) same) ∙ none);
+  moved_right final fed moved = record {
+    kept = moved_to w (level_at old) before pending p taken right.kept final fed moved;
+    linked = λ q none. links_known old (λ q. refl) q (moved.unsure q none);
+    empty = λ q bare none. still_empty old (λ q bare. refl) q bare (moved.unsure q none);
   }
 
   module _ (new : LevelTable) (final : PendingData) (stay : (q : Pos) → links_at new q ≡ links_at old q) (dust : is_dust (w p) ≡ true) where
@@ -139,6 +138,80 @@ module _ (w : Pos → Cell) (old : LevelTable) (before pending : PendingData) (p
       linked = λ q none. links_known new stay q (sym (ap (λ d. has d.unsure q) is) ∙ none);
       empty = λ q bare none. still_empty new (dust_put to put) q bare (sym (ap (λ d. has d.unsure q) is) ∙ none);
     }
+
+-- a position of which it is known what dust there links to, and whether it is fed
+module _ {w : Pos → Cell} {old : LevelTable} {before pending : PendingData} {p : Pos}
+    (taken : IsTaken before pending p) (right : IsUnderRepair w old before)
+    (none : before.unsure ≡ []) where
+  known : has before.unsure p ≡ false
+  known = ap (λ ps. has ps p) none
+
+  links_here : KnowsLinks w old p
+  links_here = right.linked p known
+
+  bare_here : is_dust (w p) ≡ false → level_at old p ≡ 0
+  bare_here bare = right.empty p bare known
+
+  -- no dust lies there
+  pub bare_right : is_dust (w p) ≡ false → IsUnderRepair w old pending
+  bare_right bare = left_right w old before pending p taken right links_here bare_here
+      (λ dust. absurd (false≢true (sym bare ∙ dust)))
+
+  -- dust lies there that has one level and is told one
+  module _ {was told : ℕ} (dust : is_dust (w p) ≡ true) (level : was ≡ level_at old p)
+      (is : told ≡ (if was == 15 then 15 else greatest (level_at old) (linked (links_at old p) p) - 1)) where
+    fed_here : (level_at old p == 15) ≡ is_fed w p
+    fed_here = right.kept.fed p dust known
+
+    told_here : told ≡ pulled (is_fed w) (links w) (level_at old) p
+    unfolding pulled
+    told_here =
+        is
+        ∙ ap (λ b. if b then 15 else greatest (level_at old) (linked (links_at old p) p) - 1) (ap (λ n. n == 15) level ∙ fed_here)
+        ∙ ap (λ qs. if is_fed w p then 15 else greatest (level_at old) qs - 1) (links_here dust)
+
+    -- fed dust is told what it has
+    not_fed : (was ≡ told → ⊥) → is_fed w p ≡ false
+    not_fed other = elim (cases_Bool (is_fed w p)) [
+      | inl fed ↦ absurd (other (level ∙ eqb-true (level_at old p) 15 (fed_here ∙ fed)
+          ∙ sym (told_here ∙ told_fed (is_fed w) (links w) (level_at old) p fed)))
+      | inr unfed ↦ unfed
+    ]
+
+    -- it has what it is told
+    pub agreed_right : was ≡ told → IsUnderRepair w old pending
+    agreed_right same = left_right w old before pending p taken right links_here bare_here
+        (λ _. (fed_here, sym level ∙ same ∙ told_here))
+
+    -- it has to be looked at again
+    pub waits_right : (final : PendingData) → IsMoved pending final p → IsUnderRepair w old final
+    waits_right final = moved_right w old before pending p taken right links_here bare_here final fed_here
+
+    module _ (new : LevelTable) (final : PendingData) (stay : (q : Pos) → links_at new q ≡ links_at old q) where
+      -- its level was too high, and is gone
+      pub lowered_right : told < was → IsPut (level_at old) (level_at new) p 0
+          → final ≡ record pending {
+            falling = pending.falling ++ filter (is_between (level_at old) was (was + 1)) (linked (links_at old p) p);
+            rising = pending.rising ++ p ∷ [];
+          }
+          → IsUnderRepair w new final
+      lowered_right less = fallen_right w old before pending p taken right links_here bare_here new final stay dust
+          was level (not_fed (λ same. omega (arith, less, same)))
+
+      -- its level was too low, and is what it is told
+      pub lifted_right : was < told → IsPut (level_at old) (level_at new) p told
+          → final ≡ record pending {
+            rising = pending.rising ++ filter (is_between (level_at old) 0 told) (linked (links_at old p) p);
+          }
+          → IsUnderRepair w new final
+      lifted_right more put =
+          let unfed = not_fed (λ same. omega (arith, more, same)) in
+          let one_less = told_here ∙ told_unfed (is_fed w) (links w) (level_at old) p unfed in
+          let most = greatest_most (level_at old) (links w p) 15 (λ q among. right.kept.low q) in
+          let below : told < 15 = omega (arith, one_less, most) in
+          risen_right w old before pending p taken right links_here bare_here new final stay dust told put
+          (omega (arith, level, more)) (omega (arith, below)) (under_15 told below ∙ sym unfed)
+          (own_right w (level_at old) (level_at new) p told put unfed one_less)
 
 -- the links of a position of which nothing was known
 module _ (w : Pos → Cell) (old new : LevelTable) (pending : PendingData) (p : Pos) (bits : ℕ)

@@ -1,8 +1,9 @@
 //! Levels that were right before some cells changed, made right again in place.
-ghost use Rattle.std.specs.Prelude.{◌≡◌, ◌≤◌, ◌+◌, ◌++◌, ◌∷◌, [], true, OnOk, IfOk, IfSome};
+ghost use Rattle.std.specs.Prelude.{◌≡◌, ◌≤◌, ◌+◌, ◌-◌, ◌==◌, ◌++◌, ◌∷◌, [], true, if◌then◌else◌, OnOk, IfOk, IfSome};
 ghost use Rattle.std.specs.List.{filter};
 ghost use Rattle.vx_block.specs.Components.{is_dust};
 ghost use Rattle.vx_cells.specs.Maps.{cell_on};
+ghost use Rattle.vx_levels.specs.Consistency.{greatest};
 ghost use Rattle.vx_levels.specs.Linked.{level_at, linked, links_at, KnowsLinks};
 ghost use Rattle.vx_levels.specs.Pending.{IsPut, is_between};
 ghost use Rattle.vx_levels.specs.Repairs.{ChangesAt, Follows, IsRight, IsRightBut, IsUnderRepair};
@@ -143,10 +144,7 @@ fn lower(
         return Ok(());
     }
     let was = levels.at(p);
-    if was == FED {
-        return Ok(());
-    }
-    let told = greatest_linked(levels, p).saturating_sub(1);
+    let told = told_level(levels, p, was);
     if told < was {
         fall(levels, pending, put, p, was)
     } else if was < told {
@@ -174,16 +172,28 @@ fn lift(
         return Ok(());
     }
     let was = levels.at(p);
-    if was == FED {
-        return Ok(());
-    }
-    let told = greatest_linked(levels, p).saturating_sub(1);
+    let told = told_level(levels, p, was);
     if was < told {
         rise(levels, pending, put, p, told)
     } else if told < was {
         pending.add_falling(p)
     } else {
         Ok(())
+    }
+}
+
+// What dust at a position is told, where `was` is its level: that same level if it is that of fed
+// dust, else one less than the greatest level that the dust links to.
+fn told_level(levels: &LinkedLevels, p: Pos, was: u8) -> u8
+    requires { is_place p ≡ true }
+    ensures value { result ≡ (if was == 15 then 15
+        else greatest (level_at levels.now) (linked (links_at levels.now p) p) - 1) }
+    ensures most { result ≤ 15 }
+{
+    if was == FED {
+        FED
+    } else {
+        greatest_linked(levels, p).saturating_sub(1)
     }
 }
 

@@ -1,4 +1,4 @@
-ghost use Rattle.std.specs.Prelude.{◌≡◌, ◌<◌, true, [], length, unsigned_abs, if◌then◌else◌, OnOk};
+ghost use Rattle.std.specs.Prelude.{◌≡◌, ◌<◌, true, [], unsigned_abs, if◌then◌else◌, OnOk};
 ghost use Rattle.vx_geom.specs.declared.pos.Pos.{Pos};
 ghost use Rattle.vx_power.specs.Levels.{is_place, level_in, level_of, same_place, ReachesLayer};
 

@@ -35,7 +35,7 @@ module _ {X : Type 0}
     (near : (n : ℕ) (p q : X) → Deep (suc n) p → IsAmong (links p) q → Deep n q)
   where
     -- walks of n links are the same from depth n
-    pub within_carried : (n : ℕ) (p : X) → Deep n p
+    within_carried : (n : ℕ) (p : X) → Deep n p
         → within fed_near links_near n p ≡ within fed links n p
     unfolding within
     within_carried zero p deep = fed_same p deep
@@ -124,7 +124,7 @@ told_near m k level known p near = known p ∙ near_levels (cell_on m) m.sizes k
 
 module _ (m : MapData) (sizes : AreSizes m.sizes) where
   -- dust lies in some column
-  pub dust_in : (p : Pos) → is_dust (cell_on m p) ≡ true → is_in everywhere p ≡ true
+  dust_in : (p : Pos) → is_dust (cell_on m p) ≡ true → is_in everywhere p ≡ true
   dust_in p dust =
       let near = near_inside m.sizes p sizes (dust_inside m p dust) in
       let in_x = and_parts _ _ near in
@@ -147,7 +147,7 @@ module _ (m : MapData) (sizes : AreSizes m.sizes) where
         ∙ sym (ap (λ b. b && has_feeder (cell_on m) p) (no_dust p outside))
   ]
 
-  pub links_everywhere : (p : Pos) → links_in (cell_on m) (is_in everywhere) p ≡ links (cell_on m) p
+  links_everywhere : (p : Pos) → links_in (cell_on m) (is_in everywhere) p ≡ links (cell_on m) p
   unfolding links_in links
   links_everywhere p = elim (cases_Bool (is_in everywhere p)) [
     | inl there ↦ ap (λ b. if b then links (cell_on m) p else []) there

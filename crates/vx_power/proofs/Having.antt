@@ -1,7 +1,8 @@
 -- Positions in a list, and in lists that are joined.
 use Rattle.std.proofs.Common.{◌≡◌, Bool, true, false, ◌&&◌, ◌||◌, List, [], ◌∷◌, ◌++◌, filter, cond, inl, inr, refl, sym, ap, ◌∙◌, subst}
+use Rattle.std.specs.List.{list_any}
 use Rattle.std.specs.Ordering.{int_eq}
-use Rattle.std.proofs.lemmas.Bool.{and_parts, and_from, or_cases, or_left, or_right, false≢true}
+use Rattle.std.proofs.lemmas.Bool.{and_parts, and_from, cases_Bool, or_cases, or_left, or_parts, or_right, false≢true}
 use Rattle.std.proofs.lemmas.Bool.Decides.{Decides-int_eq, same_from_decides}
 use Rattle.std.proofs.lemmas.List.Folds.{list_any-append}
 use Rattle.vx_geom.specs.declared.pos.Pos.{Pos}
@@ -44,6 +45,22 @@ has_at ps p is =
 -- and those alone
 pub has_from : (ps : List Pos) (p : Pos) → IsAmong ps p → has ps p ≡ true
 has_from ps p among = any_from (same_place p) ps p among (own_place p)
+
+-- no element of a list of which none passes does
+pub none_at : {X : Type 0} (test : X → Bool) (xs : List X) (x : X)
+    → list_any test xs ≡ false → IsAmong xs x → test x ≡ false
+none_at test xs x none among = elim (cases_Bool (test x)) [
+  | inl is ↦ absurd (false≢true (sym none ∙ any_from test xs x among is))
+  | inr isnt ↦ isnt
+]
+
+-- where none passes a test, none passes one that passes nothing else
+pub fewer : (some more : Pos → Bool) → ((q : Pos) → more q ≡ false → some q ≡ false) → (ps : List Pos)
+    → list_any more ps ≡ false → list_any some ps ≡ false
+fewer some more less [] none = refl
+fewer some more less (p ∷ ps) none =
+    let parts = or_parts (more p) (list_any more ps) none in
+    ap (λ b. b || list_any some ps) (less p parts.0) ∙ fewer some more less ps parts.1
 
 -- two lists joined have what either has
 pub has_joined : (ps qs : List Pos) (p : Pos) → has (ps ++ qs) p ≡ (has ps p || has qs p)

@@ -3,11 +3,9 @@ pub mod Carried
 pub mod Distant
 pub mod Feeders
 pub mod Feeding
-pub mod Finding
 pub mod Having
 pub mod Linking
 pub mod Local
-pub mod Outer
 pub mod Pointing
 pub mod Reach
 pub mod Reaching
@@ -16,4 +14,3 @@ pub mod Showing
 pub mod Sources
 pub mod Stepping
 pub mod Tables
-pub mod Unchanged

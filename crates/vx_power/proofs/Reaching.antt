@@ -1,5 +1,5 @@
 -- What is reached, one position or one list of positions after another.
-use Rattle.std.proofs.Common.{◌≡◌, ℕ, zero, suc, ◌+◌, ◌-◌, ◌<◌, ◌≤◌, Bool, true, false, not, ◌&&◌, ◌||◌, if◌then◌else◌, nat_lt, List, [], ◌∷◌, ◌++◌, take, length, get_or, filter, cond, refl, sym, ap, ◌∙◌, subst, arith}
+use Rattle.std.proofs.Common.{◌≡◌, ℕ, zero, suc, ◌+◌, ◌-◌, ◌<◌, ◌≤◌, Bool, true, false, not, ◌&&◌, ◌||◌, if◌then◌else◌, nat_lt, List, [], ◌∷◌, ◌++◌, take, length, get_or, refl, sym, ap, ◌∙◌, subst, arith}
 use Rattle.std.specs.List.{flat_map}
 use Rattle.std.proofs.lemmas.Bool.{true≢false, lt-ltb, le-ltb, ltb-false}
 use Rattle.std.proofs.lemmas.List.{append-nil, append_assoc, take_more, take_all}
@@ -262,18 +262,6 @@ devices_give w (s ∷ ss) = ap (λ ps. fed_from w s ++ ps) (devices_give w ss)
 pub dust_gives : (w : Pos → Cell) (ps : List Pos) → flat_map (links w) ps ≡ linked_to w ps
 dust_gives w [] = refl
 dust_gives w (p ∷ ps) = ap (λ qs. links w p ++ qs) (dust_gives w ps)
-
--- those of a list that pass a test
-pub passing_give : (test : Pos → Bool) (ps : List Pos)
-    → flat_map (λ p. if test p then p ∷ [] else []) ps ≡ filter test ps
-passing_give test [] = refl
-passing_give test (p ∷ ps) =
-    ap (λ qs. (if test p then p ∷ [] else []) ++ qs) (passing_give test ps)
-    ∙ one_more (test p) p (filter test ps)
-  where
-    one_more : (b : Bool) (p : Pos) (qs : List Pos) → ((if b then p ∷ [] else []) ++ qs) ≡ cond b (p ∷ qs) qs
-    one_more true p qs = refl
-    one_more false p qs = refl
 
 -- the dust that the devices of one sector more feed
 module _ (m : MapData) (w : Pos → Cell) where

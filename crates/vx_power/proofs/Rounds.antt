@@ -43,7 +43,7 @@ module _ {X : Type 0} (fed : X → Bool) (links : X → List X) where
   ]
 
   -- a walk of one link more goes by a place that was reached last
-  pub linked_last : (n : ℕ) (p q : X) → within fed links n p ≡ false → IsAmong (links p) q
+  linked_last : (n : ℕ) (p q : X) → within fed links n p ≡ false → IsAmong (links p) q
       → within fed links n q ≡ true → before fed links n q ≡ false
   unfolding within
   linked_last zero p q away linked near = refl
@@ -145,14 +145,14 @@ module _ (inside fed : Pos → Bool) (links : Pos → List Pos) (n : ℕ) (s new
     round_done = record { levels = new_level; reached = new_reached }
 
 -- the links of dust that is inside
-pub links_there : (w : Pos → Cell) (inside : Pos → Bool) (p : Pos) → inside p ≡ true → links_in w inside p ≡ links w p
+links_there : (w : Pos → Cell) (inside : Pos → Bool) (p : Pos) → inside p ≡ true → links_in w inside p ≡ links w p
 unfolding links_in
 links_there w inside p there = ap (λ b. if b then links w p else []) there
 
 -- walks that stay inside, from places there that are fed
 module _ (w : Pos → Cell) (inside fed : Pos → Bool) (only : (p : Pos) → inside p ≡ false → fed p ≡ false) where
   -- nothing outside is within
-  pub none_outside : (n : ℕ) (p : Pos) → inside p ≡ false → within fed (links_in w inside) n p ≡ false
+  none_outside : (n : ℕ) (p : Pos) → inside p ≡ false → within fed (links_in w inside) n p ≡ false
   unfolding within links_in
   none_outside zero p outside = only p outside
   none_outside (suc n) p outside =
@@ -160,7 +160,7 @@ module _ (w : Pos → Cell) (inside fed : Pos → Bool) (only : (p : Pos) → in
       ∙ ap (λ b. list_any (within fed (links_in w inside) n) (if b then links w p else [])) outside
 
   -- so what is within is inside
-  pub within_inside : (n : ℕ) (p : Pos) → within fed (links_in w inside) n p ≡ true → inside p ≡ true
+  within_inside : (n : ℕ) (p : Pos) → within fed (links_in w inside) n p ≡ true → inside p ≡ true
   within_inside n p near = elim (cases_Bool (inside p)) [
     | inl there ↦ there
     | inr outside ↦ absurd (false≢true (sym (none_outside n p outside) ∙ near))

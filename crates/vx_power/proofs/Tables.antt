@@ -50,14 +50,6 @@ no_level layer zeros p = by (is_place p)
     by true = zeros (column p)
     by false = refl
 
--- what is read in a layer is at most 15
-pub read_most : (layer : List ℕ) → IsLayer layer → (p : Pos) → level_of (Some layer) p ≤ 15
-read_most layer is p = by (is_place p)
-  where
-    by : (b : Bool) → (if b then get_or layer (column p) 0 else 0) ≤ 15
-    by true = is.most (column p)
-    by false = omega arith
-
 -- one position of a layer has another level, and all others have what they had
 module _ (layer : List ℕ) (p : Pos) (level : ℕ) (place : is_place p ≡ true) (whole : length layer ≡ columns) where
   near : column p < length layer

@@ -1,5 +1,6 @@
 -- How far the signals at a position see.
-use Rattle.std.specs.Prelude.{◌≡◌, ℕ, zero, suc, ◌+◌, pos, ◌+ℤ◌, ◌-ℤ◌, true, List, [], ◌∷◌, ◌++◌, Option}
+use Rattle.std.specs.Prelude.{◌≡◌, ℕ, zero, suc, ◌+◌, pos, ◌+ℤ◌, ◌-ℤ◌, Bool, true, List, [], ◌∷◌, ◌++◌, Option}
+use Rattle.std.specs.List.{list_any}
 use Rattle.vx_geom.specs.declared.pos.Pos.{Pos}
 use Rattle.vx_geom.specs.declared.dir.Dir.{Dir}
 use Rattle.vx_geom.specs.Dirs.{all_dirs}
@@ -36,6 +37,10 @@ sees p = within_steps 2 p
 abbrev pub DustSees : Type 0
 DustSees = (w v : Pos → Cell) (p : Pos) → AreAlike (sees p) w v
     → (is_fed w p ≡ is_fed v p) × (links w p ≡ links v p)
+
+-- a change is in sight of p
+abbrev pub is_touched : (Pos → Bool) → Pos → Bool
+is_touched changed p = list_any changed (sees p)
 
 -- wherever at most so many steps lead from p, these are the levels of the map
 unfoldable pub AreLevelsNear : (Pos → Cell) → ℕ → Pos → (Pos → ℕ) → Type 0

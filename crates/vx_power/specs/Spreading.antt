@@ -1,7 +1,6 @@
 -- How levels spread from the dust that is fed, link by link, within a region: the positions that
 -- pass a test, `inside`.
-use Rattle.std.specs.Prelude.{◌≡◌, ℕ, zero, suc, Bool, false, not, ◌&&◌, ◌||◌, ◌-◌, ◌==◌, nat_lt, if◌then◌else◌, List, [], ◌∷◌, ◌++◌}
-use Rattle.std.specs.List.{flat_map}
+use Rattle.std.specs.Prelude.{◌≡◌, ℕ, zero, suc, Bool, false, not, ◌&&◌, ◌||◌, ◌-◌, nat_lt, if◌then◌else◌, List, [], ◌∷◌, ◌++◌}
 use Rattle.vx_geom.specs.declared.pos.Pos.{Pos}
 use Rattle.vx_geom.specs.declared.dir.Dir.{Dir}
 use Rattle.vx_geom.specs.declared.dir.Dir.TheVariants.{East, West, Up, Down, South, North}
@@ -12,7 +11,7 @@ use Rattle.vx_block.specs.Conductors.{conducts}
 use Rattle.vx_cells.specs.Listed.{devices_on}
 use Rattle.vx_cells.specs.Maps.{MapData, cell_on}
 use Rattle.vx_power.specs.Dust.{links}
-use Rattle.vx_power.specs.Levels.{LevelTable, has, level_in, stored_level}
+use Rattle.vx_power.specs.Levels.{LevelTable, has, level_in}
 use Rattle.vx_power.specs.Signals.{gives, drives, is_fed}
 use Rattle.vx_power.specs.Walks.{within, level_by}
 
@@ -58,14 +57,6 @@ fed_in w inside p = inside p && is_fed w p
 
 unfoldable pub links_in : (Pos → Cell) → (Pos → Bool) → Pos → List Pos
 links_in w inside p = if inside p then links w p else []
-
--- what those of these positions link to that pass a test
-abbrev pub linked_where : (Pos → Cell) → (Pos → Bool) → List Pos → List Pos
-linked_where w test ps = flat_map (links_in w test) ps
-
--- what stands at p stores this level
-abbrev pub stores : (Pos → Cell) → ℕ → Pos → Bool
-stores w level p = stored_level (w p) == level
 
 -- of the dust inside, the devices of the sectors from `first` up to below `end` feed all that is
 -- fed

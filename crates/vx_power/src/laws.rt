@@ -1,5 +1,4 @@
 ghost use Rattle.vx_power.specs.Local.{DustSees, PowerSees, ActivitySees, DustSeesShown, PowerSeesShown, ActivitySeesShown, LevelsAreLocal};
-ghost use Rattle.vx_power.specs.Nearness.{LevelsStay, NearnessStays};
 ghost use Rattle.vx_power.specs.Laws.{LevelsAreWalks, LevelsFallByOne, LinksLeadBack, PointsToAll, PointsAlong, PointsToJoins};
 
 /// The level of dust is 15 less the length of the shortest walk of links to fed dust, or 0; it
@@ -41,11 +40,4 @@ pub fn signals_see_what_is_shown()
     ensures dust { DustSeesShown }
     ensures power { PowerSeesShown }
     ensures activity { ActivitySeesShown }
-{}
-
-/// Dust from which at most fourteen links lead to no dust in sight of a change keeps its level,
-/// where the links are those after the change; and what is far from many changes is far from each.
-pub fn levels_stay_far_from_changes()
-    ensures levels { LevelsStay }
-    ensures nearness { NearnessStays }
 {}

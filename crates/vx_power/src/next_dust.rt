@@ -1,39 +1,18 @@
 //! Where dust lies that dust links to or a device feeds.
 ghost use Rattle.std.specs.Prelude.{◌≡◌, ◌&&◌, true, [], ◌∷◌, if◌then◌else◌, IfSome, SomeIff};
 ghost use Rattle.std.specs.Option.{option_to_list};
-ghost use Rattle.vx_block.specs.Components.{is_dust};
 ghost use Rattle.vx_block.specs.Conductors.{conducts};
 ghost use Rattle.vx_cells.specs.Maps.{cell_on};
 ghost use Rattle.vx_geom.specs.Neighbor.{neighbor};
 ghost use Rattle.vx_power.specs.Dust.{beside, over, under, links_up, links_down};
 ghost use Rattle.vx_power.specs.Levels.{is_place};
-ghost use Rattle.vx_power.specs.Signals.{gives, drives, is_fed};
+ghost use Rattle.vx_power.specs.Signals.{gives, drives};
 ghost use Rattle.vx_power.specs.Spreading.{dust_at};
 
-use crate::signals::{drives, gives, is_fed};
+use crate::signals::{drives, gives};
 use vx_block::{Cell, Side};
 use vx_cells::Frozen;
 use vx_geom::{Dir, Pos};
-
-/// The dust at a position.
-#[tactic(auto, using(crate::proofs::Stepping::dust_place))]
-pub fn dust_here(map: &Frozen<'_>, p: Pos) -> Option<Pos>
-    ensures found { option_to_list result ≡ (if is_dust (cell_on map.now p) then p ∷ [] else []) }
-    ensures there { IfSome result (λ q. is_place q ≡ true) }
-{
-    map.soundness();
-    if map.has_dust(p) { Some(p) } else { None }
-}
-
-/// The dust at a position, if it is fed.
-#[tactic(auto, using(crate::proofs::Stepping::dust_place))]
-pub fn fed_here(map: &Frozen<'_>, p: Pos) -> Option<Pos>
-    ensures found { option_to_list result ≡ (if is_fed (cell_on map.now) p then p ∷ [] else []) }
-    ensures there { IfSome result (λ q. is_place q ≡ true) }
-{
-    map.soundness();
-    if is_fed(map, p) { Some(p) } else { None }
-}
 
 /// The dust at the next position in that direction.
 #[inline(always)]

@@ -1,7 +1,6 @@
 //! How levels spread: from the dust that is fed, link by link.
-ghost use Rattle.std.specs.Prelude.{◌≡◌, ◌<◌, ◌≤◌, ◌+◌, ◌-◌, ◌&&◌, true, [], ◌∷◌, ◌++◌, filter, if◌then◌else◌, OnOk, IfOk, IfSome};
+ghost use Rattle.std.specs.Prelude.{◌≡◌, ◌<◌, ◌≤◌, ◌+◌, ◌-◌, ◌&&◌, true, [], ◌∷◌, if◌then◌else◌, OnOk, IfOk, IfSome};
 ghost use Rattle.std.specs.Option.{option_to_list};
-ghost use Rattle.vx_block.specs.Components.{is_dust};
 ghost use Rattle.vx_block.specs.Conductors.{conducts};
 ghost use Rattle.vx_cells.specs.Listed.{devices_on};
 ghost use Rattle.vx_cells.specs.Maps.{cell_on};
@@ -10,13 +9,13 @@ ghost use Rattle.vx_geom.specs.declared.pos.Pos.{Pos};
 ghost use Rattle.vx_geom.specs.Sizes.{sector_count};
 ghost use Rattle.vx_power.specs.Dust.{links, links_on};
 ghost use Rattle.vx_power.specs.Levels.{is_in, is_place, level_in, AreLevels, AreAllLevels};
-ghost use Rattle.vx_power.specs.Signals.{drives, is_fed};
+ghost use Rattle.vx_power.specs.Signals.{drives};
 ghost use Rattle.vx_power.specs.Spreading.{dust_at, each_dir, fed_towards, fed_from, fed_by, fed_by_sectors, linked_to, FeedAll, level_within, Reaches};
 
 use crate::columns::Columns;
 use crate::level_table::Levels;
 use crate::leveled::Leveled;
-use crate::next_dust::{driven, dust_at, dust_given, dust_here, dust_over, dust_under, fed_here};
+use crate::next_dust::{driven, dust_at, dust_given, dust_over, dust_under};
 use crate::region::Region;
 use std::alloc::{AllocError, Global};
 use std::marker::Model;
@@ -28,8 +27,8 @@ use vx_geom::{Dir, Pos};
 /// The level of dust that is fed.
 pub const FED: u8 = 15;
 
-/// A walk from fed dust has at most so many links.
-pub const MOST_LINKS: u8 = 14;
+// A walk from fed dust has at most so many links.
+const MOST_LINKS: u8 = 14;
 
 // Levels are told up to two columns off a sector, and a link leads at most one column further.
 const COLUMNS_OFF: u32 = 16;
@@ -83,9 +82,9 @@ fn levels_in(
     Ok(spread.into_levels())
 }
 
-/// Levels as they spread within a region.
+// Levels as they spread within a region.
 #[derive(Drop)]
-pub struct Spread {
+struct Spread {
     levels: Levels,
     reached: Vec<Pos>,
 }
@@ -99,8 +98,8 @@ impl Model for Spread {
 }
 
 impl Spread {
-    /// Nothing reached yet.
-    pub fn new(alloc: Global) -> Spread
+    // Nothing reached yet.
+    fn new(alloc: Global) -> Spread
         ensures { result ≡ record { table = []; reached = [] } }
     {
         Spread {
@@ -148,40 +147,8 @@ impl Spread {
         self.reach_all_fed(map, region, devices.as_slice())
     }
 
-    /// Reaches those of these positions where dust lies.
-    pub fn reach_dust<R: Region>(
-        &mut self,
-        map: &Frozen<'_>,
-        region: &R,
-        places: &[Pos],
-    ) -> Result<(), AllocError>
-        ensures { OnOk result (Reaches (R.holds region.now) 15 self.old self.new
-            (filter (λ p. is_dust (cell_on map.now p)) places.now)) }
-    {
-        for p in places {
-            self.reach_found(region, dust_here(map, *p), FED)?;
-        }
-        Ok(())
-    }
-
-    /// Reaches those of these positions where dust lies that is fed.
-    pub fn reach_fed_among<R: Region>(
-        &mut self,
-        map: &Frozen<'_>,
-        region: &R,
-        places: &[Pos],
-    ) -> Result<(), AllocError>
-        ensures { OnOk result (Reaches (R.holds region.now) 15 self.old self.new
-            (filter (is_fed (cell_on map.now)) places.now)) }
-    {
-        for p in places {
-            self.reach_found(region, fed_here(map, *p), FED)?;
-        }
-        Ok(())
-    }
-
-    /// One link further: reaches what the positions reached last link to.
-    pub fn go_on<R: Region>(
+    // One link further: reaches what the positions reached last link to.
+    fn go_on<R: Region>(
         &mut self,
         alloc: Global,
         map: &Frozen<'_>,
@@ -302,8 +269,8 @@ impl Spread {
         Ok(())
     }
 
-    /// Reaches what dust at a position links to.
-    pub fn reach_links<R: Region>(
+    // Reaches what dust at a position links to.
+    fn reach_links<R: Region>(
         &mut self,
         map: &Frozen<'_>,
         region: &R,
@@ -343,9 +310,9 @@ impl Spread {
         self.reach_found(region, dust_under(map, p, side), level)
     }
 
-    /// Reaches a position, if there is one.
+    // Reaches a position, if there is one.
     #[inline(always)]
-    pub fn reach_found<R: Region>(
+    fn reach_found<R: Region>(
         &mut self,
         region: &R,
         found: Option<Pos>,
@@ -379,23 +346,8 @@ impl Spread {
         Ok(())
     }
 
-    /// Adds the positions reached last to a list.
-    pub fn add_reached(&self, found: &mut Vec<Pos>) -> Result<(), AllocError>
-        ensures { OnOk result (found.new.items ≡ found.old.items ++ self.now.reached) }
-    {
-        found.extend_from_slice(self.reached.as_slice())?;
-        Ok(())
-    }
-
-    /// The positions reached last.
-    pub fn into_reached(self) -> Vec<Pos>
-        ensures { result.items ≡ self.reached }
-    {
-        self.reached
-    }
-
-    /// The levels as they are.
-    pub fn into_levels(self) -> Levels
+    // The levels as they are.
+    fn into_levels(self) -> Levels
         ensures { result ≡ self.table }
     {
         self.levels

@@ -1,8 +1,8 @@
 -- What lies so many steps off, and all components of a map.
-use Rattle.std.proofs.Common.{◌≡◌, ℕ, zero, suc, ◌+◌, ◌<◌, ◌≤◌, Bool, true, false, ◌&&◌, ◌||◌, nat_eq, inl, inr, List, [], ◌∷◌, ◌++◌, Some, refl, sym, ap, ◌∙◌, subst, arith}
+use Rattle.std.proofs.Common.{◌≡◌, ℕ, zero, suc, ◌+◌, ◌<◌, ◌≤◌, true, nat_eq, inl, inr, List, [], ◌∷◌, ◌++◌, Some, refl, sym, ap, ◌∙◌, subst, arith}
 use Rattle.std.specs.List.{list_any}
 use Rattle.std.specs.Prelude.{ℤ, ◌-ℤ◌, unsigned_abs}
-use Rattle.std.proofs.lemmas.Bool.{and_parts, and_from, cases_Bool, cases_eq, false≢true, le-leb, or_cases, or_left, or_parts, or_right}
+use Rattle.std.proofs.lemmas.Bool.{and_from, cases_Bool, cases_eq, false≢true, le-leb, or_left, or_right}
 use Rattle.std.proofs.lemmas.Bool.Decides.{same_from_decides}
 use Rattle.std.proofs.lemmas.Int.{ints}
 use Rattle.vx_geom.specs.declared.dir.Dir.{Dir}
@@ -11,26 +11,21 @@ use Rattle.vx_geom.specs.Dirs.{all_dirs}
 use Rattle.vx_geom.specs.Neighbor.{neighbor}
 use Rattle.vx_geom.specs.Places.{positions}
 use Rattle.vx_geom.specs.Sizes.{AreSizes, is_inside, sector_count, sector_number, sector_of}
-use Rattle.vx_block.specs.declared.cell.Cell.{Cell}
-use Rattle.vx_block.specs.Components.{is_component, is_device, is_dust}
+use Rattle.vx_block.specs.Components.{is_component}
 use Rattle.vx_cells.specs.Listed.{components_on}
 use Rattle.vx_cells.specs.Maps.{MapData, cell_on}
 use Rattle.vx_cells.proofs.Indices.{numbered, number_below}
 use Rattle.vx_cells.proofs.MapLemmas.{outside_is_air}
-use Rattle.vx_places.specs.Around.{is_around, is_component_around}
-use Rattle.vx_places.specs.Places.{PlacesData, is_at, steps_between}
+use Rattle.vx_places.specs.Around.{is_around}
+use Rattle.vx_places.specs.Places.{steps_between}
 use Rattle.vx_places.proofs.Steps.{no_steps, is_place, place_is, one_step_is_one_more}
-use Rattle.vx_power.specs.Dust.{links}
 use Rattle.vx_power.specs.Levels.{has}
-use Rattle.vx_power.specs.Local.{around, within_steps, sees}
-use Rattle.vx_power.specs.Nearness.{is_near, is_touched}
-use Rattle.vx_power.specs.Walks.{within, IsAmong}
+use Rattle.vx_power.specs.Local.{around, within_steps}
+use Rattle.vx_power.specs.Walks.{IsAmong}
 use Rattle.vx_power.proofs.Having.{has_at, has_from, has_filter, has_joined}
 use Rattle.vx_power.proofs.Feeding.{is_listed}
 use Rattle.vx_power.proofs.Linking.{among_either}
 use Rattle.vx_power.proofs.Reach.{any_at, any_from}
-use Rattle.vx_power.proofs.Stepping.{dust_inside}
-use Rattle.vx_part.specs.Laws.{reads}
 
 -- as many steps lead there as back
 back : (a b : ℤ) → unsigned_abs (a -ℤ b) ≡ unsigned_abs (b -ℤ a)

@@ -6,13 +6,11 @@ use Rattle.vx_block.specs.Components.{is_device, is_dust}
 use Rattle.vx_cells.specs.Maps.{cell_on}
 use Rattle.vx_levels.specs.Linked.{level_at}
 use Rattle.vx_power.specs.Levels.{LevelTable, has, level_of, stored_level}
-use Rattle.vx_power.specs.Local.{sees, shown}
-use Rattle.vx_power.specs.Nearness.{is_touched}
+use Rattle.vx_power.specs.Local.{sees, is_touched, shown}
 use Rattle.vx_power.specs.Walks.{IsAmong}
-use Rattle.vx_power.proofs.Having.{has_joined}
+use Rattle.vx_power.proofs.Having.{has_joined, none_at, fewer}
 use Rattle.vx_power.proofs.Local.{dust_sees_shown}
 use Rattle.vx_power.proofs.Showing.{same_dust}
-use Rattle.vx_power.proofs.Unchanged.{none_at, fewer}
 use Rattle.vx_still.specs.Mirrored.{WritesKeepMirror, TicksLeaveMirror, NothingKnownIsMirrored}
 use Rattle.vx_still.proofs.Stilling.{own_seen, ticks_mirror}
 

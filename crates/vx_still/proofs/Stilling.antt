@@ -16,16 +16,14 @@ use Rattle.vx_levels.specs.Consistency.{greatest, pulled, IsConsistent}
 use Rattle.vx_power.specs.Dust.{beside, over, under, links}
 use Rattle.vx_power.specs.Laws.{dust_level}
 use Rattle.vx_power.specs.Levels.{has, stored_level}
-use Rattle.vx_power.specs.Local.{around, within_steps, sees, shown, AreAlike, ShowAlike}
-use Rattle.vx_power.specs.Nearness.{is_touched}
+use Rattle.vx_power.specs.Local.{around, within_steps, sees, is_touched, shown, AreAlike, ShowAlike}
 use Rattle.vx_power.specs.Signals.{is_fed}
 use Rattle.vx_power.specs.Walks.{IsAmong}
 use Rattle.vx_levels.proofs.Agreeing.{greatest_same, level_agrees, links_to_dust}
-use Rattle.vx_power.proofs.Having.{has_joined}
+use Rattle.vx_power.proofs.Having.{has_joined, none_at, fewer}
 use Rattle.vx_power.proofs.Linking.{Linked, links_at, among_left, among_right}
 use Rattle.vx_power.proofs.Local.{one_of_six, dust_sees_shown}
 use Rattle.vx_power.proofs.Showing.{same_dust}
-use Rattle.vx_power.proofs.Unchanged.{none_at, fewer}
 use Rattle.vx_part.specs.Laws.{reads}
 use Rattle.vx_part.specs.Parts.{next_part}
 use Rattle.vx_part.proofs.Reading.{parts_read_shown}

@@ -7,7 +7,6 @@ use Rattle.vx_geom.specs.Sizes.{is_inside}
 use Rattle.vx_block.specs.declared.cell.Cell.{Cell}
 use Rattle.vx_block.specs.Components.{is_component, is_device, is_dust}
 use Rattle.vx_cells.specs.Maps.{MapData, cell_on}
-use Rattle.vx_cells.proofs.MapLemmas.{outside_is_air}
 use Rattle.vx_levels.specs.Linked.{level_at}
 use Rattle.vx_levels.specs.Repairs.{ChangesAt, IsRight, IsRightBut}
 use Rattle.vx_places.specs.Around.{is_around, is_component_around}
@@ -15,8 +14,7 @@ use Rattle.vx_places.specs.Places.{PlacesData, is_at, steps_between}
 use Rattle.vx_part.specs.Laws.{reads}
 use Rattle.vx_power.specs.Laws.{dust_level}
 use Rattle.vx_power.specs.Levels.{LevelTable, has}
-use Rattle.vx_power.specs.Local.{within_steps, sees, AreAlike}
-use Rattle.vx_power.specs.Nearness.{is_touched}
+use Rattle.vx_power.specs.Local.{within_steps, sees, is_touched, AreAlike}
 use Rattle.vx_power.proofs.Having.{has_joined}
 use Rattle.vx_power.proofs.Reach.{any_at, any_from}
 use Rattle.vx_power.proofs.Stepping.{dust_inside}

@@ -1,5 +1,5 @@
 -- What a watch tells: that it stays one, and that all rests where it tells of nothing.
-use Rattle.std.proofs.Common.{◌≡◌, ℕ, ◌≤◌, ◌%◌, Bool, true, false, ◌||◌, inl, inr, List, [], ◌∷◌, refl, sym, ap, ◌∙◌, subst, arith}
+use Rattle.std.proofs.Common.{◌≡◌, ℕ, ◌≤◌, ◌%◌, true, false, inl, inr, List, [], ◌∷◌, refl, sym, ◌∙◌, subst, arith}
 use Rattle.std.specs.List.{list_any}
 use Rattle.std.proofs.lemmas.Bool.{cases_Bool}
 use Rattle.vx_geom.specs.declared.pos.Pos.{Pos}
@@ -13,7 +13,6 @@ use Rattle.vx_part.specs.Laws.{reads}
 use Rattle.vx_power.specs.Laws.{dust_level}
 use Rattle.vx_power.specs.Levels.{AreAllLevels, LevelTable, has, level_in}
 use Rattle.vx_power.specs.Local.{sees}
-use Rattle.vx_power.specs.Nearness.{is_touched}
 use Rattle.vx_still.specs.Stillness.{stored_on}
 use Rattle.vx_still.specs.Watching.{IsWatch, WatchData, WritesKeepWatch, TicksLeaveWatch}
 use Rattle.vx_still.proofs.Heeding.{no_store, no_dust_level}

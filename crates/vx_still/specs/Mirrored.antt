@@ -6,7 +6,7 @@ use Rattle.vx_cells.specs.Maps.{MapData, cell_on}
 use Rattle.vx_levels.specs.Linked.{level_at, KnowsLinks}
 use Rattle.vx_levels.specs.Repairs.{IsRight}
 use Rattle.vx_power.specs.Levels.{LevelTable, has}
-use Rattle.vx_power.specs.Nearness.{is_touched}
+use Rattle.vx_power.specs.Local.{is_touched}
 use Rattle.vx_still.specs.Stillness.{LeavesStill, Mirrors}
 
 -- it has the level that dust stores and none where no dust lies, but where something changed; and

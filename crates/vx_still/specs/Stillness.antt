@@ -8,8 +8,7 @@ use Rattle.vx_cells.specs.Maps.{MapData, cell_on}
 use Rattle.vx_levels.specs.Consistency.{IsConsistent, IsExactOn}
 use Rattle.vx_power.specs.Laws.{dust_level}
 use Rattle.vx_power.specs.Levels.{has, stored_level}
-use Rattle.vx_power.specs.Local.{sees, shown, AreAlike}
-use Rattle.vx_power.specs.Nearness.{is_touched}
+use Rattle.vx_power.specs.Local.{sees, is_touched, shown, AreAlike}
 use Rattle.vx_part.specs.Laws.{reads}
 use Rattle.vx_part.specs.Parts.{next_part}
 use Rattle.vx_piston.specs.Moves.{is_restless}

@@ -10,5 +10,5 @@ returns-then-at-eq0-clause-levels c =
 pub returns-clause-follows : goal.returns-clause-follows
 returns-clause-follows c =
     on_ok_weaker c.put.result
-    (follows_put c.args.put.now.items c.push.new.self.items c.args.levels.now c.put.new.self c.args.p 0 c.in_ok-push.ensures.items)
+    (follows_put c.args.put.now.items c.args.levels.now c.put.new.self c.in_ok-push.ensures.items)
     c.put.ensures.level

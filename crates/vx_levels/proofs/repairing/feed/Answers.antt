@@ -1,9 +1,9 @@
-use Rattle.std.proofs.Common.{◌≡◌, ◌++◌, ◌∷◌, [], ◌==◌, true, false, refl, sym, ap, ◌∙◌, arith}
+use Rattle.std.proofs.Common.{◌≡◌, ◌++◌, ◌∷◌, [], ◌==◌, true, false, refl, sym, ◌∙◌, arith}
 use Rattle.std.proofs.lemmas.Bool.{false≢true}
 use Rattle.std.proofs.lemmas.Result.{on_ok_weaker}
 use Rattle.vx_cells.specs.Maps.{cell_on}
 use Rattle.vx_levels.specs.Linked.{level_at}
-use Rattle.vx_levels.specs.Pending.{PendingData, is_pending}
+use Rattle.vx_levels.specs.Pending.{PendingData}
 use Rattle.vx_levels.proofs.Keeping.{not_15, on_ok_both, on_ok_three, own_fed, taken_unsure, now_falling}
 use Rattle.vx_levels.proofs.Mending.{moved_right, fallen_right, risen_right, follows_put}
 use Rattle.vx_power.specs.Signals.{is_fed}
@@ -26,8 +26,7 @@ returns-then-is_fed-clause-right c =
 
 pub returns-then-is_fed-clause-follows : goal.returns-then-is_fed-clause-follows
 returns-then-is_fed-clause-follows c =
-    on_ok_both c.rise.result
-    (λ is put. follows_put c.args.put.now.items c.rise.new.put.items c.args.levels.now c.rise.new.levels c.args.p 15 is put)
+    on_ok_both c.rise.result (follows_put c.args.put.now.items c.args.levels.now c.rise.new.levels)
     c.rise.ensures.put c.rise.ensures.levels
 
 pub returns-then-was-eq-FED-clause-right : goal.returns-then-was-eq-FED-clause-right
@@ -45,8 +44,7 @@ returns-then-was-eq-FED-clause-right c =
 
 pub returns-then-was-eq-FED-clause-follows : goal.returns-then-was-eq-FED-clause-follows
 returns-then-was-eq-FED-clause-follows c =
-    on_ok_both c.fall.result
-    (λ is put. follows_put c.args.put.now.items c.fall.new.put.items c.args.levels.now c.fall.new.levels c.args.p 0 is put)
+    on_ok_both c.fall.result (follows_put c.args.put.now.items c.args.levels.now c.fall.new.levels)
     c.fall.ensures.put c.fall.ensures.levels
 
 pub returns-else-was-eq-FED-clause-right : goal.returns-else-was-eq-FED-clause-right
@@ -60,6 +58,5 @@ returns-else-was-eq-FED-clause-right c =
     let other : (level_at old p == 15) ≡ false = not_15 _ (level_at old p) c.at-was.ensures.value c.if-was-eq-FED.false in
     on_ok_weaker c.add_falling.result
     (λ is. moved_right w old before pending p (taken_unsure pending p) c.requires.right c.requires.linked (λ bare. absurd (false≢true (sym bare ∙ c.requires.dust)))
-    c.add_falling.new.self (ap (λ d. d.unsure) is) (other ∙ sym unfed)
-    (λ q none. now_falling pending p q (sym (ap (λ d. is_pending d q) is) ∙ none)))
+    c.add_falling.new.self (other ∙ sym unfed) (now_falling pending p c.add_falling.new.self is))
     c.add_falling.ensures

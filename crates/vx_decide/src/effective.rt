@@ -92,8 +92,8 @@ fn set_at(regions: &RegionSet, flag: Flag, at: RegionNo) -> (Option<Setting>, Op
     }
 }
 
-// The value of what is set at that number, for those who are to the region `number` what the subject
-// is.
+// The value of what is set at that number, for those who are to the region `number` what the
+// subject is.
 fn heard(asker: &Asker, number: RegionNo, at: RegionNo, setting: Option<Setting>) -> Option<Value>
     ensures { result ≡ heard at.0
         (association asker.now.regions.now (actor_of asker.now.subject.now) number.0) setting }

@@ -78,8 +78,8 @@ impl Chunk {
         self.columns.holds(p)
     }
 
-    /// A subject as one who asks of these regions. Where it is a machine it stands in the chunk, and
-    /// its hosts are the regions of the chunk.
+    /// A subject as one who asks of these regions. Where it is a machine it stands in the chunk,
+    /// and its hosts are the regions of the chunk.
     pub(crate) fn asker<'a>(&'a self, regions: &'a RegionSet, subject: &'a Subject) -> Asker<'a>
         requires of { IsChunk regions.now self.now }
         requires stands { StandsIn self.now.columns (actor_of subject.now) }
@@ -90,9 +90,9 @@ impl Chunk {
         Asker::at(regions, subject, &self.numbers)
     }
 
-    /// The verdict of the policy of the asker's regions at a place in the chunk; these flags are set
-    /// nowhere. It asks the regions near the place, and where those are too many all of the chunk.
-    /// It takes no memory.
+    /// The verdict of the policy of the asker's regions at a place in the chunk; these flags are
+    /// set nowhere. It asks the regions near the place, and where those are too many all of the
+    /// chunk. It takes no memory.
     pub(crate) fn decide(&self, asker: &Asker, unset: &[Flag], action: Action, p: Pos) -> Verdict
         requires of { IsChunk asker.now.regions.now self.now }
         requires within { is_within self.now.columns p ≡ true }

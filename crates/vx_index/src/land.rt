@@ -167,8 +167,8 @@ impl Land {
             .decide_by_few(&self.asker(regions, subject), unset, action, p)
     }
 
-    // The subject as one who asks of these regions. Where it is a machine its hosts are those of the
-    // chunk in which it stands; outside the widest world they are all.
+    // The subject as one who asks of these regions. Where it is a machine its hosts are those of
+    // the chunk in which it stands; outside the widest world they are all.
     fn asker<'a>(&'a self, regions: &'a RegionSet, subject: &'a Subject) -> Asker<'a>
         requires { IsLandOf (shape_at regions.now) self.now }
         ensures regions { result.regions.now ≡ regions.now }

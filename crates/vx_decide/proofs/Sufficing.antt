@@ -6,7 +6,8 @@ use Rattle.std.proofs.lemmas.Map.Views.{any-filter_same}
 use Rattle.vx_geom.specs.declared.pos.Pos.{Pos}
 use Rattle.vx_geom.specs.Outline.{is_in}
 use Rattle.vx_region.specs.Ancestry.{is_above}
-use Rattle.vx_region.specs.Regions.{Entry}
+use Rattle.vx_region.specs.Association.{share_domain, stands_in_domain}
+use Rattle.vx_region.specs.Regions.{Entry, Regions}
 use Rattle.vx_decide.specs.declared.question.Question.{Question}
 use Rattle.vx_decide.specs.declared.question.Question.TheVariants.{OnBuilding}
 use Rattle.vx_decide.specs.Build.{is_home, is_satisfied, is_failing, first_home, first_failing}
@@ -118,3 +119,11 @@ module _ (a : Case) (these : List Entry) (suffice : Suffice a.regions.entries a.
     where
       there : Asks a.place (λ d. is_above a.regions n d.1 && is_home a d)
       there e is = top_there OnBuilding a e (home_parts a e (and_parts (is_above a.regions n e.1) (is_home a e) is).1).1
+
+-- a domain is shared with a region where a machine stands, wherever all of these are looked at
+pub domains_of_all : (rs : Regions) (p : Pos) (these : List Entry) → Suffice rs.entries p these → (n : ℕ)
+    → list_any (λ e. is_in e.1.shape p && share_domain rs e.0 n) these ≡ stands_in_domain rs p n
+unfolding stands_in_domain
+domains_of_all rs p these suffice n =
+    same_any p rs.entries these suffice (λ e. is_in e.1.shape p && share_domain rs e.0 n)
+    (λ e is. (and_parts (is_in e.1.shape p) (share_domain rs e.0 n) is).0)

@@ -15,4 +15,4 @@ case_at rs s p = record { regions = rs; actor = s; place = p }
 
 -- what an inquiry asks
 abbrev pub case_of : Inquiry → Case
-case_of i = case_at i.regions.now (actor_of i.subject.now) i.place
+case_of i = case_at i.asker.now.regions.now (actor_of i.asker.now.subject.now) i.place

@@ -3,6 +3,7 @@ pub mod Build
 pub mod Candidates
 pub mod Cases
 pub mod Effective
+pub mod Hosts
 pub mod Laws
 pub mod Query
 pub mod RegionGroups

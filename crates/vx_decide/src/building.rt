@@ -56,7 +56,7 @@ impl Inquiry<'_> {
         ensures { result ≡ by_passthrough (case_of self.now) }
     {
         let global = RegionNo(0);
-        if is_deny(effective(self.regions, self.subject, Flag::Passthrough, global)) {
+        if is_deny(effective(self.asker, Flag::Passthrough, global)) {
             return Verdict::Deny(Rule::Member { at: global });
         }
         Verdict::Permit(Rule::Default)
@@ -67,7 +67,7 @@ impl Inquiry<'_> {
     fn admits(&self, number: RegionNo) -> bool
         ensures { result ≡ admits (case_of self.now) number.0 }
     {
-        is_insider(self.regions.association(self.subject, number))
+        is_insider(self.asker.association(number))
     }
 }
 
@@ -133,7 +133,7 @@ impl Building<'_> {
     // subject.
     fn is_above_home(&self, number: RegionNo) -> bool
         ensures { result ≡ is_above_one (is_home (case_of self.now.contest.inquiry.now))
-            self.now.contest.inquiry.now.regions.now number.0 }
+            self.now.contest.inquiry.now.asker.now.regions.now number.0 }
     {
         for i in 0..self.contest.inquiry.candidates.count() {
             let (lower, region) = self.contest.inquiry.candidates.nth(i);
@@ -147,10 +147,11 @@ impl Building<'_> {
     // Whether `upper` is an ancestor of the region, and this one is of highest priority and admits
     // the subject.
     fn is_home_below(&self, upper: RegionNo, number: RegionNo, region: &Region) -> bool
-        ensures { result ≡ (is_above self.now.contest.inquiry.now.regions.now upper.0 region.now
+        ensures { result
+            ≡ (is_above self.now.contest.inquiry.now.asker.now.regions.now upper.0 region.now
             && is_home (case_of self.now.contest.inquiry.now) (number.0, region.now)) }
     {
-        self.contest.inquiry.regions.is_above(upper, region) && self.is_home(number, region)
+        self.contest.inquiry.asker.regions.is_above(upper, region) && self.is_home(number, region)
     }
 
     // Whether the region is of highest priority and admits the subject.

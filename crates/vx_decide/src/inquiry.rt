@@ -5,25 +5,25 @@ ghost use Rattle.vx_decide.specs.Candidates.{Suffice};
 ghost use Rattle.vx_decide.specs.Effective.{effective, has_value};
 ghost use Rattle.vx_decide.specs.Unset.{IsUnset};
 
+use crate::asker::Asker;
 use crate::candidates::Candidates;
 use crate::effective::{effective, is_allow};
 use crate::question::Question;
 use crate::value::Value;
 use vx_flag::Flag;
 use vx_geom::Pos;
-use vx_region::{Region, RegionNo, RegionSet, Subject};
+use vx_region::{Region, RegionNo};
 
-/// What a policy is asked: which regions, who acts, and where; and the regions that are looked at,
-/// which hold each that contains the place; and flags that are known to be set nowhere.
+/// What a policy is asked: who asks, of which regions, and where; and the regions that are looked
+/// at, which hold each that contains the place; and flags that are known to be set nowhere.
 #[derive(Drop)]
 pub struct Inquiry<'a> {
-    pub regions: &'a RegionSet,
-    pub subject: &'a Subject,
+    pub asker: &'a Asker<'a>,
     pub place: Pos,
     pub candidates: Candidates<'a>,
     pub unset: &'a [Flag],
-    ghost whole: { Suffice regions.now.entries place candidates },
-    ghost silent: { All (IsUnset regions.now) unset.now },
+    ghost whole: { Suffice asker.now.regions.now.entries place candidates },
+    ghost silent: { All (IsUnset asker.now.regions.now) unset.now },
 }
 
 impl Inquiry<'_> {
@@ -47,26 +47,26 @@ impl Inquiry<'_> {
 
     #[tactic(auto, unfolding(crate::specs::Effective::has_value))]
     fn has_value(&self, flag: Flag, number: RegionNo) -> bool
-        ensures { result ≡ has_value self.now.regions.now (actor_of self.now.subject.now) flag
-            number.0 }
+        ensures { result ≡ has_value self.now.asker.now.regions.now
+            (actor_of self.now.asker.now.subject.now) flag number.0 }
     {
         self.effective(flag, number).is_some()
     }
 
     // The value of the flag at the region of that number, found at once where it is set nowhere.
     fn effective(&self, flag: Flag, number: RegionNo) -> Option<Value>
-        ensures { result ≡ effective self.now.regions.now (actor_of self.now.subject.now) flag
-            number.0 }
+        ensures { result ≡ effective self.now.asker.now.regions.now
+            (actor_of self.now.asker.now.subject.now) flag number.0 }
     {
         if self.is_unset(flag) {
             return None;
         }
-        effective(self.regions, self.subject, flag, number)
+        effective(self.asker, flag, number)
     }
 
     /// Whether the flag is known to be set nowhere.
     pub fn is_unset(&self, flag: Flag) -> bool
-        ensures { result ≡ true → IsUnset self.now.regions.now flag }
+        ensures { result ≡ true → IsUnset self.now.asker.now.regions.now flag }
     {
         for unset in self.unset {
             if *unset == flag {

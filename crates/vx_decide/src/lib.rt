@@ -3,6 +3,7 @@
 
 mod among;
 mod answer;
+mod asker;
 mod building;
 mod candidates;
 mod contest;
@@ -18,6 +19,7 @@ mod value;
 mod verdict;
 
 pub use among::decide_among;
+pub use asker::Asker;
 pub use decide::Decide;
 pub use laws::{
     child_stands_before_parent, decider_contains_the_place, default_only_where_nothing_is_said,

@@ -4,6 +4,7 @@ ghost use Rattle.vx_decide.specs.Cases.{case_of};
 ghost use Rattle.vx_decide.specs.Verdict.{by_flag, decided_by, verdict};
 
 use crate::answer::Answer;
+use crate::asker::Asker;
 use crate::candidates::Candidates;
 use crate::decide::Decide;
 use crate::inquiry::Inquiry;
@@ -43,9 +44,9 @@ impl Decide for Plain<'_> {
     #[tactic(auto, unfolding(crate::specs::Verdict::verdict))]
     fn decide(&self, subject: &Subject, action: Action, p: Pos) -> Verdict {
         self.regions.soundness();
+        let asker = Asker::new(self.regions, subject);
         let inquiry = Inquiry {
-            regions: self.regions,
-            subject,
+            asker: &asker,
             place: p,
             candidates: Candidates::all(self.regions),
             unset: &[],

@@ -45,7 +45,8 @@ impl Inquiry<'_> {
     // The highest priority of a region that counts on the question.
     #[tactic(auto, unfolding(crate::specs::Tops::top))]
     fn top(&self, question: Question) -> Option<i32>
-        ensures { result ≡ top (counts question (case_of self.now)) self.now.regions.now.entries }
+        ensures { result
+            ≡ top (counts question (case_of self.now)) self.now.asker.now.regions.now.entries }
     {
         let mut best = None;
         for i in 0..self.candidates.count() {
@@ -78,7 +79,7 @@ impl Inquiry<'_> {
     pub fn answer_at(&self, flag: Flag, at: RegionNo) -> Option<Answer>
         ensures { result ≡ answer_at (case_of self.now) flag at.0 }
     {
-        let value = effective(self.regions, self.subject, flag, at)?;
+        let value = effective(self.asker, flag, at)?;
         Some(Answer { at, value })
     }
 }
@@ -169,7 +170,7 @@ impl Contest<'_> {
             question,
             ..
         } = self;
-        let value = effective(inquiry.regions, inquiry.subject, question.flag(), number);
+        let value = effective(inquiry.asker, question.flag(), number);
         is_deny(value) && self.is_taken(number, region)
     }
 
@@ -185,7 +186,7 @@ impl Contest<'_> {
     // Whether the region of the number is an ancestor of one that speaks.
     fn is_above_speaking(&self, number: RegionNo) -> bool
         ensures { result ≡ is_above_one (speaks self.now.question (case_of self.now.inquiry.now))
-            self.now.inquiry.now.regions.now number.0 }
+            self.now.inquiry.now.asker.now.regions.now number.0 }
     {
         for i in 0..self.inquiry.candidates.count() {
             let (lower, region) = self.inquiry.candidates.nth(i);
@@ -198,10 +199,10 @@ impl Contest<'_> {
 
     // Whether `upper` is an ancestor of the region, and this one speaks.
     fn speaks_below(&self, upper: RegionNo, number: RegionNo, region: &Region) -> bool
-        ensures { result ≡ (is_above self.now.inquiry.now.regions.now upper.0 region.now
+        ensures { result ≡ (is_above self.now.inquiry.now.asker.now.regions.now upper.0 region.now
             && speaks self.now.question (case_of self.now.inquiry.now) (number.0, region.now)) }
     {
-        self.inquiry.regions.is_above(upper, region) && self.speaks(number, region)
+        self.inquiry.asker.regions.is_above(upper, region) && self.speaks(number, region)
     }
 
     // Whether the region is of highest priority and has a value.
@@ -215,8 +216,7 @@ impl Contest<'_> {
             question,
             ..
         } = self;
-        self.is_top(number, region)
-            && has_value(inquiry.regions, inquiry.subject, question.flag(), number)
+        self.is_top(number, region) && has_value(inquiry.asker, question.flag(), number)
     }
 }
 

@@ -6,19 +6,21 @@ use Rattle.std.proofs.lemmas.List.{take_more, take_all}
 use Rattle.std.proofs.lemmas.List.Elements.{All-nil, All-push, All-weaker, Contains-append_left, Contains-push, Contains-push_cases}
 use Rattle.std.proofs.lemmas.List.Folds.{list_any-append}
 use Rattle.std.proofs.lemmas.List.Quantifiers.{all_pairs_push}
-use Rattle.vx_decide.specs.Candidates.{HoldCandidates}
+use Rattle.vx_decide.specs.Candidates.{AreNumbers, HoldCandidates}
+use Rattle.vx_decide.specs.Hosts.{NameHosts}
 use Rattle.vx_decide.proofs.ByNumber.{above_zero}
 use Rattle.vx_geom.specs.declared.extent.Extent.{Extent}
 use Rattle.vx_geom.specs.declared.pos.Pos.{Pos}
 use Rattle.vx_geom.specs.Extent.{is_within}
 use Rattle.vx_index.specs.declared.chunk.Chunk.{Chunk}
 use Rattle.vx_index.specs.declared.patch.Patch.{Patch}
-use Rattle.vx_index.specs.Chunks.{IsChunk}
+use Rattle.vx_index.specs.Chunks.{IsChunk, StandsIn}
 use Rattle.vx_index.specs.Patches.{has_such, has_number, AreInOrder, AreNumbersOf, IsMet}
 use Rattle.vx_index.specs.Shapes.{Shapes, shape_at}
 use Rattle.vx_index.proofs.Orders.{order_lower}
 use Rattle.vx_region.specs.Forest.{IsForest}
 use Rattle.vx_region.specs.Regions.{RegionData, Regions, region_at}
+use Rattle.vx_region.specs.Subjects.{Actor}
 
 module _ (test : Patch → Bool) where
   -- the patch passes the test and is of that number
@@ -165,17 +167,30 @@ such_weaker f g tells n (d ∷ ds) has = elim (or_cases (is_such f n d) (has_suc
   | inr later ↦ or_right (is_such g n d) (has_such g ds n) (such_weaker f g tells n ds later)
 ]
 
--- so the numbers of the patches of a chunk that have the position are those of all regions that contain it
+-- so the numbers of the patches of a chunk are those of regions
+numbers_named : (rs : Regions) (chunk : Chunk) (test : Patch → Bool) (numbers : List ℕ) → IsChunk rs chunk
+    → AreNumbersOf test chunk.patches.items numbers → AreNumbers rs numbers
+numbers_named rs chunk test numbers is of n there =
+    region_met (region_at rs n) chunk.columns (number_met (shape_at rs) chunk.columns n chunk.patches.items is.patches.met (of.own n there))
+
+-- and those of the patches that have the position are those of all regions that contain it
 pub numbers_hold : (rs : Regions) (p : Pos) (chunk : Chunk) (test : Patch → Bool) (numbers : List ℕ) → IsForest rs → IsChunk rs chunk
     → is_within chunk.columns p ≡ true → ((d : Patch) → is_within d.columns p ≡ true → test d ≡ true)
     → AreNumbersOf test chunk.patches.items numbers → HoldCandidates rs p numbers
 numbers_hold rs p chunk test numbers forest is within tells of = record {
   ascending = of.ascending;
-  named = λ n there.
-      region_met (region_at rs n) chunk.columns
-      (number_met (shape_at rs) chunk.columns n chunk.patches.items is.patches.met (of.own n there));
+  named = numbers_named rs chunk test numbers is of;
   whole = λ n r there inside.
       of.whole n (above_zero rs n r forest.numbered there)
       (such_weaker (λ d. is_within d.columns p) test tells n chunk.patches.items
       (is.patches.told n r.shape p (ap (option_map (λ (d : RegionData). d.shape)) there) within inside));
+}
+
+-- so all numbers of a chunk name the regions in which a machine there stands
+pub numbers_name_hosts : (rs : Regions) (actor : Actor) (chunk : Chunk) → IsForest rs → IsChunk rs chunk → StandsIn chunk.columns actor
+    → NameHosts rs actor chunk.numbers.items
+numbers_name_hosts rs actor chunk forest is stands = record {
+  named = numbers_named rs chunk (λ d. true) chunk.numbers.items is is.numbers;
+  whole = λ q machine.
+      numbers_hold rs q chunk (λ d. true) chunk.numbers.items forest is (stands q machine) (λ d within. refl) is.numbers;
 }

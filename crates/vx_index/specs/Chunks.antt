@@ -1,6 +1,10 @@
--- What a chunk tells of the regions, and what a cache keeps.
-use Rattle.std.specs.Prelude.{true}
+-- What a chunk tells of the regions and of who stands in it, and what a cache keeps.
+use Rattle.std.specs.Prelude.{◌≡◌, true}
+use Rattle.vx_geom.specs.declared.extent.Extent.{Extent}
+use Rattle.vx_geom.specs.declared.pos.Pos.{Pos}
+use Rattle.vx_geom.specs.Extent.{is_within}
 use Rattle.vx_region.specs.Regions.{Regions}
+use Rattle.vx_region.specs.Subjects.{Actor, Machine}
 use Rattle.vx_index.specs.declared.cache.Cache.{Cache}
 use Rattle.vx_index.specs.declared.chunk.Chunk.{Chunk}
 use Rattle.vx_index.specs.Patches.{AreOf, AreNumbersOf}
@@ -15,6 +19,10 @@ pub record TellsOf (shapes : Shapes) (chunk : Chunk) : Type 0 where
 -- the chunk tells of all the regions where they lie in its columns, and of no others
 abbrev pub IsChunk : Regions → Chunk → Type 0
 IsChunk rs = TellsOf (shape_at rs)
+
+-- where the actor is a machine, it stands in these columns
+abbrev pub StandsIn : Extent → Actor → Type 0
+StandsIn columns actor = (q : Pos) → actor ≡ Machine q → is_within columns q ≡ true
 
 -- the verdicts that a cache keeps are those by these regions
 pub record IsCacheOf (rs : Regions) (cache : Cache) : Type 0 where

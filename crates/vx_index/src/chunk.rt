@@ -4,7 +4,7 @@ ghost use Rattle.vx_geom.specs.Extent.{is_within};
 ghost use Rattle.vx_region.specs.Subjects.{actor_of};
 ghost use Rattle.vx_decide.specs.Unset.{IsUnset};
 ghost use Rattle.vx_decide.specs.Verdict.{verdict};
-ghost use Rattle.vx_index.specs.Chunks.{IsChunk, TellsOf};
+ghost use Rattle.vx_index.specs.Chunks.{IsChunk, StandsIn, TellsOf};
 ghost use Rattle.vx_index.specs.Patches.{AreInOrder, AreNumbersOf, AreOf, square};
 ghost use Rattle.vx_index.specs.Shapes.{Shapes, renewed_at};
 ghost use Rattle.vx_index.specs.Squares.{IsSquare};
@@ -13,7 +13,7 @@ use crate::patch::Patch;
 use crate::patches::{add_any, add_patches, square};
 use arrayvec::ArrayVec;
 use std::alloc::{AllocError, Global};
-use vx_decide::{Verdict, decide_among};
+use vx_decide::{Asker, Verdict, decide_among};
 use vx_flag::{Action, Flag};
 use vx_geom::{Extent, Pos, Shape};
 use vx_region::{RegionSet, Subject};
@@ -78,72 +78,77 @@ impl Chunk {
         self.columns.holds(p)
     }
 
-    /// The verdict of the policy of these regions at a place in the chunk; these flags are set
-    /// nowhere. It asks the regions near the place, and where those are too many all of the chunk.
-    /// It takes no memory.
-    pub(crate) fn decide(
-        &self,
-        regions: &RegionSet,
-        unset: &[Flag],
-        subject: &Subject,
-        action: Action,
-        p: Pos,
-    ) -> Verdict
+    /// A subject as one who asks of these regions. Where it is a machine it stands in the chunk,
+    /// and its hosts are the regions of the chunk.
+    pub(crate) fn asker<'a>(&'a self, regions: &'a RegionSet, subject: &'a Subject) -> Asker<'a>
         requires of { IsChunk regions.now self.now }
-        requires within { is_within self.now.columns p ≡ true }
-        requires unset { All (IsUnset regions.now) unset.now }
-        ensures { result ≡ verdict regions.now (actor_of subject.now) action p }
+        requires stands { StandsIn self.now.columns (actor_of subject.now) }
+        ensures regions { result.regions.now ≡ regions.now }
+        ensures subject { result.subject.now ≡ subject.now }
     {
-        let mut here: ArrayVec<u32, MAX_HERE> = ArrayVec::new();
-        if let Some(verdict) = self.decide_near(&mut here, regions, unset, subject, action, p) {
-            return verdict;
-        }
         regions.soundness();
-        decide_among(regions, &self.numbers, unset, subject, action, p)
+        Asker::at(regions, subject, &self.numbers)
     }
 
-    /// The verdict of these regions where few of them are near the place; `None` where more are.
+    /// The verdict of the policy of the asker's regions at a place in the chunk; these flags are
+    /// set nowhere. It asks the regions near the place, and where those are too many all of the
+    /// chunk. It takes no memory.
+    pub(crate) fn decide(&self, asker: &Asker, unset: &[Flag], action: Action, p: Pos) -> Verdict
+        requires of { IsChunk asker.now.regions.now self.now }
+        requires within { is_within self.now.columns p ≡ true }
+        requires unset { All (IsUnset asker.now.regions.now) unset.now }
+        ensures { result
+            ≡ verdict asker.now.regions.now (actor_of asker.now.subject.now) action p }
+    {
+        let mut here: ArrayVec<u32, MAX_HERE> = ArrayVec::new();
+        if let Some(verdict) = self.decide_near(&mut here, asker, unset, action, p) {
+            return verdict;
+        }
+        asker.regions.soundness();
+        decide_among(asker, &self.numbers, unset, action, p)
+    }
+
+    /// The verdict of the asker's regions where few of them are near the place; `None` where more
+    /// are.
     pub(crate) fn decide_by_few(
         &self,
-        regions: &RegionSet,
+        asker: &Asker,
         unset: &[Flag],
-        subject: &Subject,
         action: Action,
         p: Pos,
     ) -> Option<Verdict>
-        requires of { IsChunk regions.now self.now }
+        requires of { IsChunk asker.now.regions.now self.now }
         requires within { is_within self.now.columns p ≡ true }
-        requires unset { All (IsUnset regions.now) unset.now }
-        ensures { IfSome result
-            (λ answer. answer ≡ verdict regions.now (actor_of subject.now) action p) }
+        requires unset { All (IsUnset asker.now.regions.now) unset.now }
+        ensures { IfSome result (λ answer. answer
+            ≡ verdict asker.now.regions.now (actor_of asker.now.subject.now) action p) }
     {
         let mut here: ArrayVec<u32, FEW> = ArrayVec::new();
-        self.decide_near(&mut here, regions, unset, subject, action, p)
+        self.decide_near(&mut here, asker, unset, action, p)
     }
 
-    // The verdict of these regions, asked of those near the place, which are gathered first; `None`
-    // where there is no room for all of those.
+    // The verdict of the asker's regions, asked of those near the place, which are gathered first;
+    // `None` where there is no room for all of those.
     fn decide_near<const ROOM: usize>(
         &self,
         here: &mut ArrayVec<u32, ROOM>,
-        regions: &RegionSet,
+        asker: &Asker,
         unset: &[Flag],
-        subject: &Subject,
         action: Action,
         p: Pos,
     ) -> Option<Verdict>
-        requires of { IsChunk regions.now self.now }
+        requires of { IsChunk asker.now.regions.now self.now }
         requires within { is_within self.now.columns p ≡ true }
         requires empty { here.old.items ≡ [] }
-        requires unset { All (IsUnset regions.now) unset.now }
-        ensures { IfSome result
-            (λ answer. answer ≡ verdict regions.now (actor_of subject.now) action p) }
+        requires unset { All (IsUnset asker.now.regions.now) unset.now }
+        ensures { IfSome result (λ answer. answer
+            ≡ verdict asker.now.regions.now (actor_of asker.now.subject.now) action p) }
     {
         if !self.gather(here, p) {
             return None;
         }
-        regions.soundness();
-        Some(decide_among(regions, here, unset, subject, action, p))
+        asker.regions.soundness();
+        Some(decide_among(asker, here, unset, action, p))
     }
 
     // Adds the numbers of the regions that may contain a position, in order. It stops and answers

@@ -8,7 +8,7 @@ use crate::chunk::Chunk;
 use crate::patches::SIDE;
 use std::alloc::{AllocError, Global};
 use std::marker::Model;
-use vx_decide::{Decide, Plain, Verdict};
+use vx_decide::{Asker, Decide, Plain, Verdict};
 use vx_flag::Action;
 use vx_geom::{Bounds, Pos};
 use vx_region::{RegionSet, Subject};
@@ -61,6 +61,21 @@ impl<'a> Indexed<'a> {
         *self.chunks.allocator()
     }
 
+    // The subject as one who asks of the regions. Where it is a machine its hosts are those of the
+    // chunk in which it stands; outside the world they are all.
+    fn asker<'b>(&'b self, subject: &'b Subject) -> Asker<'b>
+        ensures regions { result.regions.now ≡ self.now }
+        ensures subject { result.subject.now ≡ subject.now }
+    {
+        let Subject::Machine(place) = subject else {
+            return Asker::new(self.regions, subject);
+        };
+        match self.chunk_at(*place) {
+            Some(chunk) => chunk.asker(self.regions, subject),
+            None => Asker::new(self.regions, subject),
+        }
+    }
+
     // The chunk that holds the position.
     fn chunk_at(&self, p: Pos) -> Option<&Chunk>
         ensures of { IfSome result (λ chunk. IsChunk self.now chunk.now) }
@@ -84,7 +99,7 @@ impl Decide for Indexed<'_> {
 
     fn decide(&self, subject: &Subject, action: Action, p: Pos) -> Verdict {
         match self.chunk_at(p) {
-            Some(chunk) => chunk.decide(self.regions, &[], subject, action, p),
+            Some(chunk) => chunk.decide(&self.asker(subject), &[], action, p),
             None => Plain::new(self.regions).decide(subject, action, p),
         }
     }

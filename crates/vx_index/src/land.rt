@@ -14,7 +14,7 @@ use crate::touched::Touched;
 use std::alloc::{AllocError, Global};
 use std::marker::Model;
 use std::sync::Arc;
-use vx_decide::{Decide, Plain, Verdict};
+use vx_decide::{Asker, Decide, Plain, Verdict};
 use vx_flag::{Action, Flag};
 use vx_geom::{Pos, Shape};
 use vx_region::{RegionNo, RegionSet, Subject};
@@ -127,7 +127,9 @@ impl Land {
 
     /// Whether the subject may do this at the place, and the rule that says so, by these regions;
     /// these flags are set nowhere. It costs the regions near the place, or those of its chunk
-    /// where many are near, and takes no memory. Outside the widest world it walks all.
+    /// where many are near, and takes no memory. For each region with domains that a machine is
+    /// asked about it costs a look at the regions of the chunk in which the machine stands. Outside
+    /// the widest world it walks all.
     pub fn decide(
         &self,
         regions: &RegionSet,
@@ -141,7 +143,7 @@ impl Land {
         ensures { result ≡ verdict regions.now (actor_of subject.now) action p }
     {
         match self.chunk_at(p) {
-            Some(chunk) => chunk.decide(regions, unset, subject, action, p),
+            Some(chunk) => chunk.decide(&self.asker(regions, subject), unset, action, p),
             None => Plain::new(regions).decide(subject, action, p),
         }
     }
@@ -162,7 +164,23 @@ impl Land {
             (λ answer. answer ≡ verdict regions.now (actor_of subject.now) action p) }
     {
         self.chunk_at(p)?
-            .decide_by_few(regions, unset, subject, action, p)
+            .decide_by_few(&self.asker(regions, subject), unset, action, p)
+    }
+
+    // The subject as one who asks of these regions. Where it is a machine its hosts are those of
+    // the chunk in which it stands; outside the widest world they are all.
+    fn asker<'a>(&'a self, regions: &'a RegionSet, subject: &'a Subject) -> Asker<'a>
+        requires { IsLandOf (shape_at regions.now) self.now }
+        ensures regions { result.regions.now ≡ regions.now }
+        ensures subject { result.subject.now ≡ subject.now }
+    {
+        let Subject::Machine(place) = subject else {
+            return Asker::new(regions, subject);
+        };
+        match self.chunk_at(*place) {
+            Some(chunk) => chunk.asker(regions, subject),
+            None => Asker::new(regions, subject),
+        }
     }
 
     // The chunk that holds the position, where that lies in the widest world.

@@ -255,8 +255,9 @@ impl RegionSet {
         Association::Stranger
     }
 
+    /// Whether the region of that number itself contains the place.
     #[tactic(auto, unfolding(crate::specs::Association::holds_place))]
-    fn holds_place(&self, place: &Pos, number: RegionNo) -> bool
+    pub fn holds_place(&self, place: &Pos, number: RegionNo) -> bool
         ensures { result ≡ holds_place self.now place.now number.0 }
     {
         match self.get(number) {

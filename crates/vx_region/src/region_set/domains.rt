@@ -41,8 +41,8 @@ impl RegionSet {
         false
     }
 
-    // Whether some domain of the first region is one of the second.
-    fn share_domain(&self, number: RegionNo, other: RegionNo) -> bool
+    /// Whether some domain of the first region is one of the second.
+    pub fn share_domain(&self, number: RegionNo, other: RegionNo) -> bool
         ensures { result ≡ share_domain self.now number.0 other.0 }
     {
         let mut at = number;
@@ -85,9 +85,9 @@ impl RegionSet {
         false
     }
 
-    // Whether the region of that number or one of its ancestors lists a domain.
+    /// Whether the region of that number or one of its ancestors lists a domain.
     #[tactic(auto, unfolding(crate::specs::Domains::lists_domains_along))]
-    fn lists_domains_along(&self, number: RegionNo) -> bool
+    pub fn lists_domains_along(&self, number: RegionNo) -> bool
         ensures { result ≡ lists_domains_along self.now number.0 }
     {
         let mut at = number;

@@ -3,4 +3,4 @@ use Rattle.vx_decide.proofs.among.decide_among.Goals as goal
 
 pub invariant_of-inquiry-clause-whole : goal.invariant_of-inquiry-clause-whole
 invariant_of-inquiry-clause-whole c =
-    candidates_suffice c.args.regions.now c.args.p c.args.numbers.now c.at.result c.soundness.ensures.forest c.requires.numbers c.at.ensures
+    candidates_suffice c.args.asker.now.regions.now c.args.p c.args.numbers.now c.at.result c.soundness.ensures.forest c.requires.numbers c.at.ensures

@@ -9,14 +9,14 @@ use Rattle.vx_decide.proofs.effective.effective.Goals as goal
 pub loop-init : goal.loop-init
 unfolding effective
 loop-init c =
-    let rs = c.args.regions.now in
-    begin (first_of (value_at rs c.args.flag (association rs (actor_of c.args.subject.now) c.args.number.0))) rs _ c.args.number.0
+    let rs = c.args.asker.now.regions.now in
+    begin (first_of (value_at rs c.args.flag (association rs (actor_of c.args.asker.now.subject.now) c.args.number.0))) rs _ c.args.number.0
     (c.from-end.ensures ∙ c.last.ensures)
 
 pub loop-preserved : goal.loop-preserved
 loop-preserved c =
-    let rs = c.args.regions.now in
+    let rs = c.args.asker.now.regions.now in
     let silent = sym (ap is_some c.value_at-value.ensures.value) ∙ sym c.is_some.ensures ∙ c.if-is_some.false in
-    sym (first_next (value_at rs c.args.flag (association rs (actor_of c.args.subject.now) c.args.number.0)) rs _ _ c.loop.at.0 c.in-Some.parent.0
+    sym (first_next (value_at rs c.args.flag (association rs (actor_of c.args.asker.now.subject.now) c.args.number.0)) rs _ _ c.loop.at.0 c.in-Some.parent.0
     (omega arith) silent (sym c.value_at-value.ensures.parent ∙ ap (option_map (λ n. n.0)) c.in-Some.is))
     ∙ c.loop.invariant

@@ -8,5 +8,5 @@ use Rattle.vx_decide.proofs.effective.effective.Given as goal
 -- no region so far answers
 abbrev pub invariant-loop : goal.invariant-loop
 invariant-loop l =
-    first_of (value_at l.regions l.flag (association l.regions (actor_of l.subject) l.number.0)) (chain (l.end - l.counter) l.regions l.at.0)
-    ≡ effective l.regions (actor_of l.subject) l.flag l.number.0
+    first_of (value_at l.asker.regions.now l.flag (association l.asker.regions.now (actor_of l.asker.subject.now) l.number.0)) (chain (l.end - l.counter) l.asker.regions.now l.at.0)
+    ≡ effective l.asker.regions.now (actor_of l.asker.subject.now) l.flag l.number.0

@@ -12,10 +12,10 @@ loop-i-init c = homes_of_all (case_of c.args.self.now.contest.inquiry.now) c.arg
 
 pub returns-then-is_home_below : goal.returns-then-is_home_below
 returns-then-is_home_below c =
-    let below = λ (d : Entry). is_above c.args.self.now.contest.inquiry.now.regions.now c.args.number.0 d.1 && is_home (case_of c.args.self.now.contest.inquiry.now) d in
+    let below = λ (d : Entry). is_above c.args.self.now.contest.inquiry.now.asker.now.regions.now c.args.number.0 d.1 && is_home (case_of c.args.self.now.contest.inquiry.now) d in
     sym (any_here below c.args.self.now.contest.inquiry.now.candidates c.loop-i.i _ c.nth.ensures (sym c.is_home_below.ensures ∙ c.if-is_home_below.true)) ∙ c.loop-i.invariant
 
 pub loop-i-preserved : goal.loop-i-preserved
 loop-i-preserved c =
-    let below = λ (d : Entry). is_above c.args.self.now.contest.inquiry.now.regions.now c.args.number.0 d.1 && is_home (case_of c.args.self.now.contest.inquiry.now) d in
+    let below = λ (d : Entry). is_above c.args.self.now.contest.inquiry.now.asker.now.regions.now c.args.number.0 d.1 && is_home (case_of c.args.self.now.contest.inquiry.now) d in
     sym (any_next below c.args.self.now.contest.inquiry.now.candidates c.loop-i.i _ c.nth.ensures (sym c.is_home_below.ensures ∙ c.if-is_home_below.false)) ∙ c.loop-i.invariant

@@ -9,5 +9,5 @@ use Rattle.vx_decide.proofs.building.Building.is_above_home.Given as goal
 -- whether there is one is still to be seen
 abbrev pub invariant-loop-i : goal.invariant-loop-i
 invariant-loop-i l =
-    list_any (λ d. is_above l.self.contest.inquiry.now.regions.now l.number.0 d.1 && is_home (case_of l.self.contest.inquiry.now) d) (drop l.i l.self.contest.inquiry.now.candidates)
-    ≡ is_above_one (is_home (case_of l.self.contest.inquiry.now)) l.self.contest.inquiry.now.regions.now l.number.0
+    list_any (λ d. is_above l.self.contest.inquiry.now.asker.now.regions.now l.number.0 d.1 && is_home (case_of l.self.contest.inquiry.now) d) (drop l.i l.self.contest.inquiry.now.candidates)
+    ≡ is_above_one (is_home (case_of l.self.contest.inquiry.now)) l.self.contest.inquiry.now.asker.now.regions.now l.number.0

@@ -8,4 +8,4 @@ pub returns-then-is_unset : goal.returns-then-is_unset
 returns-then-is_unset c =
     let inquiry = c.args.self.now.inquiry.now in
     sym (unset_decides c.args.self.now.question (case_of inquiry)
-    (subst (IsUnset inquiry.regions.now) c.flag.ensures (c.is_unset.ensures c.if-is_unset.true)))
+    (subst (IsUnset inquiry.asker.now.regions.now) c.flag.ensures (c.is_unset.ensures c.if-is_unset.true)))

@@ -12,10 +12,10 @@ loop-i-init c = speaking_of_all c.args.self.now.question (case_of c.args.self.no
 
 pub returns-then-speaks_below : goal.returns-then-speaks_below
 returns-then-speaks_below c =
-    let below = λ (d : Entry). is_above c.args.self.now.inquiry.now.regions.now c.args.number.0 d.1 && speaks c.args.self.now.question (case_of c.args.self.now.inquiry.now) d in
+    let below = λ (d : Entry). is_above c.args.self.now.inquiry.now.asker.now.regions.now c.args.number.0 d.1 && speaks c.args.self.now.question (case_of c.args.self.now.inquiry.now) d in
     sym (any_here below c.args.self.now.inquiry.now.candidates c.loop-i.i _ c.nth.ensures (sym c.speaks_below.ensures ∙ c.if-speaks_below.true)) ∙ c.loop-i.invariant
 
 pub loop-i-preserved : goal.loop-i-preserved
 loop-i-preserved c =
-    let below = λ (d : Entry). is_above c.args.self.now.inquiry.now.regions.now c.args.number.0 d.1 && speaks c.args.self.now.question (case_of c.args.self.now.inquiry.now) d in
+    let below = λ (d : Entry). is_above c.args.self.now.inquiry.now.asker.now.regions.now c.args.number.0 d.1 && speaks c.args.self.now.question (case_of c.args.self.now.inquiry.now) d in
     sym (any_next below c.args.self.now.inquiry.now.candidates c.loop-i.i _ c.nth.ensures (sym c.speaks_below.ensures ∙ c.if-speaks_below.false)) ∙ c.loop-i.invariant

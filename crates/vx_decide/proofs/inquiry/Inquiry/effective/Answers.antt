@@ -5,5 +5,5 @@ use Rattle.vx_decide.proofs.inquiry.Inquiry.effective.Goals as goal
 
 pub returns-then-is_unset : goal.returns-then-is_unset
 returns-then-is_unset c =
-    sym (unset_has_none c.args.self.now.regions.now (actor_of c.args.self.now.subject.now) c.args.flag c.args.number.0
+    sym (unset_has_none c.args.self.now.asker.now.regions.now (actor_of c.args.self.now.asker.now.subject.now) c.args.flag c.args.number.0
     (c.is_unset.ensures c.if-is_unset.true))

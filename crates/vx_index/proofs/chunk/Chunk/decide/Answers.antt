@@ -6,6 +6,6 @@ use Rattle.vx_index.proofs.chunk.Chunk.decide.Goals as goal
 -- all regions of the chunk
 pub decide_among-requires-clause-numbers : goal.decide_among-requires-clause-numbers
 decide_among-requires-clause-numbers c =
-    subst (HoldCandidates c.args.regions.now c.args.p) (sym c.deref.ensures.value)
-    (numbers_hold c.args.regions.now c.args.p c.args.self.now (λ d. true) c.args.self.now.numbers.items c.soundness.ensures.forest c.requires.of c.requires.within
+    subst (HoldCandidates c.args.asker.now.regions.now c.args.p) (sym c.deref.ensures.value)
+    (numbers_hold c.args.asker.now.regions.now c.args.p c.args.self.now (λ d. true) c.args.self.now.numbers.items c.soundness.ensures.forest c.requires.of c.requires.within
     (λ d within. refl) c.requires.of.numbers)

@@ -51,10 +51,10 @@ impl Start {
             return Ok(Start::AtRest(watch));
         }
         let Watch { waking, mut levels } = watch;
-        match unsettled(alloc, map, &waking, written, &mut levels)? {
-            Some(look) => Ok(Start::Awake(levels, look.places)),
-            None => Start::unknown(alloc, map),
-        }
+        let Some(look) = unsettled(alloc, map, &waking, written, &mut levels)? else {
+            return Start::unknown(alloc, map);
+        };
+        Ok(Start::Awake(levels, look.places))
     }
 
     // How it begins where nothing is known of the map.

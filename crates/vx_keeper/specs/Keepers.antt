@@ -105,4 +105,4 @@ pub record IsWorked (policy : Regions) (m : MapData) (puts : List (Pos × Cell))
   pub after : stepped policy m ≡ with_cells_on m puts
   pub told : fates ≡ fates_on policy m
   pub chests : All (λ (put : Pos × Cell). is_chest put.1 ≡ false) puts
-  pub watch : IsWatch (stepped policy m) watch
+  pub kept : IsWatch (stepped policy m) watch

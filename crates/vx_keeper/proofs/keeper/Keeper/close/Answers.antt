@@ -193,7 +193,7 @@ pub invariant_of-self : goal.invariant_of-self
 invariant_of-self g c = (
   keeper_is g c,
   c.mark.ensures,
-  subst (λ m. IsWatch m c.args.ready.watch) (sym (map_is g c)) c.requires.ready.worked.watch,
+  subst (λ m. IsWatch m c.args.ready.watch) (sym (map_is g c)) c.requires.ready.worked.kept,
 )
 
 pub returns-clause-counts : goal.returns-clause-counts

@@ -26,5 +26,5 @@ plan_by-requires g c =
     (subst (All (IsSpared p)) c.deref-2.ensures.value (c.in_ok-written.ensures p (ap (λ ps. has ps p) (sym places) ∙ none))) in
     subst (λ m. IfSome c.args.watch (λ watch. IsWatch m (with_written watch c.as_slice.result.now))) (sym map_is)
     (IfSome_then c.args.watch {P = IsWatch (map_before i.bounds ss)} {Q = λ watch. IsWatch now (with_written watch c.as_slice.result.now)}
-    (subst (λ (p : PlayData). IfSome c.args.watch (IsWatch (map_before p.sizes p.sectors))) c.self.view_is c.requires)
+    (subst (λ (p : PlayData). IfSome c.args.watch (IsWatch (map_before p.sizes p.sectors))) (sym c.self.view_is) c.requires)
     (λ watch is. writes_keep_watch (map_before i.bounds ss) now watch c.as_slice.result.now is spared))

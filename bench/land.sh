@@ -4,11 +4,13 @@
 # A WORKLOAD is one of these; without one all are run:
 #   crowded   100,000 commands of three players among 4,000 regions of 4 to 40 columns a side, about 30 at a place
 #   plots     2,300 pistons under dust with clocks, over 100 such regions in 36 sectors, 200 ticks
+#   works     as plots, among 1,000 regions of which each has one of fifty domains
 #   edits     150,000 lines: edits of every kind, a command in ten, a tick in a hundred, among 4,000 regions
 #   idle      20,000 ticks of 64 sectors with 100,000 blocks
 #   commands  400,000 commands without regions, among 50, and a fifth of them for chests; 100,000 among 500
-#   sweeps    five, each with a row a point: regions at a place, regions over pistons, edits between ticks, sectors, dust that is
-#             awake; or one of them: place, pistons, edits_a_tick, sectors, awake
+#   sweeps    seven, each with a row a point: regions at a place, regions over pistons, edits between ticks, sectors, dust that
+#             is awake, rings of dust whose source goes out, pistons; or one of them: place, pistons, edits_a_tick, sectors,
+#             awake, loops, machines
 # Options:
 #   --server  the program to measure; without it the built server of this repository
 #   --plain   the program beside it; without it bench/plain.rs is compiled (rustc -O)
@@ -30,22 +32,22 @@ old=
 plots=
 workloads=
 sweeps=
-all_sweeps="place pistons edits_a_tick sectors awake"
+all_sweeps="place pistons edits_a_tick sectors awake loops machines"
 while [ $# -gt 0 ]; do
   case $1 in
     --server) server=$2; shift ;;
     --plain) plain=$2; shift ;;
     --old) old=$2; shift ;;
     --plots) plots=$2; shift ;;
-    crowded | plots | edits | idle | commands) workloads="$workloads $1" ;;
+    crowded | plots | works | edits | idle | commands) workloads="$workloads $1" ;;
     sweeps) sweeps=$all_sweeps ;;
-    place | pistons | edits_a_tick | sectors | awake) sweeps="$sweeps $1" ;;
+    place | pistons | edits_a_tick | sectors | awake | loops | machines) sweeps="$sweeps $1" ;;
     *) echo "no such workload or option: $1" >&2; exit 2 ;;
   esac
   shift
 done
 if [ -z "$workloads$sweeps" ]; then
-  workloads="crowded plots edits idle commands"
+  workloads="crowded plots works edits idle commands"
   sweeps=$all_sweeps
 fi
 
@@ -130,6 +132,8 @@ sweep_named() {
     edits_a_tick) sweep edits sweep_edits "edits before each of 2,000 ticks, 4,000 regions" 0 1 5 20 100 ;;
     sectors) sweep sectors sweep_sectors "sectors, 40,000 idle ticks" 1 4 16 36 64 ;;
     awake) sweep awake sweep_awake "% of 4,800 dust awake, 1,000 ticks" 0.1 0.3 1 3 10 30 100 ;;
+    loops) sweep loops sweep_loops "of 961 rings of 24 dust run, 200 ticks" 1 4 16 64 256 961 ;;
+    machines) sweep machines sweep_machines "pistons, 200 ticks" 10 100 1000 4000 12000 ;;
   esac
 }
 

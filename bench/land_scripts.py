@@ -101,30 +101,30 @@ def chest_commands(r, count, side, chests):
             yield f"as {who} open {at}"
 
 
-def clock(x, z, delay, is_running=True):
-    """A torch, three dust and a repeater in a ring over columns x .. x + 1, z .. z + 2. What stands at x + 2, z + 1 is
-    beside its dust. Without the torch it stands still."""
-    yield f"set {x} 1 {z} stone"
+def clock(x, z, delay, is_running=True, y=1):
+    """A torch, three dust and a repeater in a ring over columns x .. x + 1, z .. z + 2 of a layer. What stands at x + 2,
+    z + 1 is beside its dust. Without the torch it stands still."""
+    yield f"set {x} {y} {z} stone"
     if is_running:
-        yield f"set {x + 1} 1 {z} torch:west"
-    for at in (f"{x + 1} 1 {z + 1}", f"{x + 1} 1 {z + 2}", f"{x} 1 {z + 2}"):
+        yield f"set {x + 1} {y} {z} torch:west"
+    for at in (f"{x + 1} {y} {z + 1}", f"{x + 1} {y} {z + 2}", f"{x} {y} {z + 2}"):
         yield f"set {at} dust"
-    yield f"set {x} 1 {z + 1} repeater:north:{delay}"
+    yield f"set {x} {y} {z + 1} repeater:north:{delay}"
 
 
-def clocked_pistons(r, count, side):
+def clocked_pistons(r, count, side, layers=(0,)):
     """By tens under dust that a clock drives, every other to the north, with a stone before each. A tile has 16
-    by 6 columns."""
-    tiles = [(16 * k, 6 * j) for j in range(side // 6) for k in range(side // 16)]
+    by 6 columns, and stands on one of these layers."""
+    tiles = [(16 * k, y, 6 * j) for y in layers for j in range(side // 6) for k in range(side // 16)]
     r.shuffle(tiles)
     for n in range(0, count, 10):
-        x, z = tiles[n // 10]
-        yield from clock(x, z + 1, 1 + n // 10 % 4)
+        x, y, z = tiles[n // 10]
+        yield from clock(x, z + 1, 1 + n // 10 % 4, y=y + 1)
         for k in range(10):
             at, turn = x + 2 + k, k % 2
-            yield f"set {at} 1 {z + 2} dust"
-            yield f"set {at} 0 {z + 2} {r.choice(['piston', 'sticky'])}:{'south' if turn else 'north'}"
-            yield f"set {at} 0 {z + 3 if turn else z + 1} stone"
+            yield f"set {at} {y + 1} {z + 2} dust"
+            yield f"set {at} {y} {z + 2} {r.choice(['piston', 'sticky'])}:{'south' if turn else 'north'}"
+            yield f"set {at} {y} {z + 3 if turn else z + 1} stone"
 
 
 def ticks(count):
@@ -194,6 +194,12 @@ def crowded(r):
 def plots(r):
     head = world(6) + list(clocked_pistons(r, 2300, 192)) + list(regions(r, 100, 192)) + ["tick"]
     return head, ticks(200)
+
+
+def works(r):
+    """As plots, among 1,000 regions of which each is one of fifty works, by a domain."""
+    head = world(6) + list(clocked_pistons(r, 2300, 192)) + list(regions(r, 1000, 192))
+    return head + [f"region domain r{n} add works{n % 50}" for n in range(1000)] + ["tick"], ticks(200)
 
 
 def edits(r):
@@ -272,9 +278,27 @@ def sweep_awake(r, share):
     return head + ["tick"], ticks(1000)
 
 
+def sweep_loops(r, count):
+    """961 rings of 24 dust, each beside a clock that feeds it and goes out, of which so many run, and 200 ticks."""
+    tiles = [(12 * k, y, 8 * j) for y in (0, 4, 8) for j in range(32) for k in range(21)]
+    r.shuffle(tiles)
+    head = world(8)
+    for n, (x, y, z) in enumerate(tiles[:961]):
+        head += clock(x, z, 1, n < count, y + 1)
+        ring = [(x + 3 + k, z + j) for k in range(7) for j in range(7) if {k, j} & {0, 6}]
+        head += [f"set {at} {y + 1} {to} dust" for at, to in [(x + 2, z + 1), *ring]]
+    return head + ["tick"], ticks(200)
+
+
+def sweep_machines(r, count):
+    """So many pistons, and 200 ticks."""
+    return world(8) + list(clocked_pistons(r, count, 256, layers=(0, 8))) + ["tick"], ticks(200)
+
+
 SCRIPTS = {
     "crowded": crowded,
     "plots": plots,
+    "works": works,
     "edits": edits,
     "idle": idle,
     "no_region": no_region,
@@ -286,6 +310,8 @@ SCRIPTS = {
     "sweep_edits": sweep_edits,
     "sweep_sectors": sweep_sectors,
     "sweep_awake": sweep_awake,
+    "sweep_loops": sweep_loops,
+    "sweep_machines": sweep_machines,
 }
 
 

@@ -1,15 +1,12 @@
 //! A tick of a map that is only read, on several threads.
 ghost use Rattle.std.specs.Prelude.{◌≡◌, ◌<◌, ◌≤◌, false, IfOk, IfSome};
 ghost use Rattle.std.specs.List.{All};
-ghost use Rattle.vx_cells.specs.Maps.{cell_on};
 ghost use Rattle.vx_cells.specs.SectorCells.{is_chest};
 ghost use Rattle.vx_cells.specs.Wholes.{with_cells_on};
 ghost use Rattle.vx_geom.specs.Sizes.{sector_count};
-ghost use Rattle.vx_levels.specs.Linked.{level_at};
-ghost use Rattle.vx_levels.specs.Repairs.{IsRight};
 ghost use Rattle.vx_power.specs.Levels.{AreAllLevels};
 ghost use Rattle.vx_still.specs.Watching.{with_written, IsWatch};
-ghost use Rattle.vx_tick.specs.Leaving.{IsPlanned};
+ghost use Rattle.vx_tick.specs.Leaving.{IsEnded, IsPlanned};
 ghost use Rattle.vx_tick.specs.Pieces.{restless_up_to, RestsOutside};
 ghost use Rattle.vx_tick.specs.Starting.{IsStart};
 ghost use Rattle.vx_tick.specs.Ticks.{changed_up_to, fates_on, stepped, AreMoves};
@@ -22,11 +19,11 @@ use std::alloc::{AllocError, Global};
 use std::thread::Threads;
 use vx_cells::Frozen;
 use vx_geom::Pos;
-use vx_levels::LinkedLevels;
 use vx_places::Places;
 use vx_policy::Version;
-use vx_still::Watch;
-use vx_tick::{Found, Plan, Start, finished, undisturbed};
+use vx_power::Leveled;
+use vx_still::{Waking, Watch};
+use vx_tick::{Found, Plan, Start, finished, kept, undisturbed};
 
 // A further thread pays where it has so many components to look at, or so many moves to judge.
 const COMPONENTS_EACH: usize = 2_048;
@@ -73,28 +70,33 @@ fn started<R: Threads + Sync, G: Gate + Sync>(
     ensures { IfOk result (λ done. IsPlanned version.now.policy map.now done) }
 {
     match start {
-        Start::AtRest(watch) => undisturbed(alloc, map, version, watch),
+        Start::AtRest(levels) => undisturbed(alloc, map, version, levels),
         Start::Awake(levels, places) => {
-            by_levels(workers, alloc, map, version, levels, places.as_ref())
+            let done = by_levels(workers, alloc, map, version, &levels, places.as_ref())?;
+            Ok(kept(map, version, done, Some(levels), 0))
+        }
+        Start::Anew(levels, calm) => {
+            let done = by_levels(workers, alloc, map, version, &levels, None)?;
+            Ok(kept(map, version, done, None, calm))
         }
     }
 }
 
-// What a tick does by the levels and links of all dust: at the places outside which the map rests,
-// where these are told, and else at all components.
-fn by_levels<R: Threads + Sync, G: Gate + Sync>(
+// What a tick does by the levels of all dust: at the places outside which the map rests, where these
+// are told, and else at all components.
+fn by_levels<R: Threads + Sync, G: Gate + Sync, L: Leveled + Sync>(
     workers: &Workers<'_, R, G>,
     alloc: Global,
     map: &Frozen<'_>,
     version: &Version,
-    levels: LinkedLevels,
+    levels: &L,
     places: Option<&Places>,
-) -> Result<(Plan, Watch), AllocError>
-    requires right { IsRight (cell_on map.now) levels }
+) -> Result<(Plan, Waking), AllocError>
+    requires levels { AreAllLevels map.now (L.level levels.now) }
     requires rests { IfSome places (λ places. RestsOutside map.now places.now) }
-    ensures { IfOk result (λ done. IsPlanned version.now.policy map.now done) }
+    ensures { IfOk result (λ done. IsEnded version.now.policy map.now done) }
 {
-    let found = found(workers, alloc, map, &levels, places)?;
+    let found = found(workers, alloc, map, levels, places)?;
     let moves = found.moves.as_slice();
     let judging = workers.at_most(1 + moves.len() / MOVES_EACH);
     let fates = fates_in_parts(&judging, alloc, map.bounds(), version, moves)?;
@@ -103,14 +105,14 @@ fn by_levels<R: Threads + Sync, G: Gate + Sync>(
 
 // What a tick finds on a map, by the levels of all its dust: at the places outside which the map
 // rests, where these are told, and else at all components.
-fn found<R: Threads + Sync, G: Gate + Sync>(
+fn found<R: Threads + Sync, G: Gate + Sync, L: Leveled + Sync>(
     workers: &Workers<'_, R, G>,
     alloc: Global,
     map: &Frozen<'_>,
-    levels: &LinkedLevels,
+    levels: &L,
     places: Option<&Places>,
 ) -> Result<Found, AllocError>
-    requires levels { AreAllLevels map.now (level_at levels.now) }
+    requires levels { AreAllLevels map.now (L.level levels.now) }
     requires rests { IfSome places (λ places. RestsOutside map.now places.now) }
     ensures changes { IfOk result (λ found.
         found.changes.items ≡ changed_up_to map.now (sector_count map.now.sizes)) }

@@ -1,7 +1,8 @@
 -- What a watch tells: that it stays one, and that all rests where it tells of nothing.
-use Rattle.std.proofs.Common.{◌≡◌, ℕ, ◌≤◌, ◌%◌, true, false, inl, inr, List, [], ◌∷◌, refl, sym, ◌∙◌, subst, arith}
+use Rattle.std.proofs.Common.{◌≡◌, ℕ, ◌≤◌, ◌%◌, true, false, inl, inr, List, [], ◌∷◌, ◌++◌, Some, IfSome, refl, sym, ◌∙◌, subst, arith}
 use Rattle.std.specs.List.{list_any}
 use Rattle.std.proofs.lemmas.Bool.{cases_Bool}
+use Rattle.std.proofs.lemmas.Option.{IfSome_then}
 use Rattle.vx_geom.specs.declared.pos.Pos.{Pos}
 use Rattle.vx_block.specs.Components.{is_dust}
 use Rattle.vx_cells.specs.Maps.{MapData, cell_on}
@@ -13,6 +14,7 @@ use Rattle.vx_part.specs.Laws.{reads}
 use Rattle.vx_power.specs.Laws.{dust_level}
 use Rattle.vx_power.specs.Levels.{AreAllLevels, LevelTable, has, level_in}
 use Rattle.vx_power.specs.Local.{sees}
+use Rattle.vx_still.specs.Mirrored.{IsMirror}
 use Rattle.vx_still.specs.Stillness.{stored_on}
 use Rattle.vx_still.specs.Watching.{IsWatch, WatchData, WritesKeepWatch, TicksLeaveWatch}
 use Rattle.vx_still.proofs.Heeding.{no_store, no_dust_level}
@@ -23,13 +25,17 @@ use Rattle.vx_still.specs.Waking.{Rests, WakingData}
 pub writes_keep_watch : WritesKeepWatch
 writes_keep_watch m next watch written is kept = record {
   still = writes_keep_still m next watch.waking written is.still kept;
-  mirror = writes_keep_mirror m next watch.waking.changed written watch.levels is.mirror kept;
+  mirror =
+      IfSome_then watch.levels {P = IsMirror m watch.waking.changed} {Q = IsMirror next (watch.waking.changed ++ written)} is.mirror
+      (λ table mirror. writes_keep_mirror m next watch.waking.changed written table mirror kept);
 }
 
 pub ticks_leave_watch : TicksLeaveWatch
 ticks_leave_watch m next watch left right = record {
   still = ticks_leave_still m next watch.waking.changed watch.waking.besides left;
-  mirror = ticks_leave_mirror m next watch.waking.changed watch.waking.besides watch.levels left right;
+  mirror =
+      IfSome_then watch.levels {P = IsRight (cell_on m)} {Q = IsMirror next watch.waking.changed} right
+      (λ table right. ticks_leave_mirror m next watch.waking.changed watch.waking.besides table left right);
 }
 
 -- a table that is right has the levels of the map at every position
@@ -51,7 +57,7 @@ abbrev nowhere : WakingData
 nowhere = record { changed = []; besides = [] }
 
 -- where a watch tells of nothing all rests
-module _ (m : MapData) (table : LevelTable) (is : IsWatch m (record { waking = nowhere; levels = table })) where
+module _ (m : MapData) (table : LevelTable) (is : IsWatch m (record { waking = nowhere; levels = Some table })) where
   agrees : (q : Pos) → is_dust (cell_on m q) ≡ true
       → (level_at table q ≤ 15) × IsConsistent (cell_on m) (level_at table) q
   agrees q dust = (
@@ -65,9 +71,5 @@ module _ (m : MapData) (table : LevelTable) (is : IsWatch m (record { waking = n
     | inr bare ↦ no_store (cell_on m q) bare ∙ sym (no_dust_level (cell_on m) q bare)
   ]
 
-  pub all_still : (p : Pos) → Rests m p
-  all_still p = still_rests m nowhere p is.still refl (none_of_none (reads p)) (λ q among. stored q)
-
-pub all_rests : (m : MapData) (watch : WatchData) → watch.waking ≡ nowhere → IsWatch m watch → (p : Pos) → Rests m p
-all_rests m watch none is =
-    all_still m watch.levels (subst (λ w. IsWatch m (record { waking = w; levels = watch.levels })) none is)
+  pub all_rests : (p : Pos) → Rests m p
+  all_rests p = still_rests m nowhere p is.still refl (none_of_none (reads p)) (λ q among. stored q)

@@ -1,5 +1,5 @@
 -- What is kept of a map between two ticks: where it is not still, and the levels of its dust.
-use Rattle.std.specs.Prelude.{◌≡◌, false, List, IfSome}
+use Rattle.std.specs.Prelude.{◌≡◌, false, List, Option, IfSome}
 use Rattle.vx_geom.specs.declared.pos.Pos.{Pos}
 use Rattle.vx_cells.specs.Maps.{MapData, cell_on}
 use Rattle.vx_levels.specs.Repairs.{IsRight}
@@ -13,12 +13,12 @@ use Rattle.vx_still.specs.Waking.{IsSettled, WakingData}
 
 pub record WatchData : Type 0 where
   pub waking : WakingData
-  pub levels : LevelTable
+  pub levels : Option LevelTable
 
--- the map is still but where that tells, and the table mirrors what its dust stores
+-- the map is still but where that tells, and a table mirrors what its dust stores
 pub record IsWatch (m : MapData) (watch : WatchData) : Type 0 where
   pub still : IsStill m watch.waking
-  pub mirror : IsMirror m watch.waking.changed watch.levels
+  pub mirror : IfSome watch.levels (IsMirror m watch.waking.changed)
 
 -- with more changed positions
 abbrev pub with_written : WatchData → List Pos → WatchData
@@ -30,11 +30,11 @@ WritesKeepWatch = (m next : MapData) (watch : WatchData) (written : List Pos) �
     → ((p : Pos) → has written p ≡ false → cell_on next p ≡ cell_on m p)
     → IsWatch next (with_written watch written)
 
--- after a tick, where the table had the levels and links of the map before it
+-- after a tick, where a table had the levels and links of the map before it
 abbrev pub TicksLeaveWatch : Type 0
 TicksLeaveWatch = (m next : MapData) (watch : WatchData)
-    → LeavesStill m next watch.waking.changed watch.waking.besides → IsRight (cell_on m) watch.levels
-    → IsWatch next watch
+    → LeavesStill m next watch.waking.changed watch.waking.besides
+    → IfSome watch.levels (IsRight (cell_on m)) → IsWatch next watch
 
 -- all rests outside the places that are told
 abbrev pub IsLook : MapData → Look → Type 0

@@ -20,11 +20,8 @@ use vx_places::Places;
 // A part reads cells that at most so many steps lead to.
 const CELLS_OFF: u8 = 4;
 
-// What is near a changed cell costs as much to find as a look at so many components.
-const PER_CHANGE: usize = 8;
-
-// And what heeds dust that got another level, as much as a look at so many.
-const PER_LEVEL: usize = 2;
+// What heeds dust that got another level costs as much to find as a look at so many components.
+const PER_LEVEL: usize = 4;
 
 // A repair may take so many turns for each component, and for a map at least so many; one that takes
 // more is given up.
@@ -57,7 +54,7 @@ pub fn unsettled(
     let Some(put) = repair(alloc, map, levels, unsure, turns_for(components))? else {
         return Ok(None);
     };
-    if is_much(components, changed.len(), put.len()) {
+    if components < put.len().saturating_mul(PER_LEVEL) {
         return Ok(Some(Look { places: None }));
     }
     let mut places = Places::new(alloc, map.bounds())?;
@@ -73,11 +70,4 @@ pub fn unsettled(
 // How many turns a repair may take on a map with so many components.
 fn turns_for(components: usize) -> usize {
     components.saturating_mul(TURNS_EACH).saturating_add(TURNS)
-}
-
-// Whether to find what so many changed cells and levels wake costs more than a look at all
-// components.
-fn is_much(components: usize, changed: usize, levels: usize) -> bool {
-    let near = changed.saturating_mul(PER_CHANGE);
-    components < near.saturating_add(levels.saturating_mul(PER_LEVEL))
 }

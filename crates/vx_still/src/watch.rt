@@ -1,15 +1,16 @@
-ghost use Rattle.std.specs.Prelude.{◌≡◌, true, []};
-
 use crate::waking::Waking;
 use std::marker::Model;
 use vx_levels::LinkedLevels;
 
 /// What is kept of a map between two ticks: where it is not still, and the levels and links of its
-/// dust.
+/// dust, unless too much changed to keep them.
 #[derive(Drop)]
 pub struct Watch {
     pub waking: Waking,
-    pub levels: LinkedLevels,
+    pub levels: Option<LinkedLevels>,
+    /// For so many ticks on end little has changed, if no levels are kept. No clause says so: only
+    /// costs rest on it.
+    pub calm: u32,
 }
 
 impl Model for Watch {
@@ -18,13 +19,4 @@ impl Model for Watch {
     ghost Value = { WatchData };
 
     ghost view = { λ a. record { waking = a.waking; levels = a.levels } };
-}
-
-impl Watch {
-    /// Whether it tells of no place where the map is not still.
-    pub fn is_still(&self) -> bool
-        ensures { result ≡ true → self.now.waking ≡ record { changed = []; besides = [] } }
-    {
-        self.waking.is_nothing()
-    }
 }

@@ -1,5 +1,5 @@
 -- A tick of a map on which everything rests does nothing.
-use Rattle.std.proofs.Common.{◌≡◌, ℕ, zero, suc, false, List, [], ◌∷◌, ◌++◌, length, refl, sym, ap, ◌∙◌, subst, arith}
+use Rattle.std.proofs.Common.{◌≡◌, ℕ, zero, suc, false, List, [], ◌∷◌, ◌++◌, length, Some, refl, sym, ap, ◌∙◌, subst, arith}
 use Rattle.std.specs.List.{filter}
 use Rattle.std.proofs.lemmas.List.Sorted.{IsPermutation-refl}
 use Rattle.vx_geom.specs.declared.pos.Pos.{Pos}
@@ -18,8 +18,11 @@ use Rattle.vx_tick.specs.Ticks.{asked, asked_up_to, changed_up_to, stepped, AreM
 use Rattle.vx_tick.proofs.Asking.{kept_ask}
 use Rattle.vx_tick.proofs.Plans.{all_puts, is_worked, no_chests}
 use Rattle.vx_still.specs.Waking.{with_changed}
-use Rattle.vx_still.specs.Waking.{Rests}
-use Rattle.vx_still.specs.Watching.{with_written, IsWatch, WatchData}
+use Rattle.vx_power.specs.Levels.{LevelTable}
+use Rattle.vx_still.specs.Mirrored.{IsMirror}
+use Rattle.vx_still.specs.Stillness.{IsStill}
+use Rattle.vx_still.specs.Waking.{with_changed, Rests, WakingData}
+use Rattle.vx_still.specs.Watching.{IsWatch, WatchData}
 use Rattle.vx_still.proofs.Watching.{all_rests}
 
 none_kept : (ps : List Pos) → filter (λ p. false) ps ≡ []
@@ -66,27 +69,31 @@ none_listed : (ps : List Pos) → length ps ≡ 0 → ps ≡ []
 none_listed [] none = refl
 none_listed (p ∷ ps) none = absurd (omega (arith, none))
 
--- where nothing was written, what is kept is kept
-pub unwritten : (m : MapData) (watch : WatchData) (written : List Pos)
-    → watch.waking ≡ record { changed = []; besides = [] } → length written ≡ 0
-    → IsWatch m (with_written watch written) → IsWatch m watch
-unwritten m watch written none empty is =
-    subst (λ w. IsWatch m (record { waking = w; levels = watch.levels })) (sym none)
-    (subst (λ w. IsWatch m (record { waking = w; levels = watch.levels }))
-    (λ i. with_changed (none i) (none_listed written empty i)) is)
+-- where nothing is told and nothing was written, the table is kept as it is
+pub unwritten : (m : MapData) (waking : WakingData) (written : List Pos) (table : LevelTable)
+    → waking ≡ record { changed = []; besides = [] } → length written ≡ 0
+    → IsStill m (with_changed waking written) → IsMirror m (with_changed waking written).changed table
+    → IsWatch m (record { waking = record { changed = []; besides = [] }; levels = Some table })
+unwritten m waking written table none empty still mirror =
+    let all = λ i. with_changed (none i) (none_listed written empty i) in
+    record {
+      still = subst (IsStill m) all still;
+      mirror = subst (λ (w : WakingData). IsMirror m w.changed table) all mirror;
+    }
 
 -- so a plan of nothing, after which it is still kept, tells the tick
-pub nothing_planned : (m : MapData) (watch : WatchData)
-    → watch.waking ≡ record { changed = []; besides = [] } → IsWatch m watch → (rs : Regions) → IsFilled m
+pub nothing_planned : (m : MapData) (table : LevelTable)
+    → IsWatch m (record { waking = record { changed = []; besides = [] }; levels = Some table }) → (rs : Regions) → IsFilled m
     → (done : Plan × WatchData) → done.0.puts.items ≡ [] → done.0.fates.items ≡ []
-    → done.1 ≡ watch → IsPlanned rs m done
-nothing_planned m watch none is rs filled done puts fates kept =
-    let rests = all_rests m watch none is in
+    → done.1 ≡ record { waking = record { changed = []; besides = [] }; levels = Some table } → IsPlanned rs m done
+nothing_planned m table is rs filled done puts fates kept =
+    let rests = all_rests m table is in
     record {
       puts = all_puts rs m [] [] done.0.puts.items [] (nothing_worked m rests rs filled) puts;
       fates = fates ∙ (nothing_worked m rests rs filled).told;
       chests = no_chests rs m [] [] done.0.puts.items [] (nothing_worked m rests rs filled) puts;
       watch =
           subst (IsWatch (stepped rs m)) (sym kept)
-          (subst (λ n. IsWatch n watch) (sym (nothing_stepped m rests rs filled)) is);
+          (subst (λ n. IsWatch n (record { waking = record { changed = []; besides = [] }; levels = Some table }))
+          (sym (nothing_stepped m rests rs filled)) is);
     }

@@ -11,7 +11,7 @@ use Rattle.vx_cells.specs.Maps.{MapData, cell_on}
 use Rattle.vx_cells.specs.Wholes.{with_cells_on}
 use Rattle.vx_cells.proofs.Putting.{cell_of_block}
 use Rattle.vx_power.specs.Laws.{dust_level}
-use Rattle.vx_power.specs.Levels.{LevelTable, has, same_place}
+use Rattle.vx_power.specs.Levels.{has, same_place}
 use Rattle.vx_power.specs.Local.{shown}
 use Rattle.vx_power.specs.Walks.{IsAmong}
 use Rattle.vx_power.proofs.Having.{has_joined, own_place}
@@ -25,10 +25,7 @@ use Rattle.vx_tick.specs.Leaving.{IsWorked, shows_same, shown_changes, hidden_ch
 use Rattle.vx_tick.specs.Ticks.{advanced, changed_up_to, stepped}
 use Rattle.vx_tick.proofs.Advancing.{no_change, a_change, is_among, parts_become_next}
 use Rattle.vx_tick.proofs.Puts.{none_put, puts_filled}
-use Rattle.vx_levels.specs.Repairs.{IsRight}
 use Rattle.vx_still.specs.Stillness.{LeavesStill}
-use Rattle.vx_still.specs.Watching.{IsWatch}
-use Rattle.vx_still.proofs.Watching.{ticks_leave_watch}
 
 module _ (w : Pos → Cell) where
   in_rest : (b : Bool) (p q : Pos) (ps : List Pos) → has ps p ≡ true
@@ -152,7 +149,7 @@ module _ (rs : Regions) (m : MapData) (changes moved : List (Pos × Cell))
       (and_from (shows_same cell (cell_on m p)) (not (is_dust cell))
       ((cell_decided (shown cell) (shown (cell_on m p))).1 alike) (ap not no_dust)))))
 
-  leaves_still : LeavesStill m (stepped rs m) changed besides
+  pub leaves_still : LeavesStill m (stepped rs m) changed besides
   leaves_still = record {
     shows = λ p unchanged.
         ap shown (stands p unchanged)
@@ -163,10 +160,3 @@ module _ (rs : Regions) (m : MapData) (changes moved : List (Pos × Cell))
         ∙ same_still p unchanged away other (change_at (cell_on m) (dust_level (cell_on m)) p) refl;
     pistons = would_move;
   }
-
-  -- so it is kept of the map after it, with the levels of the map before it
-  pub watch_after : (table : LevelTable) → IsRight (cell_on m) table
-      → IsWatch (stepped rs m) (record { waking = record { changed = changed; besides = besides }; levels = table })
-  watch_after table right =
-      ticks_leave_watch m (stepped rs m) (record { waking = record { changed = changed; besides = besides }; levels = table })
-      leaves_still right

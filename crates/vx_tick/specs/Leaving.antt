@@ -11,6 +11,8 @@ use Rattle.vx_cells.specs.SectorCells.{is_chest}
 use Rattle.vx_cells.specs.Wholes.{with_cells_on}
 use Rattle.vx_power.specs.Local.{shown}
 use Rattle.vx_region.specs.Regions.{Regions}
+use Rattle.vx_still.specs.Stillness.{LeavesStill}
+use Rattle.vx_still.specs.Waking.{WakingData}
 use Rattle.vx_still.specs.Watching.{IsWatch, WatchData}
 use Rattle.vx_tick.specs.declared.fate.Fate.{Fate}
 use Rattle.vx_tick.specs.declared.planned.Plan.{Plan}
@@ -24,6 +26,13 @@ pub record IsWorked (rs : Regions) (m : MapData) (changes moved : List (Pos × C
   pub after : stepped rs m ≡ with_cells_on (advanced m) moved
   pub told : fates ≡ fates_on rs m
   pub chests : All (λ (put : Pos × Cell). is_chest put.1 ≡ false) (changes ++ moved)
+
+-- what a tick does, told as a plan, and what it leaves to be looked at
+pub record IsEnded (rs : Regions) (m : MapData) (done : Plan × WakingData) : Type 0 where
+  pub puts : stepped rs m ≡ with_cells_on m done.0.puts.items
+  pub fates : done.0.fates.items ≡ fates_on rs m
+  pub chests : All (λ (put : Pos × Cell). is_chest put.1 ≡ false) done.0.puts.items
+  pub left : LeavesStill m (stepped rs m) done.1.changed done.1.besides
 
 -- what a tick does, told as a plan, and what is kept of the map after it
 pub record IsPlanned (rs : Regions) (m : MapData) (done : Plan × WatchData) : Type 0 where

@@ -1,13 +1,13 @@
 //! What a tick does once it is known what it found and what becomes of the moves.
-ghost use Rattle.std.specs.Prelude.{◌≡◌, ◌++◌, [], length, IfOk};
+ghost use Rattle.std.specs.Prelude.{◌≡◌, ◌++◌, [], Some, length, IfOk, IfSome};
 ghost use Rattle.vx_cells.specs.Maps.{cell_on};
 ghost use Rattle.vx_geom.specs.Sizes.{sector_count};
 ghost use Rattle.vx_levels.specs.Repairs.{IsRight};
 ghost use Rattle.vx_power.specs.Levels.{AreAllLevels};
 ghost use Rattle.vx_region.specs.Regions.{Regions};
-ghost use Rattle.vx_still.specs.Watching.{with_written, IsWatch};
+ghost use Rattle.vx_still.specs.Watching.{IsWatch};
 ghost use Rattle.vx_tick.specs.Fates.{AreFates};
-ghost use Rattle.vx_tick.specs.Leaving.{IsPlanned, IsWorked};
+ghost use Rattle.vx_tick.specs.Leaving.{IsEnded, IsPlanned, IsWorked};
 ghost use Rattle.vx_tick.specs.Pieces.{restless_up_to};
 ghost use Rattle.vx_tick.specs.Ticks.{changed_up_to, AreMoves};
 
@@ -26,42 +26,73 @@ use vx_levels::LinkedLevels;
 use vx_piston::Move;
 use vx_policy::Version;
 use vx_power::Leveled;
-use vx_still::Watch;
+use vx_still::{Waking, Watch};
 
-/// What a tick does that this version judges, of a map of which nothing is told: nothing. What was
-/// kept of the map is kept.
+/// What a tick does that this version judges, of a map of which nothing is told: nothing. These
+/// levels are kept.
 pub fn undisturbed(
     alloc: Global,
     map: &Frozen<'_>,
     version: &Version,
-    watch: Watch,
+    levels: LinkedLevels,
 ) -> Result<(Plan, Watch), AllocError>
-    requires watch { IsWatch map.now watch }
-    requires nothing { watch.waking ≡ record { changed = []; besides = [] } }
+    requires { IsWatch map.now
+        (record { waking = record { changed = []; besides = [] }; levels = Some levels }) }
     ensures { IfOk result (λ done. IsPlanned version.now.policy map.now done) }
 {
     map.filling();
     let _by_any = version;
+    let watch = Watch {
+        waking: Waking::nothing(alloc),
+        levels: Some(levels),
+        calm: 0,
+    };
     Ok((Plan::nothing(alloc), watch))
 }
 
-/// What a tick does that this version judges and that found this by the levels and links of all
-/// dust, with these fates of the moves, and what is kept of the map after it.
-pub fn finished(
+/// What a tick did that this version judged, with what is kept of the map after it: these levels, if
+/// any, which are those of the map before it, and for how many ticks on end little has changed.
+pub fn kept(
+    map: &Frozen<'_>,
+    version: &Version,
+    done: (Plan, Waking),
+    levels: Option<LinkedLevels>,
+    calm: u32,
+) -> (Plan, Watch)
+    requires ended { IsEnded version.now.policy map.now done }
+    requires right { IfSome levels (IsRight (cell_on map.now)) }
+    ensures { IsPlanned version.now.policy map.now result }
+{
+    map.soundness();
+    let _judge = version;
+    let (plan, waking) = done;
+    (
+        plan,
+        Watch {
+            waking,
+            levels,
+            calm,
+        },
+    )
+}
+
+/// What a tick does that this version judges and that found this by the levels of all dust, with
+/// these fates of the moves, and what it leaves to be looked at.
+pub fn finished<L: Leveled>(
     alloc: Global,
     map: &Frozen<'_>,
     version: &Version,
-    levels: LinkedLevels,
+    levels: &L,
     found: Found,
     fates: Vec<(Pos, Fate)>,
-) -> Result<(Plan, Watch), AllocError>
-    requires right { IsRight (cell_on map.now) levels }
+) -> Result<(Plan, Waking), AllocError>
+    requires levels { AreAllLevels map.now (L.level levels.now) }
     requires changes { found.changes.items ≡ changed_up_to map.now (sector_count map.now.sizes) }
     requires restless { found.restless.items
         ≡ restless_up_to map.now (sector_count map.now.sizes) }
     requires moves { AreMoves map.now found.moves.items }
     requires fates { AreFates version.now.policy found.moves.items found.moves.items fates.items }
-    ensures { IfOk result (λ done. IsPlanned version.now.policy map.now done) }
+    ensures { IfOk result (λ done. IsEnded version.now.policy map.now done) }
 {
     map.soundness();
     map.filling();
@@ -71,9 +102,9 @@ pub fn finished(
         restless,
         moves,
     } = found;
-    let done = worked(alloc, map, &levels, changes, moves.as_slice(), fates)?;
+    let done = worked(alloc, map, levels, changes, moves.as_slice(), fates)?;
     let waking = left(alloc, map, &done.changes, &done.moved, restless.as_slice())?;
-    Ok((planned(done)?, Watch { waking, levels }))
+    Ok((planned(done)?, waking))
 }
 
 /// What a tick does that found these changes, where these moves are asked for and have these fates.

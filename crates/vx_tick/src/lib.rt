@@ -21,7 +21,7 @@ mod worked;
 
 pub use ending::{denials, fates, fates_by};
 pub use fate::Fate;
-pub use finishing::{finished, undisturbed};
+pub use finishing::{finished, kept, undisturbed};
 pub use found::{Found, sort_moves};
 pub use laws::{heads_stay_with_pistons, parts_become_next, there_is_one_tick, ticks_by_position};
 pub use phase::Phase;

@@ -1,29 +1,27 @@
 //! A tick of a map that is only read.
 ghost use Rattle.std.specs.Prelude.{◌≡◌, false, IfOk, IfSome};
 ghost use Rattle.std.specs.List.{All};
-ghost use Rattle.vx_cells.specs.Maps.{cell_on};
 ghost use Rattle.vx_cells.specs.SectorCells.{is_chest};
 ghost use Rattle.vx_cells.specs.Wholes.{with_cells_on};
-ghost use Rattle.vx_levels.specs.Repairs.{IsRight};
+ghost use Rattle.vx_power.specs.Levels.{AreAllLevels};
 ghost use Rattle.vx_still.specs.Watching.{with_written, IsWatch};
-ghost use Rattle.vx_tick.specs.Leaving.{IsPlanned};
+ghost use Rattle.vx_tick.specs.Leaving.{IsEnded, IsPlanned};
 ghost use Rattle.vx_tick.specs.Pieces.{RestsOutside};
 ghost use Rattle.vx_tick.specs.Starting.{IsStart};
 ghost use Rattle.vx_tick.specs.Ticks.{fates_on, stepped};
 
 use crate::ending::fates_under;
-use crate::finishing::{finished, planned, undisturbed, worked};
+use crate::finishing::{finished, kept, planned, undisturbed, worked};
 use crate::found::Found;
 use crate::planned::Plan;
 use crate::start::Start;
 use std::alloc::{AllocError, Global};
 use vx_cells::Frozen;
 use vx_geom::Pos;
-use vx_levels::LinkedLevels;
 use vx_places::Places;
 use vx_policy::Version;
-use vx_power::all_levels;
-use vx_still::Watch;
+use vx_power::{Leveled, all_levels};
+use vx_still::{Waking, Watch};
 
 /// What a tick of this map does that this version of the policy judges (docs/RULES.md). Nothing of
 /// the map is copied. It costs what the components of the map are, and the dust that has power.
@@ -76,25 +74,32 @@ fn started(
     ensures { IfOk result (λ done. IsPlanned version.now.policy map.now done) }
 {
     match start {
-        Start::AtRest(watch) => undisturbed(alloc, map, version, watch),
-        Start::Awake(levels, places) => by_levels(alloc, map, version, levels, places.as_ref()),
+        Start::AtRest(levels) => undisturbed(alloc, map, version, levels),
+        Start::Awake(levels, places) => {
+            let done = by_levels(alloc, map, version, &levels, places.as_ref())?;
+            Ok(kept(map, version, done, Some(levels), 0))
+        }
+        Start::Anew(levels, calm) => {
+            let done = by_levels(alloc, map, version, &levels, None)?;
+            Ok(kept(map, version, done, None, calm))
+        }
     }
 }
 
-// What a tick does by the levels and links of all dust: at the places outside which the map rests,
-// where these are told, and else at all components.
-fn by_levels(
+// What a tick does by the levels of all dust: at the places outside which the map rests, where these
+// are told, and else at all components.
+fn by_levels<L: Leveled>(
     alloc: Global,
     map: &Frozen<'_>,
     version: &Version,
-    levels: LinkedLevels,
+    levels: &L,
     places: Option<&Places>,
-) -> Result<(Plan, Watch), AllocError>
-    requires right { IsRight (cell_on map.now) levels }
+) -> Result<(Plan, Waking), AllocError>
+    requires levels { AreAllLevels map.now (L.level levels.now) }
     requires rests { IfSome places (λ places. RestsOutside map.now places.now) }
-    ensures { IfOk result (λ done. IsPlanned version.now.policy map.now done) }
+    ensures { IfOk result (λ done. IsEnded version.now.policy map.now done) }
 {
-    let found = Found::at(alloc, map, &levels, places)?;
+    let found = Found::at(alloc, map, levels, places)?;
     let fates = fates_under(alloc, version, found.moves.as_slice())?;
     finished(alloc, map, version, levels, found, fates)
 }

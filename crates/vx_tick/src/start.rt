@@ -1,4 +1,7 @@
 ghost use Rattle.std.specs.Prelude.{◌≡◌, IfOk, IfSome};
+ghost use Rattle.vx_still.specs.Mirrored.{IsMirror};
+ghost use Rattle.vx_still.specs.Stillness.{IsStill};
+ghost use Rattle.vx_still.specs.Waking.{with_changed};
 ghost use Rattle.vx_still.specs.Watching.{with_written, IsWatch};
 ghost use Rattle.vx_tick.specs.Starting.{IsStart};
 
@@ -7,21 +10,31 @@ use vx_cells::Frozen;
 use vx_geom::Pos;
 use vx_levels::LinkedLevels;
 use vx_places::Places;
-use vx_still::{Watch, linked_anew, unsettled};
+use vx_power::{Levels, all_levels};
+use vx_still::{Waking, Watch, linked_anew, unsettled};
+
+// To make levels right again where a cell changed, and to look around it, costs about as much as to
+// tell the levels of so many components anew and to look at them.
+const COMPONENTS_EACH: usize = 128;
+
+// To tell levels with their links costs about as much as so many ticks that look everywhere.
+const CALM: u32 = 8;
 
 /// How a tick of a map begins.
 #[derive(Drop)]
 pub enum Start {
-    /// All rests, and this is kept of the map.
-    AtRest(Watch),
-    /// By the levels and links of all its dust: at the places outside which it rests, where these are
+    /// All rests, and these levels are kept.
+    AtRest(LinkedLevels),
+    /// By levels and links that are kept: at the places outside which the map rests, where these are
     /// told, and else at all components.
     Awake(LinkedLevels, Option<Places>),
+    /// By levels that are told anew, at all components. For so many ticks on end little has changed.
+    Anew(Levels, u32),
 }
 
 impl Start {
     /// How a tick begins by what was kept of the map, and what was written since. It costs what has
-    /// changed; where nothing was kept, a look at all components.
+    /// changed, or, where that is much or nothing was kept, a look at all components.
     pub fn of(
         alloc: Global,
         map: &Frozen<'_>,
@@ -33,11 +46,12 @@ impl Start {
     {
         match watch {
             Some(watch) => Start::watched(alloc, map, watch, written),
-            None => Start::unknown(alloc, map),
+            None => Start::linked(alloc, map),
         }
     }
 
-    // How it begins by what was kept, and what was written since.
+    // How it begins by what was kept, and what was written since. Where much has changed no levels are
+    // kept, and none until little has changed for some ticks on end.
     fn watched(
         alloc: Global,
         map: &Frozen<'_>,
@@ -47,20 +61,61 @@ impl Start {
         requires { IsWatch map.now (with_written watch written.now) }
         ensures { IfOk result (IsStart map.now) }
     {
-        if watch.is_still() && written.is_empty() {
-            return Ok(Start::AtRest(watch));
+        let Watch {
+            waking,
+            levels,
+            calm,
+        } = watch;
+        if has_much_changed(map, waking.changed.len().saturating_add(written.len())) {
+            return Start::anew(alloc, map, 0);
         }
-        let Watch { waking, mut levels } = watch;
-        let Some(look) = unsettled(alloc, map, &waking, written, &mut levels)? else {
-            return Start::unknown(alloc, map);
+        if let Some(levels) = levels {
+            return Start::repaired(alloc, map, &waking, written, levels);
+        }
+        if calm < CALM {
+            return Start::anew(alloc, map, calm + 1);
+        }
+        Start::linked(alloc, map)
+    }
+
+    // How it begins by levels that were kept.
+    fn repaired(
+        alloc: Global,
+        map: &Frozen<'_>,
+        waking: &Waking,
+        written: &[Pos],
+        levels: LinkedLevels,
+    ) -> Result<Start, AllocError>
+        requires still { IsStill map.now (with_changed waking.now written.now) }
+        requires mirror { IsMirror map.now (with_changed waking.now written.now).changed levels }
+        ensures { IfOk result (IsStart map.now) }
+    {
+        if waking.is_nothing() && written.is_empty() {
+            return Ok(Start::AtRest(levels));
+        }
+        let mut levels = levels;
+        let Some(look) = unsettled(alloc, map, waking, written, &mut levels)? else {
+            return Start::linked(alloc, map);
         };
         Ok(Start::Awake(levels, look.places))
     }
 
-    // How it begins where nothing is known of the map.
-    fn unknown(alloc: Global, map: &Frozen<'_>) -> Result<Start, AllocError>
+    // How it begins by levels and links that are told anew, to be kept.
+    fn linked(alloc: Global, map: &Frozen<'_>) -> Result<Start, AllocError>
         ensures { IfOk result (IsStart map.now) }
     {
         Ok(Start::Awake(linked_anew(alloc, map)?, None))
     }
+
+    // How it begins by levels that are told anew, and not kept.
+    fn anew(alloc: Global, map: &Frozen<'_>, calm: u32) -> Result<Start, AllocError>
+        ensures { IfOk result (IsStart map.now) }
+    {
+        Ok(Start::Anew(all_levels(alloc, map)?, calm))
+    }
+}
+
+// Whether so many changed cells are so many that to look everywhere costs less.
+fn has_much_changed(map: &Frozen<'_>, changed: usize) -> bool {
+    0 < changed && map.component_count() as usize / COMPONENTS_EACH < changed
 }

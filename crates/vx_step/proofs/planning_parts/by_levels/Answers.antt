@@ -1,10 +1,6 @@
 use Rattle.std.proofs.Common.{subst}
-use Rattle.vx_still.proofs.Watching.{right_levels}
 use Rattle.vx_tick.specs.Fates.{AreFates}
 use Rattle.vx_step.proofs.planning_parts.by_levels.Goals as goal
-
-pub found-requires-clause-levels : goal.found-requires-clause-levels
-found-requires-clause-levels g c κs within = right_levels c.args.map.now c.args.levels c.requires.right
 
 pub finished-requires-clause-fates : goal.finished-requires-clause-fates
 finished-requires-clause-fates g c =

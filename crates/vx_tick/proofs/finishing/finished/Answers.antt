@@ -1,25 +1,21 @@
 use Rattle.std.proofs.Common.{◌++◌, length, sym, ap, ◌∙◌, subst}
 use Rattle.vx_cells.specs.Maps.{cell_on}
 use Rattle.vx_power.specs.Levels.{has}
-use Rattle.vx_still.proofs.Watching.{right_levels}
 use Rattle.vx_tick.specs.Fates.{AreFates}
 use Rattle.vx_tick.specs.Leaving.{shown_changes, hidden_changes, places_of}
 use Rattle.vx_tick.proofs.Plans.{all_puts, no_chests}
-use Rattle.vx_tick.proofs.Remaining.{watch_after}
+use Rattle.vx_tick.proofs.Remaining.{leaves_still}
 use Rattle.vx_tick.proofs.Resting.{all_restless}
 use Rattle.vx_tick.proofs.Told.{fates_length}
 use Rattle.vx_tick.proofs.finishing.finished.Goals as goal
 
 pub worked-requires-clause-each : goal.worked-requires-clause-each
-worked-requires-clause-each c =
+worked-requires-clause-each g c =
     fates_length c.args.version.now.policy c.args.found.moves.items c.args.found.moves.items c.args.fates.items c.requires.fates
     ∙ ap length (sym c.as_slice.ensures.value)
 
-pub worked-requires-clause-levels : goal.worked-requires-clause-levels
-worked-requires-clause-levels c = right_levels c.args.map.now c.args.levels c.requires.right
-
 pub returns : goal.returns
-returns c =
+returns g c =
     let rs = c.args.version.now.policy in
     let told = c.requires.fates in
     let m = c.args.map.now in
@@ -36,12 +32,11 @@ returns c =
       puts = all_puts rs m done.changes.items done.moved.items plan.puts.items done.fates.items worked joined;
       fates = c.in_ok-planned.ensures.fates ∙ worked.told;
       chests = no_chests rs m done.changes.items done.moved.items plan.puts.items done.fates.items worked joined;
-      watch =
-          watch_after rs m done.changes.items done.moved.items done.fates.items
+      left =
+          leaves_still rs m done.changes.items done.moved.items done.fates.items
           c.filling.ensures worked next.changed next.besides c.as_slice-2.result.now
           (c.in_ok-waking.ensures.changed ∙ (λ i. shown_changes w (changes i) ++ places_of (moved i)))
           (c.in_ok-waking.ensures.besides ∙ (λ i. hidden_changes w (changes i) ++ c.as_slice-2.result.now))
           (λ p is. ap (λ ps. has ps p) (c.as_slice-2.ensures.value ∙ c.requires.restless)
-          ∙ all_restless m c.soundness.ensures.valid p is)
-          c.args.levels c.requires.right;
+          ∙ all_restless m c.soundness.ensures.valid p is);
     }

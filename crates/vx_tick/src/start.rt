@@ -17,6 +17,9 @@ use vx_still::{Waking, Watch, linked_anew, unsettled};
 // tell the levels of so many components anew and to look at them.
 const COMPONENTS_EACH: usize = 128;
 
+// For so few cells it costs less at any size.
+const FEW: usize = 16;
+
 // To tell levels with their links costs about as much as so many ticks that look everywhere.
 const CALM: u32 = 8;
 
@@ -117,5 +120,5 @@ impl Start {
 
 // Whether so many changed cells are so many that to look everywhere costs less.
 fn has_much_changed(map: &Frozen<'_>, changed: usize) -> bool {
-    0 < changed && map.component_count() as usize / COMPONENTS_EACH < changed
+    FEW < changed && map.component_count() as usize / COMPONENTS_EACH < changed
 }

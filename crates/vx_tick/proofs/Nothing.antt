@@ -75,10 +75,10 @@ pub unwritten : (m : MapData) (waking : WakingData) (written : List Pos) (table 
     → IsStill m (with_changed waking written) → IsMirror m (with_changed waking written).changed table
     → IsWatch m (record { waking = record { changed = []; besides = [] }; levels = Some table })
 unwritten m waking written table none empty still mirror =
-    let all = λ i. with_changed (none i) (none_listed written empty i) in
     record {
-      still = subst (IsStill m) all still;
-      mirror = subst (λ (w : WakingData). IsMirror m w.changed table) all mirror;
+      still = subst (IsStill m) (λ i. with_changed (none i) (none_listed written empty i)) still;
+      mirror =
+          subst (λ (w : WakingData). IsMirror m w.changed table) (λ i. with_changed (none i) (none_listed written empty i)) mirror;
     }
 
 -- so a plan of nothing, after which it is still kept, tells the tick

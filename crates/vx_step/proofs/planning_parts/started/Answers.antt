@@ -1,0 +1,8 @@
+use Rattle.std.proofs.Common.{subst}
+use Rattle.vx_still.proofs.Watching.{right_levels}
+use Rattle.vx_tick.specs.Starting.{IsStart}
+use Rattle.vx_step.proofs.planning_parts.started.Goals as goal
+
+pub by_levels-requires-clause-levels : goal.by_levels-requires-clause-levels
+by_levels-requires-clause-levels g c κs within =
+    right_levels c.args.map.now c.in-Awake.levels (subst (IsStart c.args.map.now) c.in-Awake.is c.requires).0

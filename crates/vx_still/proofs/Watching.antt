@@ -1,5 +1,5 @@
 -- What a watch tells: that it stays one, and that all rests where it tells of nothing.
-use Rattle.std.proofs.Common.{◌≡◌, ℕ, ◌≤◌, ◌%◌, true, false, inl, inr, List, [], ◌∷◌, ◌++◌, Some, IfSome, refl, sym, ◌∙◌, subst, arith}
+use Rattle.std.proofs.Common.{◌≡◌, ℕ, ◌≤◌, ◌%◌, true, false, inl, inr, List, [], ◌∷◌, ◌++◌, Some, refl, sym, ◌∙◌, arith}
 use Rattle.std.specs.List.{list_any}
 use Rattle.std.proofs.lemmas.Bool.{cases_Bool}
 use Rattle.std.proofs.lemmas.Option.{IfSome_then}
@@ -16,7 +16,7 @@ use Rattle.vx_power.specs.Levels.{AreAllLevels, LevelTable, has, level_in}
 use Rattle.vx_power.specs.Local.{sees}
 use Rattle.vx_still.specs.Mirrored.{IsMirror}
 use Rattle.vx_still.specs.Stillness.{stored_on}
-use Rattle.vx_still.specs.Watching.{IsWatch, WatchData, WritesKeepWatch, TicksLeaveWatch}
+use Rattle.vx_still.specs.Watching.{IsWatch, WritesKeepWatch, TicksLeaveWatch}
 use Rattle.vx_still.proofs.Heeding.{no_store, no_dust_level}
 use Rattle.vx_still.proofs.Mirroring.{writes_keep_mirror, ticks_leave_mirror}
 use Rattle.vx_still.proofs.Stilling.{mirrors_agree, still_rests, ticks_leave_still, writes_keep_still}

@@ -1,5 +1,5 @@
 -- How a tick begins, by what was kept of a map.
-use Rattle.std.specs.Prelude.{◌≡◌, [], Some, IfSome}
+use Rattle.std.specs.Prelude.{[], Some, IfSome}
 use Rattle.vx_cells.specs.Maps.{MapData, cell_on}
 use Rattle.vx_levels.specs.Repairs.{IsRight}
 use Rattle.vx_power.specs.Levels.{level_in, AreAllLevels}

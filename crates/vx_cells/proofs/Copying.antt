@@ -1,4 +1,4 @@
--- What stands at a position, put down at the same one of another copy of the sector.
+-- Positions of copies of a sector, and what stands there.
 use Rattle.std.proofs.Common.{◌≡◌, Bool, true, false, List, [], ◌∷◌, length, replicate, Option, Some, None, if◌then◌else◌, refl, sym, ap, ◌∙◌, subst, inl, inr, arith}
 use Rattle.std.proofs.lemmas.Bool.{cases_lt}
 use Rattle.std.proofs.Math.ListN.{get_or-eq_default}
@@ -22,21 +22,3 @@ is_block_at c p whole = elim (cases_lt (index_in_sector c.bounds p) (length c.bl
   | inl below ↦ whole.each (index_in_sector c.bounds p) (placed Air) below
   | inr above ↦ subst IsBlock (sym (get_or-eq_default c.blocks (placed Air) above)) air_is_block
 ]
-
--- where no slots are found there is no chest
-pub found_none : (b : Block) → (if is_chest b.cell then Some b.slots else None) ≡ None → is_chest b.cell ≡ false
-found_none b none = by (is_chest b.cell) refl none
-  where
-    by : (is : Bool) → is_chest b.cell ≡ is → (if is then Some b.slots else None) ≡ None → is_chest b.cell ≡ false
-    by true told same = cc
-    by false told same = told
-
-no_length : (slots : List (Option Stack)) → length slots ≡ 0 → slots ≡ []
-no_length [] none = refl
-no_length (slot ∷ slots) none = cc
-
--- a cell that is no chest is put down as it stands
-pub placed_again : (b : Block) → IsBlock b → is_chest b.cell ≡ false → placed b.cell ≡ b
-placed_again b block none =
-    let slots = no_length b.slots (block.slots ∙ ap (λ (is : Bool). if is then 27 else 0) none) in
-    λ i. record { cell = b.cell; slots = (ap (λ (is : Bool). replicate (if is then 27 else 0) None) none ∙ sym slots) i }

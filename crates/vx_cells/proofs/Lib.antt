@@ -11,3 +11,4 @@ pub mod Stacks
 pub mod StoredBlocks
 pub mod StoredCells
 pub mod StoredMarks
+pub mod Unmarked

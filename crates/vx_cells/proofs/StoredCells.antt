@@ -1,23 +1,22 @@
 -- What is read from a stored sector, and what a change of the store is to it.
-use Rattle.std.proofs.Common.{◌≡◌, ◌≢◌, ℕ, ◌<◌, Bool, true, false, not, ◌&&◌, nat_eq, List, [], length, get_or, set, slice_set, Option, Some, None, IsSome, unwrap_or, if◌then◌else◌, Decides, refl, ap, sym, ◌∙◌, true≢false, arith}
+use Rattle.std.proofs.Common.{◌≡◌, ◌≢◌, ℕ, ◌<◌, Bool, true, false, not, ◌&&◌, nat_eq, List, [], length, get_or, set, slice_set, Option, Some, None, IsSome, unwrap_or, if◌then◌else◌, Decides, refl, ap, sym, ◌∙◌, inl, inr, true≢false, arith}
 use Rattle.std.proofs.lemmas.List.{set-get_or, length-set}
+use Rattle.std.proofs.lemmas.Bool.{cases_eq}
 use Rattle.std.proofs.lemmas.List.Elements.{All-replicate, All-set}
+use Rattle.std.proofs.lemmas.Map.{update_here, update_apart}
+use Rattle.std.specs.Map.{update}
 use Rattle.vx_block.specs.declared.cell.Cell.{Cell}
 use Rattle.vx_block.specs.declared.cell.Cell.TheVariants.{Air}
 use Rattle.vx_geom.specs.declared.pos.Pos.{Pos}
 use Rattle.vx_geom.specs.Sizes.{Sizes, sector_cells, index_in_sector}
 use Rattle.vx_cells.specs.declared.stack.Stack.{Stack}
-use Rattle.vx_cells.specs.Chests.{refilled, Slots, ChestData, slots_of_chest, no_content, Changes}
+use Rattle.vx_cells.specs.Chests.{begun, refilled, Slots, ChestData, slots_of_chest, no_content, Changes, SameSlots}
 use Rattle.vx_cells.specs.CellsLaws.{sizes_decided}
 use Rattle.vx_cells.specs.Codes.{code_count, cell_of}
 use Rattle.vx_cells.specs.SameCells.{same_sizes}
 use Rattle.vx_cells.specs.SectorCells.{IsSlot, IsBlock, is_chest, placed, block_at, cell_at, chest_at, with_block, with_cell, with_content, with_slot}
 use Rattle.vx_cells.specs.Stored.{block_of, blocks_from, stored, IsBeside, IsStored}
 use Rattle.vx_cells.proofs.StoredBlocks.{block-at, blocks-changed, stored-set, same-slots, same-blocks}
-
--- an empty chest where there is to be one
-abbrev pub begun : Bool → Option Slots
-begun b = if b then Some no_content else None
 
 begun_beside : (code : ℕ) (b : Bool) → b ≡ is_chest (cell_of code) → IsBeside code (begun b)
 begun_beside code true same = (sym same, refl, All-replicate IsSlot 27 None tt)
@@ -95,23 +94,37 @@ module _ (bounds : Sizes) (sector : ℕ) (codes : List ℕ) (chests : ChestData)
         let blocks = ap (λ cs. blocks_from 0 cs new) (sym kept) ∙ blocks-changed codes chests new index (get_or codes index 0) _ near change ∙ (λ i. set (blocks_from 0 codes chests) (at i) (block i)) in
         λ i. record { bounds = bounds; sector = sector; blocks = blocks i }
 
-  -- other things are in all slots of the chest there
-  module _ (new : ChestData) (slots : Slots) (chest : is_chest (cell_at (stored bounds sector codes chests) p) ≡ true) (change : Changes chests new index (Some slots)) where
-    same_codes : set codes index (get_or codes index 0) ≡ codes
-    same_codes = set-get_or codes index 0
+-- slots that are read as before
+pub held-still : (bounds : Sizes) (codes : List ℕ) (chests new : ChestData) → SameSlots chests new → IsStored bounds codes chests → IsStored bounds codes new
+held-still bounds codes chests new same held = record {
+  whole = held.whole;
+  codes = held.codes;
+  chests = λ index. rw (same index) (held.chests index);
+}
 
-    pub filled-held : IsBlock (record { cell = cell_at (stored bounds sector codes chests) p; slots = slots }) → IsStored bounds codes new
-    filled-held block =
-        let there : is_chest (cell_of (get_or codes index 0)) ≡ true = ap is_chest cell-stored ∙ chest in
-        let long : length slots ≡ 27 = block.slots ∙ ap (λ (b : Bool). if b then 27 else 0) chest in
-        rw (← same_codes) (stored-set bounds codes chests new index (get_or codes index 0) (Some slots) held near (held.codes index 0 near) change (there, long, block.each))
+pub stored-still : (bounds : Sizes) (sector : ℕ) (codes : List ℕ) (chests new : ChestData) → SameSlots chests new → stored bounds sector codes new ≡ stored bounds sector codes chests
+stored-still bounds sector codes chests new same =
+    let blocks = same-blocks 0 codes new chests same in
+    λ i. record { bounds = bounds; sector = sector; blocks = blocks i }
 
-    pub filled-stored : stored bounds sector codes new ≡ with_block (stored bounds sector codes chests) p (record { cell = cell_at (stored bounds sector codes chests) p; slots = slots })
-    unfolding with_block
-    filled-stored =
-        let blocks = ap (λ cs. blocks_from 0 cs new) (sym same_codes) ∙ blocks-changed codes chests new index (get_or codes index 0) (Some slots) near change
-        ∙ (λ i. set (blocks_from 0 codes chests) (at i) (record { cell = cell-stored i; slots = slots })) in
-        λ i. record { bounds = bounds; sector = sector; blocks = blocks i }
+-- a chest that was put and taken away again
+pub undone : (old mid new : ChestData) (k : ℕ) (slots : Option Slots) → slots_of_chest old k ≡ None → Changes old mid k slots → Changes mid new k None → SameSlots old new
+undone old mid new k slots none put taken q = elim (cases_eq q k) [
+  | inl same ↦ taken q ∙ ap (λ n. update nat_eq (slots_of_chest mid) k None n) same ∙ update_here (slots_of_chest mid) k None ∙ sym none ∙ ap (slots_of_chest old) (sym same)
+  | inr apart ↦ taken q ∙ update_apart (slots_of_chest mid) k None q apart ∙ put q ∙ update_apart (slots_of_chest old) k slots q apart
+]
+
+-- where no chest stands there are no slots, and where one does there are
+module _ (bounds : Sizes) (codes : List ℕ) (chests : ChestData) (held : IsStored bounds codes chests) (index : ℕ) where
+  pub no-slots : is_chest (cell_of (get_or codes index 0)) ≡ false → slots_of_chest chests index ≡ None
+  no-slots none = by (slots_of_chest chests index) (held.chests index)
+    where
+      by : (o : Option Slots) → IsBeside (get_or codes index 0) o → o ≡ None
+      by None beside = refl
+      by (Some slots) beside = absurd (true≢false (sym beside.0 ∙ none))
+
+  pub some-slots : is_chest (cell_of (get_or codes index 0)) ≡ true → IsSome (slots_of_chest chests index)
+  some-slots chest = some_chest _ _ (held.chests index) chest
 
 -- two sectors of one size and number with the same bytes are the same where their slots are
 pub same-stored : (bounds rest : Sizes) (sector number : ℕ) (codes others : List ℕ) (chests more : ChestData) (r : Bool) → IsStored bounds codes chests → IsStored rest others more

@@ -1,5 +1,5 @@
 -- The slots of a sector's chests, by their indices.
-use Rattle.std.specs.Prelude.{◌≡◌, ℕ, nat_eq, List, Option, None, option_map, replicate, slice_set}
+use Rattle.std.specs.Prelude.{◌≡◌, ℕ, nat_eq, Bool, List, Option, None, Some, option_map, replicate, slice_set, if◌then◌else◌}
 use Rattle.std.specs.Map.{lookup, update}
 use Rattle.vx_cells.specs.declared.stack.Stack.{Stack}
 
@@ -18,6 +18,14 @@ slots_of_chest chests index = lookup (nat_eq index) chests
 -- a chest with nothing in it
 abbrev pub no_content : Slots
 no_content = replicate 27 None
+
+-- what begins with a cell: an empty chest where it is one
+abbrev pub begun : Bool → Option Slots
+begun b = if b then Some no_content else None
+
+-- each index has the slots that it had
+abbrev pub SameSlots : ChestData → ChestData → Type 0
+SameSlots old new = (q : ℕ) → slots_of_chest new q ≡ slots_of_chest old q
 
 -- one index has other slots or none, and all the others what they had
 abbrev pub Changes : ChestData → ChestData → ℕ → Option Slots → Type 0

@@ -1,3 +1,4 @@
+pub mod CellMarks
 pub mod CellsLaws
 pub mod Chests
 pub mod Codes

@@ -1,76 +1,51 @@
-ghost use Rattle.std.specs.Prelude.{◌≡◌, ◌<◌, ◌↔◌, nat_lt, length, true, false, IsTrue, IfOk, OnOk, OnErr, IfSome, IsOk};
+ghost use Rattle.std.specs.Prelude.{◌≡◌, ◌<◌, ◌≤◌, nat_lt, length, true, IfOk, OnOk, OnErr, IfSome};
 ghost use Rattle.std.specs.List.{All};
-ghost use Rattle.vx_geom.specs.Sizes.{sector_count, sector_cells};
+ghost use Rattle.vx_geom.specs.Sizes.{sector_count};
 ghost use Rattle.vx_block.specs.Components.{is_dust};
 ghost use Rattle.vx_block.specs.Conductors.{conducts};
 ghost use Rattle.vx_cells.specs.Listed.{components_of, devices_of};
 
-use crate::chests::Chests;
-use crate::code::{AIR, conducts, decode, encode, is_chest, is_component, is_device, is_dust};
-use crate::marked::marked_places;
 use crate::stack::{SLOTS, Slot};
+use crate::stored::Stored;
 use std::alloc::{AllocError, Global};
 use std::marker::Model;
+use std::sync::Arc;
 use vx_block::Cell;
 use vx_geom::{Bounds, Pos};
-use vx_marks::Marks;
 
 /// What stands in one sector of the world: a cell at each position, and the slots of each chest.
-// The cells are a byte each, in one block of memory; the chests stand beside it, by their indices,
-// and marks where components of machines stand, and which of them are devices.
+/// Copies share all of it until one of them changes, and then all sections but the changed one.
 pub struct Cells {
-    bounds: Bounds,
-    sector: u32,
-    store: Vec<u8>,
-    chests: Chests,
-    components: Marks,
-    devices: Marks,
+    stored: Arc<Stored>,
 }
 
 impl Model for Cells {
+    ghost use Rattle.std.specs.Arc.{arc_value};
     ghost use Rattle.vx_cells.specs.SectorCells.{SectorCells};
-    ghost use Rattle.vx_cells.specs.Stored.{stored, IsKept};
 
     ghost Value = { SectorCells };
 
-    ghost view = { λ a. stored a.bounds a.sector a.store.items a.chests };
-
-    ghost invariant = { λ a. IsKept a.bounds a.sector a.store.items a.chests a.components a.devices };
+    ghost view = { λ a. arc_value a.stored };
 }
 
 // Written out, so that what is above this crate need not prove how its parts are let go.
 impl Drop for Cells {
     fn drop(self) {
-        let Cells {
-            bounds: _,
-            sector: _,
-            store: _store,
-            chests: _chests,
-            components: _components,
-            devices: _devices,
-        } = self;
+        let Cells { stored: _stored } = self;
     }
 }
 
 impl Cells {
-    ghost use Rattle.vx_cells.specs.SectorCells.{holds, only_air, cell_at, chest_at, is_chest, block_at, with_block, with_cell, with_slot, IsWhole, IsBlock, IsSlot};
+    ghost use Rattle.vx_cells.specs.SectorCells.{holds, only_air, cell_at, chest_at, is_chest, with_cell, with_slot, IsWhole, IsSlot};
 
-    /// The sector of that number, with nothing but air. It takes 16,384 or 65,536 bytes, and
-    /// about a quarter of that for marks.
+    /// The sector of that number, with nothing but air. It takes some hundred bytes.
     pub fn new(alloc: Global, bounds: Bounds, sector: u32) -> Result<Cells, AllocError>
         requires { sector < sector_count bounds }
         ensures { IfOk result (λ cells. cells ≡ only_air bounds sector) }
     {
-        let store = vec![in alloc; AIR; bounds.sector_cells() as usize]?;
-        let components = Marks::new(alloc, bounds.sector_cells())?;
-        let devices = Marks::new(alloc, bounds.sector_cells())?;
+        let stored = Stored::new(alloc, bounds, sector)?;
         Ok(Cells {
-            bounds,
-            sector,
-            store,
-            chests: Chests::new(alloc),
-            components,
-            devices,
+            stored: Arc::new(alloc, stored)?,
         })
     }
 
@@ -78,25 +53,21 @@ impl Cells {
     pub fn bounds(&self) -> Bounds
         ensures { result ≡ self.now.bounds }
     {
-        self.bounds
+        self.stored.bounds()
     }
 
     /// The number of the sector.
     pub fn sector(&self) -> u32
         ensures { result ≡ self.now.sector }
     {
-        self.sector
+        self.stored.sector()
     }
 
     /// Whether the position is of this sector.
-    #[tactic(auto, unfolding(crate::specs::SectorCells::holds))]
     pub fn holds(&self, p: Pos) -> bool
         ensures { result ≡ holds self.now p }
     {
-        match self.bounds.sector_of(p) {
-            Some(sector) => self.sector == sector,
-            None => false,
-        }
+        self.stored.holds(p)
     }
 
     /// What holds of every sector of cells: something stands at each of its positions, each chest
@@ -104,7 +75,7 @@ impl Cells {
     pub fn soundness(&self)
         ensures { IsWhole self.now }
     {
-        let _ = &self.store;
+        self.stored.soundness();
     }
 
     /// The cell at a position of this sector.
@@ -113,7 +84,7 @@ impl Cells {
         requires { holds self.now p ≡ true }
         ensures { result ≡ cell_at self.now p }
     {
-        decode(self.store[self.bounds.index_in_sector(p) as usize])
+        self.stored.get(p)
     }
 
     /// Whether dust lies at a position of this sector.
@@ -121,7 +92,7 @@ impl Cells {
         requires { holds self.now p ≡ true }
         ensures { result ≡ is_dust (cell_at self.now p) }
     {
-        is_dust(self.store[self.bounds.index_in_sector(p) as usize])
+        self.stored.has_dust(p)
     }
 
     /// Whether a conductor stands at a position of this sector.
@@ -129,25 +100,18 @@ impl Cells {
         requires { holds self.now p ≡ true }
         ensures { result ≡ conducts (cell_at self.now p) }
     {
-        conducts(self.store[self.bounds.index_in_sector(p) as usize])
+        self.stored.has_conductor(p)
     }
 
     /// Puts a cell down at a position of this sector, in place of what was there. A chest begins
-    /// empty; it alone takes memory.
+    /// empty. It takes memory where a copy shares the section, where the section has to go on to its
+    /// next form, and for chests and the first component of the sector.
     pub fn set(&mut self, p: Pos, cell: Cell) -> Result<(), AllocError>
         requires { holds self.old p ≡ true }
         ensures ok { OnOk result (self.new ≡ with_cell self.old p cell) }
         ensures err { OnErr result (self.new ≡ self.old) }
-        ensures always { is_chest cell ≡ false → IsOk result }
     {
-        let index = self.bounds.index_in_sector(p);
-        let was = self.store[index as usize];
-        let code = encode(cell);
-        self.chests.replace(index, is_chest(was), is_chest(code))?;
-        self.store[index as usize] = code;
-        self.components.set(index, is_component(code));
-        self.devices.set(index, is_device(code));
-        Ok(())
+        Arc::make_mut(&mut self.stored)?.set(p, cell)
     }
 
     /// The slots of the chest at a position of this sector, if there is one.
@@ -156,64 +120,39 @@ impl Cells {
         ensures slots { result ≡ chest_at self.now p }
         ensures each { IfSome result (All IsSlot) }
     {
-        self.chests.get(self.bounds.index_in_sector(p))
+        self.stored.chest(p)
     }
 
     /// Puts something else into a slot of the chest at a position of this sector: nothing, or 1 to
-    /// 64 of an item.
-    pub fn set_slot(&mut self, p: Pos, slot: u8, content: Slot)
+    /// 64 of an item. It takes memory where a copy shares the sector.
+    pub fn set_slot(&mut self, p: Pos, slot: u8, content: Slot) -> Result<(), AllocError>
         requires held { holds self.old p ≡ true }
         requires chest { is_chest (cell_at self.old p) ≡ true }
         requires slot { slot < 27 }
         requires content { IsSlot content }
-        ensures { self.new ≡ with_slot self.old p slot content }
+        ensures ok { OnOk result (self.new ≡ with_slot self.old p slot content) }
+        ensures err { OnErr result (self.new ≡ self.old) }
     {
-        let index = self.bounds.index_in_sector(p);
-        self.chests.set(index, slot, content);
+        Arc::make_mut(&mut self.stored)?.set_slot(p, slot, content);
+        Ok(())
     }
 
-    /// Puts down what stands at a position of another copy of this sector: its cell, with all that
-    /// a chest holds. A chest goes only where one stands, so that it takes no memory.
-    pub fn copy_at(&mut self, p: Pos, other: &Cells)
-        requires held { holds self.old p ≡ true }
-        requires bounds { other.now.bounds ≡ self.old.bounds }
-        requires sector { other.now.sector ≡ self.old.sector }
-        requires chest { is_chest (cell_at other.now p) ≡ true
-            → is_chest (cell_at self.old p) ≡ true }
-        ensures { self.new ≡ with_block self.old p (block_at other.now p) }
+    /// In which form the section of 16 by 16 by 16 cells is kept that holds the position: 1, one
+    /// cell for all; 2, up to sixteen different ones with four bits each; 3, a byte each. It takes
+    /// no memory.
+    pub fn form(&self, p: Pos) -> u8
+        requires { holds self.now p ≡ true }
+        ensures { (1 ≤ result) × (result ≤ 3) }
     {
-        other.soundness();
-        match other.chest(p) {
-            Some(slots) => self.fill(p, slots),
-            None => {
-                let _ = self.set(p, other.get(p));
-            }
-        }
+        self.stored.form(p)
     }
 
-    // Puts other things into all slots of the chest at a position of this sector.
-    fn fill(&mut self, p: Pos, slots: [Slot; SLOTS])
-        requires held { holds self.old p ≡ true }
-        requires chest { is_chest (cell_at self.old p) ≡ true }
-        requires block { IsBlock (record { cell = cell_at self.old p; slots = slots }) }
-        ensures { self.new
-            ≡ with_block self.old p (record { cell = cell_at self.old p; slots = slots }) }
-    {
-        let index = self.bounds.index_in_sector(p);
-        self.chests.fill(index, slots);
-    }
-
-    /// A copy of the sector.
+    /// A copy of the sector, which shares what it holds. It costs the same whatever that is.
     pub fn try_clone(&self) -> Result<Cells, AllocError>
         ensures { IfOk result (λ copy. copy ≡ self.now) }
     {
         Ok(Cells {
-            bounds: self.bounds,
-            sector: self.sector,
-            store: Vec::from_slice(*self.store.allocator(), &self.store)?,
-            chests: self.chests.try_clone()?,
-            components: self.components.try_clone()?,
-            devices: self.devices.try_clone()?,
+            stored: Arc::try_clone(&self.stored)?,
         })
     }
 
@@ -221,30 +160,27 @@ impl Cells {
     pub fn components(&self, alloc: Global) -> Result<Vec<Pos>, AllocError>
         ensures { IfOk result (λ found. found.items ≡ components_of self.now) }
     {
-        self.bounds.soundness();
-        marked_places(alloc, self.bounds, self.sector, &self.components)
+        self.stored.components(alloc)
     }
 
     /// The positions where a device stands, in order. It costs what stands there.
     pub fn devices(&self, alloc: Global) -> Result<Vec<Pos>, AllocError>
         ensures { IfOk result (λ found. found.items ≡ devices_of self.now) }
     {
-        self.bounds.soundness();
-        marked_places(alloc, self.bounds, self.sector, &self.devices)
+        self.stored.devices(alloc)
     }
 
     /// How many components of machines stand in this sector. No clause tells the number, since
     /// nothing but costs rests on it.
     pub fn component_count(&self) -> u32 {
-        self.components.count()
+        self.stored.component_count()
     }
 
     /// Whether a device stands in this sector. Where none was ever placed it costs a look.
     pub fn has_devices(&self) -> bool
         ensures { result ≡ nat_lt 0 (length (devices_of self.now)) }
     {
-        self.bounds.soundness();
-        self.devices.first_from(0).is_some()
+        self.stored.has_devices()
     }
 }
 
@@ -260,10 +196,7 @@ impl PartialEq for Cells {
     /// Whether both are the same sector of worlds of one size, with the same at each position,
     /// slots too.
     fn eq(&self, other: &Cells) -> bool {
-        if self.bounds != other.bounds || self.sector != other.sector {
-            return false;
-        }
-        self.store == other.store && self.chests.same(&other.chests)
+        self.stored.is_same(&other.stored)
     }
 }
 

@@ -41,8 +41,8 @@ impl Chests {
         }
     }
 
-    // An empty chest at that index, also where one stood.
-    fn put(&mut self, index: u32) -> Result<(), AllocError>
+    /// Puts an empty chest at that index, also where one stood.
+    pub fn put(&mut self, index: u32) -> Result<(), AllocError>
         ensures ok { OnOk result (Changes self.old self.new index (Some no_content)) }
         ensures err { OnErr result (self.new ≡ self.old) }
     {
@@ -52,29 +52,11 @@ impl Chests {
         }
     }
 
-    // No chest at that index.
-    fn remove(&mut self, index: u32)
+    /// Takes the chest at that index away, if there is one. It takes no memory.
+    pub fn remove(&mut self, index: u32)
         ensures { Changes self.old self.new index None }
     {
         self.slots.remove(&index);
-    }
-
-    /// What a cell that is put down at that index leaves there: an empty chest if it `is` one, and
-    /// none otherwise. `was` says whether the cell before it was a chest.
-    pub fn replace(&mut self, index: u32, was: bool, is: bool) -> Result<(), AllocError>
-        requires { was ≡ false → slots_of_chest self.old index ≡ None }
-        ensures ok { OnOk result
-            (Changes self.old self.new index (if is then Some no_content else None)) }
-        ensures err { OnErr result (self.new ≡ self.old) }
-        ensures always { is ≡ false → IsOk result }
-    {
-        if is {
-            return self.put(index);
-        }
-        if was {
-            self.remove(index);
-        }
-        Ok(())
     }
 
     /// Puts something else into a slot of the chest at that index.

@@ -1,6 +1,7 @@
 //! The cells of one sector of the world, and the chests in it; the map of all sectors.
 #![tactic(auto)]
 
+mod cell_marks;
 mod cells;
 mod chests;
 mod code;
@@ -8,7 +9,9 @@ mod frozen;
 mod laws;
 mod marked;
 mod puts;
+mod put_down;
 mod stack;
+mod stored;
 mod whole;
 
 pub use cells::Cells;
@@ -16,6 +19,6 @@ pub use code::is_same;
 pub use frozen::Frozen;
 pub use laws::{equal_is_the_same, other_blocks_stay, put_cell_is_read, set_block_is_read};
 pub use marked::marked_places;
-pub use puts::put_all;
+pub use puts::set_all;
 pub use stack::{MAX_COUNT, SLOTS, Slot, Stack};
 pub use whole::Whole;

@@ -11,20 +11,8 @@ use vx_block::Cell;
 use vx_geom::{Bounds, Pos};
 
 /// Puts these cells down one after another on the sectors of a world of this size, and leaves out
-/// those outside it. No chest is among them, so it takes no memory.
-pub fn put_all(bounds: Bounds, sectors: &mut [Cells], puts: &[(Pos, Cell)])
-    requires sectors { AreSectors bounds sectors.old }
-    requires chests { All (λ put. is_chest put.1 ≡ false) puts.now }
-    ensures put { record { sizes = bounds; sectors = sectors.new }
-        ≡ with_cells_on (record { sizes = bounds; sectors = sectors.old }) puts.now }
-    ensures placed { AreSectors bounds sectors.new }
-{
-    let _ = set_all(bounds, sectors, puts);
-}
-
-// Puts these cells down one after another, and leaves out those outside the world. Where memory is
-// wanted, the first of them may be put down; chests alone want it.
-pub(crate) fn set_all(
+/// those outside it. Where memory is wanted, the first of them may be put down.
+pub fn set_all(
     bounds: Bounds,
     sectors: &mut [Cells],
     cells: &[(Pos, Cell)],
@@ -32,7 +20,6 @@ pub(crate) fn set_all(
     requires { AreSectors bounds sectors.old }
     ensures set { OnOk result (record { sizes = bounds; sectors = sectors.new }
         ≡ with_cells_on (record { sizes = bounds; sectors = sectors.old }) cells.now) }
-    ensures always { All (λ put. is_chest put.1 ≡ false) cells.now → IsOk result }
     ensures placed { AreSectors bounds sectors.new }
 {
     for (p, cell) in cells {
@@ -41,8 +28,8 @@ pub(crate) fn set_all(
     Ok(())
 }
 
-// Puts a cell down at a position, in place of what was there before; a chest begins empty, and it
-// alone wants memory. `Ok(false)` outside the world.
+// Puts a cell down at a position, in place of what was there before; a chest begins empty.
+// `Ok(false)` outside the world.
 #[tactic(auto, unfolding(crate::specs::Wholes::with_cell_on))]
 pub(crate) fn set(
     bounds: Bounds,
@@ -57,7 +44,6 @@ pub(crate) fn set(
     ensures outside { result ≡ Ok false
         → with_cell_on (record { sizes = bounds; sectors = sectors.old }) p cell ≡ None }
     ensures kept { result ≢ Ok true → sectors.new ≡ sectors.old }
-    ensures always { is_chest cell ≡ false → IsOk result }
     ensures placed { AreSectors bounds sectors.new }
 {
     let Some(number) = bounds.sector_of(p) else {

@@ -75,13 +75,12 @@ impl Whole {
         })
     }
 
-    /// Puts a cell down at a position, in place of what was there before; a chest begins empty, and
-    /// it alone takes memory. `Ok(false)` outside the world.
+    /// Puts a cell down at a position, in place of what was there before; a chest begins empty.
+    /// `Ok(false)` outside the world.
     pub fn set(&mut self, p: Pos, cell: Cell) -> Result<bool, AllocError>
         ensures set { result ≡ Ok true → with_cell_on self.old p cell ≡ Some self.new }
         ensures outside { result ≡ Ok false → with_cell_on self.old p cell ≡ None }
         ensures kept { result ≢ Ok true → self.new ≡ self.old }
-        ensures always { is_chest cell ≡ false → IsOk result }
     {
         set(self.bounds, &mut self.sectors, p, cell)
     }

@@ -1,4 +1,4 @@
-ghost use Rattle.std.specs.Prelude.{◌≡◌, ◌*◌, ◌%◌, ◌<◌, ℕ, false, nat_eq, length, if◌then◌else◌, IfOk};
+ghost use Rattle.std.specs.Prelude.{◌≡◌, ◌*◌, ◌/◌, ◌%◌, ◌<◌, ℕ, false, nat_eq, length, replicate, if◌then◌else◌, IfOk};
 ghost use Rattle.vx_marks.specs.Marks.{is_marked, IsFirstMarked};
 
 use crate::bits::Bits;
@@ -32,8 +32,9 @@ impl Marks {
     /// Room for so many indices, none of which is marked.
     pub fn new(alloc: Global, count: u32) -> Result<Marks, AllocError>
         requires { count % 64 ≡ 0 }
-        ensures { IfOk result (λ marks. (64 * length marks ≡ count)
+        ensures none { IfOk result (λ marks. (64 * length marks ≡ count)
             × ((i : ℕ) → is_marked marks i ≡ false)) }
+        ensures blank { IfOk result (λ marks. marks ≡ replicate (count / 64) 0) }
     {
         let words = count / 64;
         Ok(Marks {

@@ -10,8 +10,8 @@ invariant_of-result c =
       none = λ empty. none_marked (c.args.count / 64);
     })
 
-pub returns : goal.returns
-returns c = rw c.in_ok-new.ensures (
+pub returns-clause-none : goal.returns-clause-none
+returns-clause-none c = rw c.in_ok-new.ensures (
   omega (arith, length-replicate {A = ℕ} (c.args.count / 64) 0, c.requires),
   none_marked (c.args.count / 64),
 )

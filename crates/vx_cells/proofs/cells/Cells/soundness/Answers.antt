@@ -1,5 +1,0 @@
-use Rattle.vx_cells.proofs.StoredBlocks.{stored-whole}
-use Rattle.vx_cells.proofs.cells.Cells.soundness.Goals as goal
-
-pub returns : goal.returns
-returns c = let s = c.self.inside in rw (← c.self.view_is) (stored-whole s.bounds s.sector s.store.items s.chests c.self.invariant.stored)

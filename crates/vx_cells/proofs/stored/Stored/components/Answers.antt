@@ -1,0 +1,20 @@
+use Rattle.std.proofs.Common.{◌≡◌, IfOk, subst, ◌∙◌}
+use Rattle.vx_block.specs.Components.{is_component}
+use Rattle.vx_cells.specs.Listed.{components_of}
+use Rattle.vx_cells.proofs.StoredMarks.{marked_are}
+use Rattle.vx_cells.proofs.stored.Stored.components.Goals as goal
+
+pub places-requires-clause-sector : goal.places-requires-clause-sector
+places-requires-clause-sector c = c.self.invariant.sector_low
+
+pub places-requires-clause-all : goal.places-requires-clause-all
+places-requires-clause-all c = c.self.invariant.components.long ∙ c.self.invariant.stored.whole
+
+pub returns : goal.returns
+unfolding components_of
+returns c =
+    let s = c.self.inside in
+    rw (← c.self.view_is) (subst (λ all. IfOk c.places.result (λ found. found.items ≡ all))
+    (marked_are s.bounds s.sector s.store s.chests c.soundness.ensures c.self.invariant.sector_low
+    is_component s.components.words c.self.invariant.components)
+    c.places.ensures)

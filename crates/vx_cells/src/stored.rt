@@ -1,0 +1,253 @@
+ghost use Rattle.std.specs.Prelude.{◌≡◌, ◌<◌, ◌≤◌, nat_lt, length, true, IfOk, OnOk, OnErr, IfSome};
+ghost use Rattle.std.specs.Bool.{Decides};
+ghost use Rattle.std.specs.List.{All};
+ghost use Rattle.vx_geom.specs.Sizes.{sector_count};
+ghost use Rattle.vx_block.specs.Components.{is_dust, is_component, is_device};
+ghost use Rattle.vx_block.specs.Conductors.{conducts};
+ghost use Rattle.vx_cells.specs.Codes.{code_count, cell_of};
+ghost use Rattle.vx_cells.specs.Listed.{components_of, devices_of};
+
+use crate::cell_marks::CellMarks;
+use crate::chests::Chests;
+use crate::code::{AIR, conducts, decode, encode, is_component, is_device, is_dust};
+use crate::put_down::put_down;
+use crate::stack::{SLOTS, Slot};
+use std::alloc::{AllocError, Global};
+use std::marker::Model;
+use vx_block::Cell;
+use vx_geom::{Bounds, Pos};
+use vx_section::Sections;
+
+/// What a sector holds, as copies of it share it: the cells as bytes, section by section, and the
+/// chests beside them, by their indices, with marks where components of machines stand, and which of
+/// them are devices.
+#[derive(Drop)]
+pub(crate) struct Stored {
+    alloc: Global,
+    bounds: Bounds,
+    sector: u32,
+    store: Sections,
+    chests: Chests,
+    components: CellMarks,
+    devices: CellMarks,
+}
+
+impl Model for Stored {
+    ghost use Rattle.vx_cells.specs.SectorCells.{SectorCells};
+    ghost use Rattle.vx_cells.specs.Stored.{stored, IsKept};
+
+    ghost Value = { SectorCells };
+
+    ghost view = { λ a. stored a.bounds a.sector a.store a.chests };
+
+    ghost invariant = { λ a. IsKept a.bounds a.sector a.store a.chests a.components.words
+        a.devices.words };
+}
+
+impl Stored {
+    ghost use Rattle.vx_cells.specs.SectorCells.{holds, only_air, cell_at, chest_at, is_chest, with_cell, with_slot, IsWhole, IsSlot};
+
+    /// The sector of that number, with nothing but air.
+    pub fn new(alloc: Global, bounds: Bounds, sector: u32) -> Result<Stored, AllocError>
+        requires { sector < sector_count bounds }
+        ensures { IfOk result (λ cells. cells ≡ only_air bounds sector) }
+    {
+        let count = bounds.sector_cells();
+        let store = Sections::new(alloc, count > NARROW, AIR)?;
+        Ok(Stored {
+            alloc,
+            bounds,
+            sector,
+            store,
+            chests: Chests::new(alloc),
+            components: CellMarks::new(count),
+            devices: CellMarks::new(count),
+        })
+    }
+
+    /// The bounds of the world that the sector is of.
+    pub fn bounds(&self) -> Bounds
+        ensures { result ≡ self.now.bounds }
+    {
+        self.bounds
+    }
+
+    /// The number of the sector.
+    pub fn sector(&self) -> u32
+        ensures { result ≡ self.now.sector }
+    {
+        self.sector
+    }
+
+    /// Whether the position is of this sector.
+    #[tactic(auto, unfolding(crate::specs::SectorCells::holds))]
+    pub fn holds(&self, p: Pos) -> bool
+        ensures { result ≡ holds self.now p }
+    {
+        match self.bounds.sector_of(p) {
+            Some(sector) => self.sector == sector,
+            None => false,
+        }
+    }
+
+    /// What holds of every sector of cells.
+    pub fn soundness(&self)
+        ensures { IsWhole self.now }
+    {
+        let _ = &self.store;
+    }
+
+    /// The cell at a position of this sector.
+    #[inline(always)]
+    pub fn get(&self, p: Pos) -> Cell
+        requires { holds self.now p ≡ true }
+        ensures { result ≡ cell_at self.now p }
+    {
+        decode(self.code(p))
+    }
+
+    /// Whether dust lies at a position of this sector.
+    #[inline(always)]
+    pub fn has_dust(&self, p: Pos) -> bool
+        requires { holds self.now p ≡ true }
+        ensures { result ≡ is_dust (cell_at self.now p) }
+    {
+        is_dust(self.code(p))
+    }
+
+    /// Whether a conductor stands at a position of this sector.
+    #[inline(always)]
+    pub fn has_conductor(&self, p: Pos) -> bool
+        requires { holds self.now p ≡ true }
+        ensures { result ≡ conducts (cell_at self.now p) }
+    {
+        conducts(self.code(p))
+    }
+
+    // The byte of the cell at a position of this sector.
+    #[inline(always)]
+    fn code(&self, p: Pos) -> u8
+        requires { holds self.now p ≡ true }
+        ensures cell { cell_of result ≡ cell_at self.now p }
+        ensures within { result < code_count }
+    {
+        self.store.get(self.bounds.index_in_sector(p))
+    }
+
+    /// Puts a cell down at a position of this sector, in place of what was there. A chest begins
+    /// empty.
+    pub fn set(&mut self, p: Pos, cell: Cell) -> Result<(), AllocError>
+        requires { holds self.old p ≡ true }
+        ensures ok { OnOk result (self.new ≡ with_cell self.old p cell) }
+        ensures err { OnErr result (self.new ≡ self.old) }
+    {
+        let index = self.bounds.index_in_sector(p);
+        let code = encode(cell);
+        // Before the cell: where that is put down, its marks have room.
+        room_for(self.alloc, &mut self.components, is_component(code))?;
+        room_for(self.alloc, &mut self.devices, is_device(code))?;
+        put_down(&mut self.store, &mut self.chests, index, code)?;
+        self.components.set(index, is_component(code));
+        self.devices.set(index, is_device(code));
+        Ok(())
+    }
+
+    /// The slots of the chest at a position of this sector, if there is one.
+    pub fn chest(&self, p: Pos) -> Option<[Slot; SLOTS]>
+        requires { holds self.now p ≡ true }
+        ensures slots { result ≡ chest_at self.now p }
+        ensures each { IfSome result (All IsSlot) }
+    {
+        self.chests.get(self.bounds.index_in_sector(p))
+    }
+
+    /// Puts something else into a slot of the chest at a position of this sector: nothing, or 1 to
+    /// 64 of an item.
+    pub fn set_slot(&mut self, p: Pos, slot: u8, content: Slot)
+        requires held { holds self.old p ≡ true }
+        requires chest { is_chest (cell_at self.old p) ≡ true }
+        requires slot { slot < 27 }
+        requires content { IsSlot content }
+        ensures { self.new ≡ with_slot self.old p slot content }
+    {
+        let index = self.bounds.index_in_sector(p);
+        self.chests.set(index, slot, content);
+    }
+
+    /// The form of the section that holds the position.
+    pub fn form(&self, p: Pos) -> u8
+        requires { holds self.now p ≡ true }
+        ensures { (1 ≤ result) × (result ≤ 3) }
+    {
+        self.store.form(self.bounds.index_in_sector(p))
+    }
+
+    /// The positions where a component of machines stands, in order.
+    pub fn components(&self, alloc: Global) -> Result<Vec<Pos>, AllocError>
+        ensures { IfOk result (λ found. found.items ≡ components_of self.now) }
+    {
+        self.bounds.soundness();
+        self.components.places(alloc, self.bounds, self.sector)
+    }
+
+    /// The positions where a device stands, in order.
+    pub fn devices(&self, alloc: Global) -> Result<Vec<Pos>, AllocError>
+        ensures { IfOk result (λ found. found.items ≡ devices_of self.now) }
+    {
+        self.bounds.soundness();
+        self.devices.places(alloc, self.bounds, self.sector)
+    }
+
+    /// How many components of machines stand in this sector.
+    pub fn component_count(&self) -> u32 {
+        self.components.count()
+    }
+
+    /// Whether a device stands in this sector.
+    pub fn has_devices(&self) -> bool
+        ensures { result ≡ nat_lt 0 (length (devices_of self.now)) }
+    {
+        self.bounds.soundness();
+        self.devices.has_any()
+    }
+
+    /// Whether both are the same sector of worlds of one size, with the same at each position.
+    pub fn is_same(&self, other: &Stored) -> bool
+        ensures { Decides result (self.now ≡ other.now) }
+    {
+        if self.bounds != other.bounds || self.sector != other.sector {
+            return false;
+        }
+        self.store.same(&other.store) && self.chests.same(&other.chests)
+    }
+}
+
+impl Clone for Stored {
+    ghost is_clone = { λ stored copy. copy ≡ stored };
+
+    fn clone(&self) -> Result<Stored, AllocError> {
+        Ok(Stored {
+            alloc: self.alloc,
+            bounds: self.bounds,
+            sector: self.sector,
+            store: self.store.clone()?,
+            chests: self.chests.try_clone()?,
+            components: self.components.clone()?,
+            devices: self.devices.clone()?,
+        })
+    }
+}
+
+// How many cells a sector of one chunk has.
+const NARROW: u32 = 16_384;
+
+// Makes room for a mark, where there is one to be set.
+fn room_for(alloc: Global, marks: &mut CellMarks, marked: bool) -> Result<(), AllocError>
+    ensures same { marks.new.words ≡ marks.old.words }
+    ensures room { OnOk result (marked ≡ true → marks.new.has_room ≡ true) }
+{
+    if marked {
+        marks.make_room(alloc)?;
+    }
+    Ok(())
+}

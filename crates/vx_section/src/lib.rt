@@ -1,0 +1,4 @@
+//! A stand-in.
+#![tactic(auto)]
+mod sections;
+pub use sections::Sections;

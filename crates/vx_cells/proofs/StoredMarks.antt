@@ -1,5 +1,5 @@
 -- Marks beside the store: which cells they tell.
-use Rattle.std.proofs.Common.{◌≡◌, ℕ, ◌*◌, ◌<◌, ◌≤◌, Bool, false, if◌then◌else◌, List, length, get_or, set, replicate, nat_eq, inl, inr, ap, sym, ◌∙◌, arith}
+use Rattle.std.proofs.Common.{◌≡◌, ℕ, ◌*◌, ◌/◌, ◌%◌, ◌<◌, ◌≤◌, Bool, false, if◌then◌else◌, List, length, get_or, set, replicate, nat_eq, inl, inr, ap, sym, ◌∙◌, arith}
 use Rattle.std.proofs.lemmas.Bool.{cases_lt, cases_eq, eq-eqb, ne_eqb}
 use Rattle.std.proofs.lemmas.List.{get_or_past, get_or-set_same, get_or-set_other, length-set, length-replicate}
 use Rattle.std.specs.List.{filter}
@@ -8,7 +8,7 @@ use Rattle.vx_block.specs.declared.cell.Cell.TheVariants.{Air}
 use Rattle.vx_geom.specs.Places.{positions}
 use Rattle.vx_geom.specs.Sizes.{Sizes, AreSizes, sector_count, sector_cells, index_in_sector}
 use Rattle.vx_marks.specs.Marks.{is_marked}
-use Rattle.vx_marks.proofs.Marking.{zero_at}
+use Rattle.vx_marks.proofs.Marking.{zero_at, none_marked}
 use Rattle.vx_cells.specs.Chests.{ChestData}
 use Rattle.vx_cells.specs.Codes.{cell_of}
 use Rattle.vx_cells.specs.Listed.{marked_places}
@@ -29,6 +29,14 @@ fresh_marks test n codes marks not_air zeros long none = record {
       ∙ ap (λ code. test (cell_of code)) (zero_at n i 0) ∙ not_air
       );
 }
+
+-- nor without room for marks
+pub blank_marks : (test : Cell → Bool) (n : ℕ) (codes words : List ℕ) → test Air ≡ false
+    → codes ≡ replicate n 0 → n % 64 ≡ 0 → words ≡ replicate (n / 64) 0 → AreMarks test codes words
+blank_marks test n codes words not_air zeros whole blank =
+    fresh_marks test n codes words not_air zeros
+    (rw blank (omega (arith, length-replicate {A = ℕ} (n / 64) 0, whole)))
+    (λ i. rw blank (none_marked (n / 64) i))
 
 -- a byte changes, and the mark at its index with it
 pub marks_set : (test : Cell → Bool) (codes marks new : List ℕ) (k code : ℕ) (marked : Bool)

@@ -52,6 +52,7 @@ impl Stored {
         requires { sector < sector_count bounds }
         ensures { IfOk result (λ cells. cells ≡ only_air bounds sector) }
     {
+        bounds.soundness();
         let count = bounds.sector_cells();
         let store = Sections::new(alloc, count > NARROW, AIR)?;
         Ok(Stored {

@@ -1,2 +1,3 @@
 pub mod Forms
-pub mod Stores
+pub mod Kept
+pub mod Indices

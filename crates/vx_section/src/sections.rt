@@ -1,57 +1,79 @@
-ghost use Rattle.std.specs.Prelude.{◌≡◌, ◌<◌, ◌≤◌, ◌*◌, ◌↔◌, length, slice_index_or, slice_set, IsTrue, IfOk, OnOk, OnErr};
+ghost use Rattle.std.specs.Prelude.{◌≡◌, ◌<◌, ◌≤◌, ◌*◌, ◌↔◌, ℕ, length, slice_index_or, slice_set, IsTrue, IfOk, OnOk, OnErr};
 ghost use Rattle.vx_section.specs.Forms.{filled};
-ghost use Rattle.vx_section.specs.Stores.{section_count};
+ghost use Rattle.vx_section.specs.Indices.{section_of, place_of, section_count, nothing, AreSections, AreSame};
 
+use crate::section::Section;
 use std::alloc::{AllocError, Global};
 use std::marker::Model;
 
+/// The bytes of a sector of 16 by 64 by 16 or of 32 by 64 by 32 cells, in the order of their
+/// indices, kept section by section. Copies share each section until one of them changes it.
 #[derive(Drop)]
 pub struct Sections {
-    bytes: Vec<u8>,
+    wide: bool,
+    sections: Vec<Section>,
 }
 
 impl Model for Sections {
     ghost use Rattle.std.specs.Prelude.{List, ℕ};
+    ghost use Rattle.vx_section.specs.Indices.{bytes_of, AreSections};
 
     ghost Value = { List ℕ };
 
-    ghost view = { λ s. s.bytes.items };
+    ghost view = { λ s. bytes_of s.wide s.sections.items };
+
+    ghost invariant = { λ s. AreSections s.wide s.sections.items };
 }
 
 impl Sections {
+    /// That byte at each index, in a wide sector or in one of sixteen columns a side.
     pub fn new(alloc: Global, wide: bool, byte: u8) -> Result<Sections, AllocError>
         ensures { IfOk result (λ s. s ≡ filled (4096 * section_count wide) byte) }
     {
-        Err(AllocError)
+        let sections = blank(alloc, section_count(wide), byte)?;
+        Ok(Sections { wide, sections })
     }
 
+    /// The byte of an index.
+    #[inline(always)]
     pub fn get(&self, index: u32) -> u8
         requires { index < length self.now }
         ensures { result ≡ slice_index_or self.now index 0 }
     {
-        self.bytes[index as usize]
+        let section = section_of(self.wide, index) as usize;
+        let place = place_of(self.wide, index);
+        self.sections[section].get(place)
     }
 
+    /// Puts a byte down at an index. It takes memory where the section changes its form, or is
+    /// shared by a copy.
     pub fn set(&mut self, index: u32, byte: u8) -> Result<(), AllocError>
         requires { index < length self.old }
         ensures ok { OnOk result (self.new ≡ slice_set self.old index byte) }
         ensures err { OnErr result (self.new ≡ self.old) }
     {
-        self.bytes[index as usize] = byte;
-        Ok(())
+        let alloc = *self.sections.allocator();
+        let section = section_of(self.wide, index) as usize;
+        let place = place_of(self.wide, index);
+        self.sections[section].set(alloc, place, byte)
     }
 
+    /// Whether both have the same byte at each index, in whatever forms.
     pub fn same(&self, other: &Sections) -> bool
         ensures { IsTrue result ↔ self.now ≡ other.now }
     {
-        self.bytes == other.bytes
+        if self.wide != other.wide {
+            return false;
+        }
+        all_same(&self.sections, &other.sections)
     }
 
+    /// The form of the section that holds an index: 1, 2 or 3.
     pub fn form(&self, index: u32) -> u8
         requires { index < length self.now }
         ensures { (1 ≤ result) × (result ≤ 3) }
     {
-        1
+        self.sections[section_of(self.wide, index) as usize].form()
     }
 }
 
@@ -59,6 +81,74 @@ impl Clone for Sections {
     ghost is_clone = { λ sections copy. copy ≡ sections };
 
     fn clone(&self) -> Result<Sections, AllocError> {
-        Err(AllocError)
+        let alloc = *self.sections.allocator();
+        let mut sections = Vec::with_capacity(alloc, self.sections.len())?;
+        for section in &self.sections {
+            sections.push(section.clone()?)?;
+        }
+        Ok(Sections {
+            wide: self.wide,
+            sections,
+        })
     }
+}
+
+// The section of an index.
+#[inline(always)]
+fn section_of(wide: bool, index: u32) -> u32
+    requires { index < 4096 * section_count wide }
+    ensures value { result ≡ section_of wide index }
+    ensures within { result < section_count wide }
+{
+    if wide {
+        index / 16384 * 4 + index / 512 % 2 * 2 + index / 16 % 2
+    } else {
+        index / 4096
+    }
+}
+
+// The place of an index in its section.
+#[inline(always)]
+fn place_of(wide: bool, index: u32) -> u32
+    ensures value { result ≡ place_of wide index }
+    ensures within { result < 4096 }
+{
+    if wide {
+        index / 1024 % 16 * 256 + index / 32 % 16 * 16 + index % 16
+    } else {
+        index % 4096
+    }
+}
+
+// How many sections there are.
+fn section_count(wide: bool) -> usize
+    ensures { result ≡ section_count wide }
+{
+    if wide { 16 } else { 4 }
+}
+
+// So many sections of that byte.
+fn blank(alloc: Global, count: usize, byte: u8) -> Result<Vec<Section>, AllocError>
+    ensures count { IfOk result (λ ss. length ss.items ≡ count) }
+    ensures each { IfOk result (λ ss. (k : ℕ) → k < count
+        → (slice_index_or ss.items k nothing).bytes ≡ filled 4096 byte) }
+{
+    let mut sections = Vec::with_capacity(alloc, count)?;
+    for _ in 0..count {
+        sections.push(Section::new(byte))?;
+    }
+    Ok(sections)
+}
+
+// Whether the sections of two lists have the same bytes, one by one.
+fn all_same(mine: &[Section], its: &[Section]) -> bool
+    requires { length mine.now ≡ length its.now }
+    ensures { IsTrue result ↔ AreSame mine.now its.now }
+{
+    for k in 0..mine.len() {
+        if !mine[k].same(&its[k]) {
+            return false;
+        }
+    }
+    true
 }

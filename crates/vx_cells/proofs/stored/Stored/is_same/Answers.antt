@@ -20,7 +20,7 @@ returns-then-same c =
     let sizes = same-sizes s.bounds o.bounds c.if-ne.ensures in
     let codes = c.same.ensures.0 c.if-same.true in
     rw (← c.self.view_is) (rw (← c.other.view_is)
-    (same-stored s.bounds o.bounds s.sector o.sector s.store o.store s.chests o.chests c.same-2.result c.self.invariant.stored c.other.invariant.stored sizes c.if-self-other.false codes c.same-2.ensures))
+    (same-stored s.bounds o.bounds s.sector o.sector s.store o.store s.chests o.chests c.same-then-same.result c.self.invariant.stored c.other.invariant.stored sizes c.if-self-other.false codes c.same-then-same.ensures))
 
 pub returns-else-same : goal.returns-else-same
 returns-else-same c =

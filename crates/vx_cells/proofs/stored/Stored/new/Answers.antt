@@ -1,28 +1,30 @@
-use Rattle.std.proofs.Common.{refl, ◌∙◌, sym}
+use Rattle.std.proofs.Common.{◌≡◌, ◌/◌, replicate, refl, ap, ◌∙◌}
 use Rattle.vx_block.specs.Components.{is_device, is_component}
+use Rattle.vx_geom.specs.Sizes.{sector_cells}
+use Rattle.vx_cells.proofs.Sectioned.{whole_words, all_alike}
 use Rattle.vx_cells.proofs.StoredBlocks.{stored-fresh, fresh-stored}
-use Rattle.vx_cells.proofs.StoredMarks.{fresh_marks}
+use Rattle.vx_cells.proofs.StoredMarks.{blank_marks}
 use Rattle.vx_cells.proofs.stored.Stored.new.Goals as goal
 
 pub invariant_of-result : goal.invariant_of-result
 invariant_of-result c =
-    let codes = c.in_ok-store.ensures.items_if_clones_equal (λ y e. e) in
-    let store = c.in_ok-store.store.items in
-    let n = c.sector_cells.result in
-    let count = sym c.sector_cells.ensures in
-    let components = c.in_ok-components.ensures in
-    let devices = c.in_ok-devices.ensures in
+    let v = c.args.bounds in
+    let n = sector_cells v in
+    let store = c.in_ok-store.store in
+    let count = c.sector_cells-count.ensures in
+    let codes = all_alike v c.soundness.ensures _ count store 0 c.in_ok-store.ensures in
+    let whole = whole_words v c.soundness.ensures in
     record {
       sector_low = c.requires;
-      stored = stored-fresh c.args.bounds n store c.new-3.result codes c.new-3.ensures c.sector_cells.ensures;
-      components = fresh_marks is_component n store c.in_ok-components.components refl codes
-          (components.0 ∙ c.sector_cells-2.ensures ∙ count) components.1;
-      devices = fresh_marks is_device n store c.in_ok-devices.devices refl codes
-          (devices.0 ∙ c.sector_cells-3.ensures ∙ count) devices.1;
+      stored = stored-fresh v n store c.new-2.result codes c.new-2.ensures refl;
+      components = blank_marks is_component n store c.new-3.result.words refl codes whole
+          (c.new-3.ensures ∙ ap (λ k. replicate (k / 64) 0) count);
+      devices = blank_marks is_device n store c.new-4.result.words refl codes whole
+          (c.new-4.ensures ∙ ap (λ k. replicate (k / 64) 0) count);
     }
 
 pub returns : goal.returns
 returns c =
-    let codes = c.in_ok-store.ensures.items_if_clones_equal (λ y e. e) in
-    fresh-stored c.args.bounds c.args.sector c.sector_cells.result c.in_ok-store.store.items c.new-3.result
-    codes c.new-3.ensures c.sector_cells.ensures
+    let v = c.args.bounds in
+    let codes = all_alike v c.soundness.ensures _ c.sector_cells-count.ensures c.in_ok-store.store 0 c.in_ok-store.ensures in
+    fresh-stored v c.args.sector (sector_cells v) c.in_ok-store.store c.new-2.result codes c.new-2.ensures refl

@@ -1,0 +1,6 @@
+pub mod Pairing
+pub mod Filled
+pub mod Admitting
+pub mod Widening
+pub mod Storing
+pub mod Comparing

@@ -1,0 +1,39 @@
+-- The bytes of a sector over its sections, in the order of their indices.
+use Rattle.std.specs.Prelude.{◌≡◌, ℕ, ◌+◌, ◌*◌, ◌/◌, ◌%◌, ◌<◌, Bool, List, [], length, map, slice_index_or, if◌then◌else◌}
+use Rattle.std.specs.List.{range_with_len}
+use Rattle.vx_section.specs.Forms.{SectionData}
+
+-- the section of an index, where a sector has 16 columns a side, or 32
+abbrev pub section_of : Bool → ℕ → ℕ
+section_of wide i = if wide then i / 16384 * 4 + i / 512 % 2 * 2 + i / 16 % 2 else i / 4096
+
+-- the place in it
+abbrev pub place_of : Bool → ℕ → ℕ
+place_of wide i = if wide then i / 1024 % 16 * 256 + i / 32 % 16 * 16 + i % 16 else i % 4096
+
+-- how many sections there are
+abbrev pub section_count : Bool → ℕ
+section_count wide = if wide then 16 else 4
+
+-- no section
+abbrev pub nothing : SectionData
+nothing = record { bytes = []; form = 0; palette = [] }
+
+-- the byte of an index
+unfoldable pub byte_at : Bool → List SectionData → ℕ → ℕ
+byte_at wide sections i =
+    slice_index_or (slice_index_or sections (section_of wide i) nothing).bytes (place_of wide i) 0
+
+-- the bytes in the order of their indices
+unfoldable pub bytes_of : Bool → List SectionData → List ℕ
+bytes_of wide sections = map (byte_at wide sections) (range_with_len 0 (4096 * length sections))
+
+-- all sections are there, with a byte at each place
+pub record AreSections (wide : Bool) (sections : List SectionData) : Type 0 where
+  pub count : length sections ≡ section_count wide
+  pub long : (k : ℕ) → k < length sections → length (slice_index_or sections k nothing).bytes ≡ 4096
+
+-- sections with the same bytes, one by one
+abbrev pub AreSame : List SectionData → List SectionData → Type 0
+AreSame ss ts = (k : ℕ) → k < length ss
+    → (slice_index_or ss k nothing).bytes ≡ (slice_index_or ts k nothing).bytes

@@ -1,12 +1,11 @@
 -- Positions of copies of a sector, and what stands there.
-use Rattle.std.proofs.Common.{◌≡◌, Bool, true, false, List, [], ◌∷◌, length, replicate, Option, Some, None, if◌then◌else◌, refl, sym, ap, ◌∙◌, subst, inl, inr, arith}
+use Rattle.std.proofs.Common.{◌≡◌, true, length, refl, sym, subst, inl, inr, arith}
 use Rattle.std.proofs.lemmas.Bool.{cases_lt}
 use Rattle.std.proofs.Math.ListN.{get_or-eq_default}
 use Rattle.vx_block.specs.declared.cell.Cell.TheVariants.{Air}
 use Rattle.vx_geom.specs.declared.pos.Pos.{Pos}
 use Rattle.vx_geom.specs.Sizes.{index_in_sector}
-use Rattle.vx_cells.specs.declared.stack.Stack.{Stack}
-use Rattle.vx_cells.specs.SectorCells.{SectorCells, Block, IsBlock, IsWhole, is_chest, placed, holds, block_at}
+use Rattle.vx_cells.specs.SectorCells.{SectorCells, IsBlock, IsWhole, placed, holds, block_at}
 
 -- a position of a sector is one of each copy of it
 pub held_too : (c d : SectorCells) (p : Pos) → d.bounds ≡ c.bounds → d.sector ≡ c.sector → holds c p ≡ true → holds d p ≡ true

@@ -10,11 +10,11 @@ use Rattle.vx_block.specs.declared.cell.Cell.TheVariants.{Air}
 use Rattle.vx_geom.specs.declared.pos.Pos.{Pos}
 use Rattle.vx_geom.specs.Sizes.{Sizes, sector_cells, index_in_sector}
 use Rattle.vx_cells.specs.declared.stack.Stack.{Stack}
-use Rattle.vx_cells.specs.Chests.{begun, refilled, Slots, ChestData, slots_of_chest, no_content, Changes, SameSlots}
+use Rattle.vx_cells.specs.Chests.{begun, refilled, Slots, ChestData, slots_of_chest, Changes, SameSlots}
 use Rattle.vx_cells.specs.CellsLaws.{sizes_decided}
 use Rattle.vx_cells.specs.Codes.{code_count, cell_of}
 use Rattle.vx_cells.specs.SameCells.{same_sizes}
-use Rattle.vx_cells.specs.SectorCells.{IsSlot, IsBlock, is_chest, placed, block_at, cell_at, chest_at, with_block, with_cell, with_content, with_slot}
+use Rattle.vx_cells.specs.SectorCells.{IsSlot, is_chest, placed, block_at, cell_at, chest_at, with_block, with_cell, with_content, with_slot}
 use Rattle.vx_cells.specs.Stored.{block_of, blocks_from, stored, IsBeside, IsStored}
 use Rattle.vx_cells.proofs.StoredBlocks.{block-at, blocks-changed, stored-set, same-slots, same-blocks}
 

@@ -1,5 +1,5 @@
 -- Marks without room: nothing is marked, and nothing is found.
-use Rattle.std.proofs.Common.{◌≡◌, ℕ, ◌*◌, ◌/◌, ◌<◌, ◌≤◌, Bool, true, false, List, [], length, replicate, nat_eq, nat_lt, if◌then◌else◌, Option, None, refl, ap, sym, ◌∙◌, arith, true≢false}
+use Rattle.std.proofs.Common.{◌≡◌, ℕ, ◌*◌, ◌/◌, ◌<◌, Bool, true, false, List, [], length, replicate, nat_eq, nat_lt, if◌then◌else◌, Option, None, refl, ap, sym, ◌∙◌, arith, true≢false}
 use Rattle.vx_geom.specs.Sizes.{Sizes, AreSizes, sector_count, sector_cells}
 use Rattle.vx_marks.specs.Marks.{is_marked}
 use Rattle.vx_marks.proofs.Marking.{none_marked}

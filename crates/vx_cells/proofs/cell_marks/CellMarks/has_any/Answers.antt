@@ -1,5 +1,4 @@
-use Rattle.std.proofs.Common.{◌≡◌, ◌*◌, length, ap, sym, ◌∙◌, subst, nat_lt}
-use Rattle.vx_geom.specs.Sizes.{sector_cells}
+use Rattle.std.proofs.Common.{◌≡◌, ◌*◌, length, ap, sym, ◌∙◌, nat_lt}
 use Rattle.vx_cells.specs.CellMarks.{CellMarksData, marks_data}
 use Rattle.vx_cells.specs.Listed.{marked_places}
 use Rattle.vx_cells.proofs.Listing.{some_marked}

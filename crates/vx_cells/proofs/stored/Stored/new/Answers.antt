@@ -1,4 +1,4 @@
-use Rattle.std.proofs.Common.{◌≡◌, ◌/◌, replicate, refl, ap, ◌∙◌}
+use Rattle.std.proofs.Common.{◌/◌, replicate, refl, ap, ◌∙◌}
 use Rattle.vx_block.specs.Components.{is_device, is_component}
 use Rattle.vx_geom.specs.Sizes.{sector_cells}
 use Rattle.vx_cells.proofs.Sectioned.{whole_words, all_alike}

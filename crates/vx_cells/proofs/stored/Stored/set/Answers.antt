@@ -1,8 +1,8 @@
-use Rattle.std.proofs.Common.{◌≡◌, ◌<◌, length, Result, Ok, Err, OnErr, refl, sym, ap, subst, ◌∙◌, arith}
+use Rattle.std.proofs.Common.{◌<◌, length, Result, Ok, Err, OnErr, refl, sym, ap, subst, ◌∙◌, arith}
 use Rattle.vx_block.specs.Components.{is_device, is_component}
 use Rattle.vx_cells.specs.Stored.{stored, AreMarks, IsStored}
 use Rattle.vx_cells.proofs.Indices.{inside_from_holds}
-use Rattle.vx_cells.proofs.StoredCells.{put-held, put-stored, held-still, stored-still, no-slots, some-slots}
+use Rattle.vx_cells.proofs.StoredCells.{put-held, put-stored, stored-still, no-slots, some-slots}
 use Rattle.vx_cells.proofs.StoredMarks.{marks_set}
 use Rattle.vx_cells.proofs.stored.Stored.set.Goals as goal
 

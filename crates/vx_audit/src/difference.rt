@@ -1,7 +1,7 @@
 use crate::mark::Mark;
 
-/// Where deeds differ from the record: the seat and the sector of the first call that does, or 0 and 0
-/// where it is no call.
+/// Where deeds differ from the record: the seat and the sector of the first call that does, or 0
+/// and 0 where it is no call.
 #[derive(Clone, Copy, Debug, PartialEq, Eq)]
 pub struct Difference {
     pub seat: u8,

@@ -16,10 +16,11 @@ use vx_policy::Version;
 use vx_record::Chronicle;
 use vx_sector::Entry;
 
-/// Where the marks of what was done differ from the record of a world that has ended, if they do. Where
-/// they don't, any deeds that have these marks, and of which the record and the players' lists say the
-/// same calls, are what the one-threaded game gives. An error says that memory was wanted: a list of the
-/// windows and a table of the players in each sector, both made before the first mark is read.
+/// Where the marks of what was done differ from the record of a world that has ended, if they do.
+/// Where they don't, any deeds that have these marks, and of which the record and the players'
+/// lists say the same calls, are what the one-threaded game gives. An error says that memory was
+/// wanted: a list of the windows and a table of the players in each sector, both made before the
+/// first mark is read.
 pub fn follow(
     alloc: Global,
     chronicle: &Chronicle,

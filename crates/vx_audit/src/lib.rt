@@ -1,5 +1,5 @@
-//! Whether the record of a world says what was told of each deed in it, so that all of it is what the
-//! one-threaded game gives.
+//! Whether the record of a world says what was told of each deed in it, so that all of it is what
+//! the one-threaded game gives.
 #![tactic(auto)]
 
 mod counts;

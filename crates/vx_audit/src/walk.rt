@@ -78,8 +78,8 @@ impl<'a> Walk<'a> {
         self.ticks.is_empty() && are_done(&self.lefts)
     }
 
-    // Goes on by the marks of the next deed, if the record has it next, and hands out the marks after
-    // them.
+    // Goes on by the marks of the next deed, if the record has it next, and hands out the marks
+    // after them.
     pub(crate) fn go_on<'m>(&mut self, marks: &'m [Mark]) -> Option<&'m [Mark]>
         ensures goes_on { IfSome result (λ others. GoesOn self.old marks.now self.new others.now) }
         ensures fewer { IfSome result (λ others. length others.now < length marks.now) }

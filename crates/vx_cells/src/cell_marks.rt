@@ -55,10 +55,10 @@ impl CellMarks {
         ensures marks { (i : ℕ) → is_marked self.new.words i
             ≡ (if nat_eq i index then marked else is_marked self.old.words i) }
     {
-        match &mut self.marks {
-            Some(marks) => return marks.set(index, marked),
-            None => return,
-        }
+        let Some(marks) = &mut self.marks else {
+            return;
+        };
+        marks.set(index, marked);
     }
 
     /// The positions of the sector whose indices are marked, in order. It costs what is marked.

@@ -104,8 +104,8 @@ impl Cells {
     }
 
     /// Puts a cell down at a position of this sector, in place of what was there. A chest begins
-    /// empty. It takes memory where a copy shares the section, where the section has to go on to its
-    /// next form, and for chests and the first component of the sector.
+    /// empty. It takes memory where a copy shares the section, where the section has to go on to
+    /// its next form, and for chests and the first component of the sector.
     pub fn set(&mut self, p: Pos, cell: Cell) -> Result<(), AllocError>
         requires { holds self.old p ≡ true }
         ensures ok { OnOk result (self.new ≡ with_cell self.old p cell) }

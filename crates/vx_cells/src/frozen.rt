@@ -260,8 +260,8 @@ impl<'a> Frozen<'a> {
     }
 }
 
-// The coordinates of the next position on that side, which the world may not have. Its rows above and
-// below fit, too.
+// The coordinates of the next position on that side, which the world may not have. Its rows above
+// and below fit, too.
 #[inline(always)]
 #[tactic(auto, using(vx_base::proofs::Signed::signed))]
 fn coordinates_beside(p: Pos, dir: Dir) -> (i64, i64, i64)

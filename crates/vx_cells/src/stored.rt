@@ -19,8 +19,8 @@ use vx_geom::{Bounds, Pos};
 use vx_section::Sections;
 
 /// What a sector holds, as copies of it share it: the cells as bytes, section by section, and the
-/// chests beside them, by their indices, with marks where components of machines stand, and which of
-/// them are devices.
+/// chests beside them, by their indices, with marks where components of machines stand, and which
+/// of them are devices.
 #[derive(Drop)]
 pub(crate) struct Stored {
     alloc: Global,

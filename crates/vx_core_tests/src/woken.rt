@@ -20,8 +20,8 @@ type Written<'a> = &'a [(u32, Pos, &'a str)];
 
 const TICKS: u32 = 24;
 
-// A clock of three ticks, and its line over the border of two sectors: a repeater, lamps and pistons
-// below, one of which pushes over the border.
+// A clock of three ticks, and its line over the border of two sectors: a repeater, lamps and
+// pistons below, one of which pushes over the border.
 const CLOCK: Placed<'static> = &[
     (4, 1, 4, "stone"),
     (5, 1, 4, "torch:west:on"),

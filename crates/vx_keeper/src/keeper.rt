@@ -38,10 +38,10 @@ use vx_windows::{MAX_TICKS, cells_of, open_sectors, renew_sectors, written};
 
 /// The keeper of a world: its chronicle, and what it knows of the world between two ticks. One who
 /// holds it makes the ticks, of sectors that were taken out of their locks.
-// It keeps what is known of the map as the windows began, so that a tick looks only where it changed;
-// where that was lost, for want of memory in a tick, the next one looks everywhere. It keeps a view
-// of the desk, by which it fixes versions, and the mark of what it knows, which it gives to the
-// sectors that are part of that.
+// It keeps what is known of the map as the windows began, so that a tick looks only where it
+// changed; where that was lost, for want of memory in a tick, the next one looks everywhere. It
+// keeps a view of the desk, by which it fixes versions, and the mark of what it knows, which it
+// gives to the sectors that are part of that.
 pub struct Keeper<A: Places> {
     archive: Archive,
     known: Known,
@@ -80,8 +80,8 @@ impl<A: Places> Drop for Keeper<A> {
 }
 
 impl<A: Places> Keeper<A> {
-    /// The keeper of a world that opens so, with a view of its desk, and the sectors of that world, in
-    /// order of their numbers, in their first windows.
+    /// The keeper of a world that opens so, with a view of its desk, and the sectors of that world,
+    /// in order of their numbers, in their first windows.
     pub fn new(
         alloc: Global,
         opening: Opening,
@@ -172,10 +172,11 @@ impl<A: Places> Keeper<A> {
         MAX_TICKS <= self.archive.ticks().len() as u64
     }
 
-    /// What the next tick does, whose windows these sectors have, all of the world in order of their
-    /// numbers. Where one is not what the keeper has of it the first of these is told; but first of
-    /// all, that there is no number left. The sectors are worked by 1 to 8 threads. What the keeper
-    /// kept of the map goes into the work, so that a second call for one tick looks everywhere.
+    /// What the next tick does, whose windows these sectors have, all of the world in order of
+    /// their numbers. Where one is not what the keeper has of it the first of these is told; but
+    /// first of all, that there is no number left. The sectors are worked by 1 to 8 threads. What
+    /// the keeper kept of the map goes into the work, so that a second call for one tick looks
+    /// everywhere.
     pub fn work<R: Threads + Sync, G: Gate + Sync>(
         &mut self,
         rt: &R,
@@ -408,8 +409,8 @@ impl<A: Places> Keeper<A> {
         self.watch.take()
     }
 
-    // What the next tick does by what was kept of the map, where all sectors are what the keeper has
-    // of them.
+    // What the next tick does by what was kept of the map, where all sectors are what the keeper
+    // has of them.
     fn worked<R: Threads + Sync, G: Gate + Sync>(
         &self,
         rt: &R,

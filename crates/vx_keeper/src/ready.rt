@@ -32,7 +32,8 @@ pub struct Ready {
 }
 
 impl Ready {
-    /// What the tick takes that was worked of these sectors, whose next windows this version judges.
+    /// What the tick takes that was worked of these sectors, whose next windows this version
+    /// judges.
     pub fn new(
         alloc: Global,
         sectors: &[Sector],

@@ -14,8 +14,8 @@ use vx_cells::Frozen;
 use vx_geom::Pos;
 use vx_power::{Leveled, Levels, all_levels};
 
-/// The levels and the links of all dust of a map, whose positions are among these. It costs a look at
-/// each, and at what the devices of the map feed.
+/// The levels and the links of all dust of a map, whose positions are among these. It costs a look
+/// at each, and at what the devices of the map feed.
 pub fn all_linked(
     alloc: Global,
     map: &Frozen<'_>,

@@ -12,8 +12,8 @@ use std::alloc::{AllocError, Global};
 use std::marker::Model;
 use vx_geom::Pos;
 
-/// The positions that have to be looked at while levels are made right again: those of which nothing
-/// is known, those whose level may be too high, and those whose level may be too low.
+/// The positions that have to be looked at while levels are made right again: those of which
+/// nothing is known, those whose level may be too high, and those whose level may be too low.
 #[derive(Drop)]
 pub(crate) struct Pending {
     unsure: Vec<Pos>,

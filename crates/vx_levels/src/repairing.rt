@@ -207,8 +207,8 @@ pub(crate) fn lies(map: &Frozen<'_>, p: Pos) -> bool
     map.has_dust(p)
 }
 
-// Takes the level of dust away. What that may have supported may be too high now, and its own is too
-// low perhaps.
+// Takes the level of dust away. What that may have supported may be too high now, and its own is
+// too low perhaps.
 fn fall(
     levels: &mut LinkedLevels,
     pending: &mut Pending,

@@ -26,8 +26,8 @@ use vx_windows::{
 
 /// A world at play: its sectors in their places, its players in order of their seats, and the desk
 /// where its policy is edited.
-// It keeps what is known of the map as the windows began, so that a tick looks only where it changed.
-// Where that was lost, for want of memory in a tick, the next one looks everywhere.
+// It keeps what is known of the map as the windows began, so that a tick looks only where it
+// changed. Where that was lost, for want of memory in a tick, the next one looks everywhere.
 pub struct Play<J: Naming> {
     bounds: Bounds,
     sectors: Vec<Sector>,

@@ -29,8 +29,8 @@ fn reaches(map: &Frozen<'_>, dust: Pos, dir: Dir) -> bool
     }
 }
 
-/// Whether a conductor stands at a position that is powered, by a strong source or by dust. It is as
-/// the rules say where the levels near are those of the map.
+/// Whether a conductor stands at a position that is powered, by a strong source or by dust. It is
+/// as the rules say where the levels near are those of the map.
 #[tactic(auto, unfolding(crate::specs::Signals::is_powered), using(crate::proofs::Sources::sources))]
 pub fn powered<L: Leveled>(map: &Frozen<'_>, levels: &L, p: Pos) -> bool
     ensures by_levels { result ≡ is_powered (cell_on map.now) (L.level levels.now) p }
@@ -104,8 +104,8 @@ fn acts<L: Leveled>(map: &Frozen<'_>, levels: &L, next: Pos, cell: &Cell, dir: D
         || has_power_towards(map, levels, next, cell, dir)
 }
 
-/// Whether a lamp or a piston at a position is active. A piston is not made so from its front. It is
-/// as the rules say where the levels near are those of the map.
+/// Whether a lamp or a piston at a position is active. A piston is not made so from its front. It
+/// is as the rules say where the levels near are those of the map.
 pub fn active<L: Leveled>(map: &Frozen<'_>, levels: &L, p: Pos, front: Option<Dir>) -> bool
     ensures by_levels { result ≡ is_active (cell_on map.now) (L.level levels.now) front p }
     ensures exact { AreLevelsNear (cell_on map.now) 2 p (L.level levels.now)

@@ -73,8 +73,8 @@ impl Opening {
         })
     }
 
-    /// A world with this terrain, for the players of these names, of which there may be 16. Two seats
-    /// may have one name. It takes no memory.
+    /// A world with this terrain, for the players of these names, of which there may be 16. Two
+    /// seats may have one name. It takes no memory.
     pub fn of(terrain: Whole, names: Vec<Name>, policy: Policy) -> Result<Opening, OpeningError>
         ensures ok { IfOk result (λ opening. opening
             ≡ record { terrain = terrain; names = texts names.items; policy = policy }) }

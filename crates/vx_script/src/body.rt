@@ -33,8 +33,8 @@ use vx_session::Session;
 use vx_tick::Fate;
 use vx_world::Seats;
 
-/// Takes the line of that number, which stands in the body at this stage, and writes what is replied.
-/// Answers the stage after it.
+/// Takes the line of that number, which stands in the body at this stage, and writes what is
+/// replied. Answers the stage after it.
 pub fn take_line<
     A: Places + Send + Sync,
     B: Seats + Send + Sync,

@@ -25,8 +25,8 @@ pub enum Fault {
     /// A player's list of calls is missing.
     #[error("fault 31 pass")]
     PassMissing,
-    /// What was replied differs from the record: the seat and the sector of the first call that does,
-    /// or 0 and 0 where it is no call.
+    /// What was replied differs from the record: the seat and the sector of the first call that
+    /// does, or 0 and 0 where it is no call.
     #[error("fault 32 seat {0} sector {1}")]
     ListsDiffer(u8, u32),
     /// A view of the policy was not got, or told no policy.

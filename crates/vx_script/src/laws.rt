@@ -8,8 +8,8 @@ pub fn faults_are_of_the_script()
     ensures { FaultsAreOfTheScript }
 {}
 
-/// A script faults at its first faulty line, which it has, whatever follows that line, or at its last
-/// one, where it ends in a block.
+/// A script faults at its first faulty line, which it has, whatever follows that line, or at its
+/// last one, where it ends in a block.
 pub fn first_fault()
     ensures { FirstFault }
 {}

@@ -32,9 +32,9 @@ use vx_record::Opening;
 use vx_session::Session;
 use vx_world::{Blanks, Report, Seats};
 
-/// Plays the body of a script in a world that opens so: replies to its lines, settles the record, and
-/// writes the last line. A body that stops at a faulty line is settled too, so that what was replied
-/// before is known to be right. The types are named by the blanks and the book of edits.
+/// Plays the body of a script in a world that opens so: replies to its lines, settles the record,
+/// and writes the last line. A body that stops at a faulty line is settled too, so that what was
+/// replied before is known to be right. The types are named by the blanks and the book of edits.
 pub fn play<
     A: Places + Send + Sync,
     B: Seats + Send + Sync,
@@ -157,8 +157,8 @@ fn settle<A: Places, B: Seats>(
     }
 }
 
-// Reads the lines of the body, of which the first says this, if there is one, and writes the replies
-// to them.
+// Reads the lines of the body, of which the first says this, if there is one, and writes the
+// replies to them.
 fn read_body<
     A: Places + Send + Sync,
     B: Seats + Send + Sync,

@@ -27,8 +27,8 @@ pub fn regions_file(alloc: Global, bytes: &[u8]) -> Result<Policy, Fault>
     }
 }
 
-/// The policy that a regions file describes, which is read to its end: 1,048,576 bytes at most. More
-/// are fault 41, and a read that fails is fault 42.
+/// The policy that a regions file describes, which is read to its end: 1,048,576 bytes at most.
+/// More are fault 41, and a read that fails is fault 42.
 pub fn read_regions<R: Read>(alloc: Global, reader: &mut R) -> Result<Policy, Fault>
     ensures ok { IfOk result (λ policy. IfSome (R.remaining reader.old) (λ bytes.
         (edits : List Asked) × FileSays bytes edits × AreAccepted no_regions edits

@@ -23,12 +23,13 @@ use vx_lines::Lines;
 use vx_policy::Policy;
 use vx_world::Blanks;
 
-/// Runs a script on a world that threads share, whose ticks are worked by 1 to 8 threads: reads it to
-/// its end and writes the reply to each of its lines as it is read, then the last line, and, where it
-/// is asked for, the record as lines of JSON. A fault ends the run; what was replied before it has been
-/// written out. Before the last line, and before the fault of a faulty line, the record is settled, and
-/// what was replied is compared with it; where they differ that is the fault. A script of more than
-/// 16,777,216 bytes always ends in a fault, and none ends in that of a regions file.
+/// Runs a script on a world that threads share, whose ticks are worked by 1 to 8 threads: reads it
+/// to its end and writes the reply to each of its lines as it is read, then the last line, and,
+/// where it is asked for, the record as lines of JSON. A fault ends the run; what was replied
+/// before it has been written out. Before the last line, and before the fault of a faulty line, the
+/// record is settled, and what was replied is compared with it; where they differ that is the
+/// fault. A script of more than 16,777,216 bytes always ends in a fault, and none ends in that of a
+/// regions file.
 pub fn run<T: Threads + Wait + Sync, R: Read, W: Write>(
     rt: &T,
     alloc: Global,

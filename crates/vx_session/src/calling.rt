@@ -54,8 +54,8 @@ fn shortage(answer: &Result<Reply, Refusal>) -> Option<SessionError>
     }
 }
 
-/// The cause for which the rules refuse the edit. It is an error where the edit was refused for want
-/// of room or memory, or on other edits than those up to the last one.
+/// The cause for which the rules refuse the edit. It is an error where the edit was refused for
+/// want of room or memory, or on other edits than those up to the last one.
 pub(crate) fn cause_of<A: Places>(
     last: &Option<Listed<A>>,
     refused: &Refused<A>,

@@ -6,8 +6,8 @@ ghost use denote.Param.Send.{IsSend};
 
 use std::thread::{Threads, join_mut};
 
-/// Calls f at each of the elements: at those of two halves at once, where both are busy. So no thread
-/// is begun for one that has nothing to do.
+/// Calls f at each of the elements: at those of two halves at once, where both are busy. So no
+/// thread is begun for one that has nothing to do.
 #[cycle(halves)]
 pub(crate) fn at_once<R: Threads + Sync, X: Send, P: Fn(&[X]) -> bool + Sync, F: Fn(&mut X) + Sync>(
     rt: &R,

@@ -1,5 +1,5 @@
-//! Sessions: what is done on the world that threads share by one who reads it line by line, with the
-//! proof in the end that all answers were those of the rules.
+//! Sessions: what is done on the world that threads share by one who reads it line by line, with
+//! the proof in the end that all answers were those of the rules.
 #![tactic(auto)]
 
 mod calling;

@@ -11,8 +11,8 @@ use vx_record::Opening;
 use vx_world::{Blanks, Seats, World};
 
 impl<A: Places, B: Seats> Session<A, B> {
-    /// Begins a session in a world that opens so, whose ticks are worked by 1 to 8 threads. The view
-    /// is of the desk at which the policy is edited, and the types are named by the blanks.
+    /// Begins a session in a world that opens so, whose ticks are worked by 1 to 8 threads. The
+    /// view is of the desk at which the policy is edited, and the types are named by the blanks.
     pub fn begin(
         alloc: Global,
         opening: Opening,

@@ -13,8 +13,8 @@ use vx_keeper::Places;
 use vx_sector::{Refusal, Reply};
 use vx_world::{Pass, Seats, World};
 
-/// A player: his pass, and of a block of calls the answers that he got and was not told yet, and why
-/// he stopped, where he did.
+/// A player: his pass, and of a block of calls the answers that he got and was not told yet, and
+/// why he stopped, where he did.
 pub struct Player<A: Places, B: Seats> {
     pub(crate) pass: Pass<A, B>,
     pub(crate) answers: VecDeque<Result<Reply, Refusal>>,
@@ -56,8 +56,8 @@ impl<A: Places, B: Seats> Player<A, B> {
         pass
     }
 
-    /// Carries out those of the requests that are of his seat, in their order, in the world with these
-    /// bounds, and keeps the answers. What is left of an earlier block is let go.
+    /// Carries out those of the requests that are of his seat, in their order, in the world with
+    /// these bounds, and keeps the answers. What is left of an earlier block is let go.
     pub fn play(
         &mut self,
         rt: &impl Wait,

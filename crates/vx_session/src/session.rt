@@ -27,10 +27,10 @@ use vx_tick::Fate;
 use vx_world::{Seats, World};
 
 /// A session of play on the world that threads share: one who reads what is to be done has all its
-/// passes and its keeper, alone edits at its desk, and is told in the end that all answers were those
-/// of the rules.
-// Of each call it keeps a mark, which says from which seat it was made and in which sector: the rest
-// stands in the record, and on the lists of the passes.
+/// passes and its keeper, alone edits at its desk, and is told in the end that all answers were
+/// those of the rules.
+// Of each call it keeps a mark, which says from which seat it was made and in which sector: the
+// rest stands in the record, and on the lists of the passes.
 pub struct Session<A: Places, B: Seats> {
     pub(crate) bounds: Bounds,
     pub(crate) world: World<A, B>,
@@ -187,8 +187,8 @@ impl<A: Places, B: Seats> Session<A, B> {
         Ok(fates)
     }
 
-    // What is settled in the end: the world, its keeper, its players, the answer to the last edit that
-    // was accepted, and the marks.
+    // What is settled in the end: the world, its keeper, its players, the answer to the last edit
+    // that was accepted, and the marks.
     pub(crate) fn into_parts(
         self,
     ) -> (

@@ -23,8 +23,8 @@ const MOST_CALLS: u64 = 1_099_511_627_776;
 
 impl<A: Places, B: Seats> Session<A, B> {
     /// Ends the session, and hands out the record of its world. Whatever deeds it was, they are a
-    /// game by the one-threaded rules, with the answers that were told, and with the ticks and calls
-    /// of the record; else it tells where they differ.
+    /// game by the one-threaded rules, with the answers that were told, and with the ticks and
+    /// calls of the record; else it tells where they differ.
     pub fn finish(self, alloc: Global) -> Result<Report, SessionError>
         ensures game { IfOk result (λ report. (deeds : List DeedData) → IsOf deeds self
             → IsGameOf (record_in report.chronicle report.windows.items report.version) deeds) }

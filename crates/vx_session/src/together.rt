@@ -23,8 +23,8 @@ use vx_world::{Seats, World};
 
 impl<A: Places + Send + Sync, B: Seats + Send + Sync> Session<A, B> {
     /// Carries out what is asked for, on a thread for each player of whom something is asked. Each
-    /// does what is asked of him in its order, and between players there is no order. The answers are
-    /// told in the order of the requests.
+    /// does what is asked of him in its order, and between players there is no order. The answers
+    /// are told in the order of the requests.
     pub fn together<T: Threads + Wait + Sync>(
         &mut self,
         rt: &T,

@@ -22,8 +22,9 @@ use vx_policy::Version;
 use vx_power::all_levels;
 use vx_tick::{Fate, Found, moved, sort_moves};
 
-/// The same as `step_plain` of the map of these sectors, those of a world of this size in order of
-/// their numbers, worked by 1 to 8 threads: each works the sectors that `sectors_of` tells for it.
+/// The map after a tick and the fates of its moves, as `step_plain` gives them for the map of these
+/// sectors, those of a world of this size in order of their numbers. It is worked by 1 to 8 threads:
+/// each works the sectors that `sectors_of` tells for it.
 /// The work of a thread that cannot be had is done all the same.
 pub fn step_parts<R: Threads + Sync, G: Gate + Sync>(
     rt: &R,

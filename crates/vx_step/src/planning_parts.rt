@@ -31,8 +31,9 @@ const COMPONENTS_EACH: usize = 2_048;
 const MOVES_EACH: usize = 64;
 
 /// What `plan_by` tells, the sectors worked by 1 to 8 threads, as `step_parts` shares them out.
-/// Where nothing is told, no sector is worked, and where little is, one thread does all, since others
-/// would cost more than they save. The phase of cells has no piece here, since nothing is copied.
+/// Where nothing is told, no sector is worked, and where little is, one thread does all, since
+/// others would cost more than they save. The phase of cells has no piece here, since nothing is
+/// copied.
 pub fn plan_parts<R: Threads + Sync, G: Gate + Sync>(
     rt: &R,
     alloc: Global,
@@ -58,7 +59,8 @@ pub fn plan_parts<R: Threads + Sync, G: Gate + Sync>(
     started(&Workers::new(rt, workers, gate), alloc, map, version, start)
 }
 
-// What the tick does that began so, worked by these, and what is kept, as one fact.
+// The plan of a tick that starts so, worked by these workers, and what is kept for the next one, as
+// one fact.
 fn started<R: Threads + Sync, G: Gate + Sync>(
     workers: &Workers<'_, R, G>,
     alloc: Global,
@@ -82,8 +84,8 @@ fn started<R: Threads + Sync, G: Gate + Sync>(
     }
 }
 
-// What a tick does by the levels of all dust: at the places outside which the map rests, where these
-// are told, and else at all components.
+// What a tick does by the levels of all dust: at the places outside which the map rests, where
+// these are told, and else at all components.
 fn by_levels<R: Threads + Sync, G: Gate + Sync, L: Leveled + Sync>(
     workers: &Workers<'_, R, G>,
     alloc: Global,

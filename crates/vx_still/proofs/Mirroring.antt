@@ -1,17 +1,17 @@
 -- What a table tells of a map from tick to tick.
 use Rattle.std.proofs.Common.{◌≡◌, ℕ, zero, suc, ◌%◌, true, false, ◌||◌, [], ◌++◌, get_or, unsigned_abs, None, refl, sym, ap, ◌∙◌}
-use Rattle.std.proofs.lemmas.Bool.{false≢true, or_parts}
+use Rattle.std.proofs.lemmas.Bool.{or_parts}
 use Rattle.vx_geom.specs.declared.pos.Pos.{Pos}
-use Rattle.vx_block.specs.Components.{is_device, is_dust}
+use Rattle.vx_block.specs.Components.{is_dust}
 use Rattle.vx_cells.specs.Maps.{cell_on}
 use Rattle.vx_levels.specs.Linked.{level_at}
-use Rattle.vx_power.specs.Levels.{LevelTable, has, level_of, stored_level}
+use Rattle.vx_power.specs.Levels.{LevelTable, has, stored_level}
 use Rattle.vx_power.specs.Local.{sees, is_touched, shown}
 use Rattle.vx_power.specs.Walks.{IsAmong}
 use Rattle.vx_power.proofs.Having.{has_joined, none_at, fewer}
 use Rattle.vx_power.proofs.Local.{dust_sees_shown}
 use Rattle.vx_power.proofs.Showing.{same_dust}
-use Rattle.vx_still.specs.Mirrored.{WritesKeepMirror, TicksLeaveMirror, NothingKnownIsMirrored}
+use Rattle.vx_still.specs.Mirrored.{WritesKeepMirror, TicksLeaveMirror}
 use Rattle.vx_still.proofs.Stilling.{own_seen, ticks_mirror}
 
 pub writes_keep_mirror : WritesKeepMirror
@@ -51,17 +51,3 @@ ticks_leave_mirror m next changed besides table left right = record {
 -- a table without layers
 abbrev no_layers : LevelTable
 no_layers = []
-
-pub nothing_is_mirrored : NothingKnownIsMirrored
-nothing_is_mirrored m all listed = record {
-  levels = λ p dust none. absurd (false≢true (sym none ∙ is_listed p dust));
-  empty = λ p bare none. ap (λ n. n % 16) (ap (λ layer. level_of layer p) (no_layer (unsigned_abs p.y)));
-  linked = λ p none dust. absurd (false≢true (sym (none_at (has all) (sees p) p none (own_seen p)) ∙ is_listed p dust));
-}
-  where
-    is_listed : (p : Pos) → is_dust (cell_on m p) ≡ true → has all p ≡ true
-    is_listed p dust = listed p (ap (λ b. b || is_device (cell_on m p)) dust)
-
-    no_layer : (k : ℕ) → get_or no_layers k None ≡ None
-    no_layer zero = refl
-    no_layer (suc k) = refl

@@ -9,7 +9,7 @@ use Rattle.vx_geom.specs.Dirs.{all_dirs}
 use Rattle.vx_geom.specs.Neighbor.{neighbor}
 use Rattle.vx_block.specs.declared.cell.Cell.{Cell}
 use Rattle.vx_block.specs.declared.cell.Cell.TheVariants.{Dust}
-use Rattle.vx_block.specs.Components.{is_component, is_device, is_dust}
+use Rattle.vx_block.specs.Components.{is_dust}
 use Rattle.vx_block.specs.States.{side_dir}
 use Rattle.vx_cells.specs.Maps.{MapData, cell_on}
 use Rattle.vx_levels.specs.Consistency.{greatest, pulled, IsConsistent}
@@ -29,8 +29,8 @@ use Rattle.vx_part.specs.Parts.{next_part}
 use Rattle.vx_part.proofs.Reading.{parts_read_shown}
 use Rattle.vx_piston.specs.Moves.{is_restless}
 use Rattle.vx_piston.proofs.Restless.{restless_reads}
-use Rattle.vx_still.specs.Stillness.{stored_on, Stays, LeavesStill, WritesKeepStill, TicksLeaveStill, StillRests, NothingKnownIsStill, MirrorsAgree, TicksMirror}
-use Rattle.vx_still.proofs.Heeding.{sees_reads, own_read, dust_next, dust_rests, no_store, no_dust_level, no_piston}
+use Rattle.vx_still.specs.Stillness.{stored_on, Stays, LeavesStill, WritesKeepStill, TicksLeaveStill, StillRests, MirrorsAgree, TicksMirror}
+use Rattle.vx_still.proofs.Heeding.{sees_reads, own_read, dust_next, dust_rests, no_store, no_dust_level}
 use Rattle.vx_part.proofs.Changing.{stays}
 
 -- what f gives for one of these neighbors is among what it gives for all
@@ -180,21 +180,6 @@ still_rests m waking p still away none levels =
       part = sym (parts_read_shown w w (stored_on m) (dust_level w) p (λ q among. refl) refl levels) ∙ stays.part;
       piston = sym (restless_reads w w (stored_on m) (dust_level w) p (λ q among. refl) refl levels) ∙ stays.piston;
     }
-
-pub nothing_known : NothingKnownIsStill
-unfolding is_restless
-nothing_known m all listed = record {
-  levels = λ p dust none.
-      absurd (false≢true (sym (none_at (has all) (sees p) p none (own_seen p))
-      ∙ listed p (ap (λ b. b || is_device (cell_on m p)) dust)));
-  parts = λ p away none. elim (cases_Bool (is_component (cell_on m p))) [
-    | inl is ↦ absurd (false≢true (sym away ∙ listed p is))
-    | inr other ↦ record {
-      part = stays (cell_on m) (stored_on m) p (cell_on m p) other;
-      piston = no_piston (cell_on m) (stored_on m) p (cell_on m p) other;
-    }
-  ];
-}
 
 pub mirrors_agree : MirrorsAgree
 unfolding pulled

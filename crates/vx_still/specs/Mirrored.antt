@@ -1,7 +1,7 @@
 -- A table of levels beside a map: what it tells between ticks.
-use Rattle.std.specs.Prelude.{◌≡◌, true, false, ◌++◌, List, []}
+use Rattle.std.specs.Prelude.{◌≡◌, false, ◌++◌, List}
 use Rattle.vx_geom.specs.declared.pos.Pos.{Pos}
-use Rattle.vx_block.specs.Components.{is_component, is_dust}
+use Rattle.vx_block.specs.Components.{is_dust}
 use Rattle.vx_cells.specs.Maps.{MapData, cell_on}
 use Rattle.vx_levels.specs.Linked.{level_at, KnowsLinks}
 use Rattle.vx_levels.specs.Repairs.{IsRight}
@@ -28,8 +28,3 @@ WritesKeepMirror = (m next : MapData) (changed written : List Pos) (table : Leve
 abbrev pub TicksLeaveMirror : Type 0
 TicksLeaveMirror = (m next : MapData) (changed besides : List Pos) (table : LevelTable)
     → LeavesStill m next changed besides → IsRight (cell_on m) table → IsMirror next changed table
-
--- and where nothing is known, the table without any level
-abbrev pub NothingKnownIsMirrored : Type 0
-NothingKnownIsMirrored = (m : MapData) (all : List Pos)
-    → ((p : Pos) → is_component (cell_on m p) ≡ true → has all p ≡ true) → IsMirror m all []

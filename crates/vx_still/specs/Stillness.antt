@@ -3,7 +3,7 @@ use Rattle.std.specs.Prelude.{◌≡◌, ℕ, Bool, true, false, nat_lt, List}
 use Rattle.std.specs.List.{list_any}
 use Rattle.vx_geom.specs.declared.pos.Pos.{Pos}
 use Rattle.vx_block.specs.declared.cell.Cell.{Cell}
-use Rattle.vx_block.specs.Components.{is_component, is_dust}
+use Rattle.vx_block.specs.Components.{is_dust}
 use Rattle.vx_cells.specs.Maps.{MapData, cell_on}
 use Rattle.vx_levels.specs.Consistency.{IsConsistent, IsExactOn}
 use Rattle.vx_power.specs.Laws.{dust_level}
@@ -85,12 +85,6 @@ OthersRest = (m : MapData) (waking : WakingData) (p : Pos) → IsStill m waking
 abbrev pub DustRests : Type 0
 DustRests = (m : MapData) (p : Pos) → is_dust (cell_on m p) ≡ true
     → stored_on m p ≡ dust_level (cell_on m) p → Rests m p
-
--- a map of which nothing is known is still but for all its components
-abbrev pub NothingKnownIsStill : Type 0
-NothingKnownIsStill = (m : MapData) (all : List Pos)
-    → ((p : Pos) → is_component (cell_on m p) ≡ true → has all p ≡ true)
-    → IsStill m (record { changed = all; besides = all })
 
 -- a table has the level that dust stores, wherever nothing changed
 abbrev pub Mirrors : MapData → List Pos → (Pos → ℕ) → Type 0

@@ -1,7 +1,7 @@
 //! What is known of maps by the levels that dust stores.
-ghost use Rattle.vx_still.specs.Mirrored.{WritesKeepMirror, TicksLeaveMirror, NothingKnownIsMirrored};
+ghost use Rattle.vx_still.specs.Mirrored.{WritesKeepMirror, TicksLeaveMirror};
 ghost use Rattle.vx_still.specs.Watching.{WritesKeepWatch, TicksLeaveWatch};
-ghost use Rattle.vx_still.specs.Stillness.{WritesKeepStill, TicksLeaveStill, StillRests, NothingKnownIsStill, MirrorsAgree, TicksMirror, PartsReadPower, OthersRest, DustRests};
+ghost use Rattle.vx_still.specs.Stillness.{WritesKeepStill, TicksLeaveStill, StillRests, MirrorsAgree, TicksMirror, PartsReadPower, OthersRest, DustRests};
 
 /// Far from what was changed the levels that dust stores agree, and what stays by them rests where
 /// they are right: so it is after writes and after ticks.
@@ -11,19 +11,17 @@ pub fn maps_stay_still()
     ensures rests { StillRests }
 {}
 
-/// What is no dust heeds of a level only whether it is over 0; so on a still map all rests but where
-/// a changed cell is read, or dust is seen that gained or lost all power.
+/// What is no dust heeds of a level only whether it is over 0; so on a still map all rests but
+/// where a changed cell is read, or dust is seen that gained or lost all power.
 pub fn parts_heed_power()
     ensures power { PartsReadPower }
     ensures others { OthersRest }
     ensures dust { DustRests }
 {}
 
-/// A map of which nothing is known is still but for its components; and a table that mirrors what
-/// dust stores agrees far from changes, and is such a table again after the tick whose levels it
-/// has.
+/// A table that mirrors what dust stores agrees far from changes, and is such a table again after
+/// the tick whose levels it has.
 pub fn tables_mirror_cells()
-    ensures unknown { NothingKnownIsStill }
     ensures agree { MirrorsAgree }
     ensures ticks { TicksMirror }
 {}

@@ -23,8 +23,8 @@ const CELLS_OFF: u8 = 4;
 // What heeds dust that got another level costs as much to find as a look at so many components.
 const PER_LEVEL: usize = 4;
 
-// A repair may take so many turns for each component, and for a map at least so many; one that takes
-// more is given up.
+// A repair may take so many turns for each component, and for a map at least so many; one that
+// takes more is given up.
 const TURNS_EACH: usize = 64;
 
 const TURNS: usize = 4_096;

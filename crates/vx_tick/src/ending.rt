@@ -28,7 +28,7 @@ pub fn fates<D: Decide>(
     fates_by(alloc, moves, denials.as_slice())
 }
 
-/// The same by a version of the policy.
+/// The fates of these moves under a version of the policy.
 pub fn fates_under(
     alloc: Global,
     version: &Version,
@@ -40,7 +40,7 @@ pub fn fates_under(
     fates(alloc, &version.policy, moves)
 }
 
-/// The same by what denies each of the moves.
+/// The fates of these moves, by what denies each of them.
 pub fn fates_by(
     alloc: Global,
     moves: &[Move],

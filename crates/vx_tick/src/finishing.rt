@@ -50,8 +50,8 @@ pub fn undisturbed(
     Ok((Plan::nothing(alloc), watch))
 }
 
-/// What a tick did that this version judged, with what is kept of the map after it: these levels, if
-/// any, which are those of the map before it, and for how many ticks on end little has changed.
+/// What a tick did that this version judged, with what is kept of the map after it: these levels,
+/// if any, which are those of the map before it, and for how many ticks on end little has changed.
 pub fn kept(
     map: &Frozen<'_>,
     version: &Version,

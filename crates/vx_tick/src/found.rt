@@ -48,8 +48,8 @@ impl Found {
         Found::by(alloc, map, seen)
     }
 
-    /// What a tick finds on a map, by the levels of all its dust: at the places outside which the map
-    /// rests, where these are told, and else at all components.
+    /// What a tick finds on a map, by the levels of all its dust: at the places outside which the
+    /// map rests, where these are told, and else at all components.
     pub fn at<L: Leveled>(
         alloc: Global,
         map: &Frozen<'_>,

@@ -35,7 +35,7 @@ pub fn left(
     Ok(Waking { changed, besides })
 }
 
-// The same after these changes alone.
+// What a tick leaves to be looked at where parts change so and no piston moves.
 fn left_by_parts(
     alloc: Global,
     map: &Frozen<'_>,

@@ -39,9 +39,9 @@ pub fn plan(alloc: Global, map: &Frozen<'_>, version: &Version) -> Result<Plan, 
 }
 
 /// What a tick of this map does that this version of the policy judges, and what is kept of the map
-/// for the tick after it. It goes by what was kept of the map before, and by what was written since,
-/// and costs what has changed, or no more than a look at all components; where nothing was kept it
-/// looks at all of them.
+/// for the tick after it. It goes by what was kept of the map before, and by what was written
+/// since, and costs what has changed, or no more than a look at all components; where nothing was
+/// kept it looks at all of them.
 pub fn plan_by(
     alloc: Global,
     map: &Frozen<'_>,
@@ -63,7 +63,7 @@ pub fn plan_by(
     started(alloc, map, version, start)
 }
 
-// What the tick does that began so, and what is kept, as one fact.
+// The plan of a tick that starts so, and what is kept for the next one, as one fact.
 fn started(
     alloc: Global,
     map: &Frozen<'_>,
@@ -86,8 +86,8 @@ fn started(
     }
 }
 
-// What a tick does by the levels of all dust: at the places outside which the map rests, where these
-// are told, and else at all components.
+// What a tick does by the levels of all dust: at the places outside which the map rests, where
+// these are told, and else at all components.
 fn by_levels<L: Leveled>(
     alloc: Global,
     map: &Frozen<'_>,

@@ -28,10 +28,11 @@ const CALM: u32 = 8;
 pub enum Start {
     /// All rests, and these levels are kept.
     AtRest(LinkedLevels),
-    /// By levels and links that are kept: at the places outside which the map rests, where these are
-    /// told, and else at all components.
+    /// By levels and links that are kept: at the places outside which the map rests, where these
+    /// are told, and else at all components.
     Awake(LinkedLevels, Option<Places>),
-    /// By levels that are told anew, at all components. For so many ticks on end little has changed.
+    /// By levels that are told anew, at all components. For so many ticks on end little has
+    /// changed.
     Anew(Levels, u32),
 }
 
@@ -53,8 +54,8 @@ impl Start {
         }
     }
 
-    // How it begins by what was kept, and what was written since. Where much has changed no levels are
-    // kept, and none until little has changed for some ticks on end.
+    // How it begins by what was kept, and what was written since. Where much has changed no levels
+    // are kept, and none until little has changed for some ticks on end.
     fn watched(
         alloc: Global,
         map: &Frozen<'_>,

@@ -27,7 +27,8 @@ pub fn step_plain(
     step_owned(alloc, map.try_clone()?, version)
 }
 
-/// The same of a map that is handed over: it becomes the next one, and no cell is copied.
+/// The map after a tick and the fates of its moves, as `step_plain` gives them, of a map that is
+/// handed over: it becomes the next one.
 pub fn step_owned(
     alloc: Global,
     map: Whole,

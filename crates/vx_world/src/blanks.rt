@@ -16,8 +16,8 @@ pub struct Blanks {
 }
 
 impl Blanks {
-    /// The books of a world that opens so: a part of the sectors' ledger for each sector and for the
-    /// reserve of each pass, and two of the passes' ledger for each pass. It takes no memory.
+    /// The books of a world that opens so: a part of the sectors' ledger for each sector and for
+    /// the reserve of each pass, and two of the passes' ledger for each pass. It takes no memory.
     pub fn new(opening: &Opening) -> Blanks
         ensures places { result.places.parts
             ≡ length opening.now.terrain.sectors + length opening.now.names }

@@ -5,8 +5,8 @@ use std::sync::Wait;
 use std::sync::ledger::{Book, Ledger, Share};
 
 /// The books of the two ledgers, which are equal: as many calls are recorded in sectors as are on
-/// the lists of passes, each beside what the passes have in reserve. What is left of the shares once
-/// each sector and each pass has its own stands beside them.
+/// the lists of passes, each beside what the passes have in reserve. What is left of the shares
+/// once each sector and each pass has its own stands beside them.
 #[derive(Drop)]
 pub struct Books<A: Ledger, B: Ledger> {
     count: u64,
@@ -42,8 +42,8 @@ impl<A: Ledger, B: Ledger> Books<A, B> {
         }
     }
 
-    /// Raises both books by what a reserve gets anew. Where that would pass 2^64 calls, more than any
-    /// world can record, it does not return.
+    /// Raises both books by what a reserve gets anew. Where that would pass 2^64 calls, more than
+    /// any world can record, it does not return.
     pub fn raise<R: Wait>(&mut self, rt: &R, reserve: &mut Reserve<A, B>)
         requires part { 0 < reserve.old.places.parts }
         requires spent { reserve.old.left ≡ 0 }

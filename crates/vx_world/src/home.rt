@@ -53,8 +53,8 @@ impl<A: Places> Home<A> {
         self.marked.sector().cells().holds(p)
     }
 
-    /// Carries out a command from the pass's seat, and puts it with its answer on the pass's list of
-    /// that number, where the sector records it. Then it counts in both shares.
+    /// Carries out a command from the pass's seat, and puts it with its answer on the pass's list
+    /// of that number, where the sector records it. Then it counts in both shares.
     pub fn act<B: Seats, R: Wait>(
         &mut self,
         rt: &R,

@@ -25,8 +25,8 @@ use vx_region::Name;
 use vx_sector::{Seat, Sector};
 use vx_stamp::Opened;
 
-/// The keeper of a world that opens so, with a view of its desk, its sectors under their locks, each
-/// with a part of the share, and room for the end of the world.
+/// The keeper of a world that opens so, with a view of its desk, its sectors under their locks,
+/// each with a part of the share, and room for the end of the world.
 pub fn kept<A: Places>(
     alloc: Global,
     opening: Opening,
@@ -96,7 +96,8 @@ fn locked_slot<A: Places>(
     }))
 }
 
-/// A pass for each seat, in order: each with two parts of the passes' share, and one of the sectors'.
+/// A pass for each seat, in order: each with two parts of the passes' share, and one of the
+/// sectors'.
 pub fn passes<A: Places, B: Seats>(
     alloc: Global,
     names: &[Name],

@@ -12,8 +12,8 @@ use vx_record::{Caller, Lists};
 use vx_sector::Seat;
 
 /// The pass of a player: with it one makes calls from a seat of the world, and it keeps those that
-/// were recorded, with their answers, in a list for each sector. Its share is as many calls as stand
-/// on the lists.
+/// were recorded, with their answers, in a list for each sector. Its share is as many calls as
+/// stand on the lists.
 pub struct Pass<A: Places, B: Seats> {
     pub(crate) seat: Seat,
     pub(crate) lists: Lists,
@@ -78,8 +78,8 @@ impl<A: Places, B: Seats> Pass<A, B> {
         &self.lists
     }
 
-    // Joins what it has of the ledgers to these shares, once the books have back what is left of its
-    // reserve.
+    // Joins what it has of the ledgers to these shares, once the books have back what is left of
+    // its reserve.
     pub(crate) fn join_shares(
         self,
         books: &mut Books<A, B>,

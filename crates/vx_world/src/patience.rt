@@ -5,9 +5,9 @@ use std::sync::{Mutex, MutexGuard, Wait};
 // all, or hundreds where the processor pauses longer.
 const TRIES: u32 = 10;
 
-/// Takes a lock that is mostly held for less than a microsecond: it is tried for some time before the
-/// thread sleeps, since to sleep and to be woken takes longer. Whoever tries a lock takes its memory
-/// from who holds it, so where many want it they try less and less often.
+/// Takes a lock that is mostly held for less than a microsecond: it is tried for some time before
+/// the thread sleeps, since to sleep and to be woken takes longer. Whoever tries a lock takes its
+/// memory from who holds it, so where many want it they try less and less often.
 pub fn patiently<'a, T, R: Wait>(rt: &R, lock: &'a Mutex<T>) -> MutexGuard<'a, T> {
     for tried in 0..TRIES {
         if let Some(guard) = lock.try_lock() {

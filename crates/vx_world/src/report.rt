@@ -4,8 +4,8 @@ use vx_policy::Version;
 use vx_record::Chronicle;
 use vx_sector::Entry;
 
-/// The record of a world that was settled: its chronicle, the open window of each sector in order of
-/// their numbers, and the version that judges these.
+/// The record of a world that was settled: its chronicle, the open window of each sector in order
+/// of their numbers, and the version that judges these.
 #[derive(Drop)]
 pub struct Report {
     pub chronicle: Chronicle,

@@ -37,8 +37,8 @@ impl<A: Ledger, B: Ledger> Reserve<A, B> {
         }
     }
 
-    /// Takes a call out of the reserve: one more in the share of the sector that recorded it, and in
-    /// that of the pass that made it. Where none is left, the books are raised first.
+    /// Takes a call out of the reserve: one more in the share of the sector that recorded it, and
+    /// in that of the pass that made it. Where none is left, the books are raised first.
     pub fn spend<R: Wait>(
         &mut self,
         rt: &R,

@@ -26,10 +26,10 @@ use vx_record::{Fault, disagreement};
 use vx_sector::Entry;
 
 impl<A: Places, B: Seats> Lifted<A, B> {
-    /// Settles the world: where each of its passes is there once, each sector is what the keeper has
-    /// of it, and each list of each pass is what the record says of its seat in that sector, it hands
-    /// out the record. Else it tells why not, the first cause of these in this order, and hands back
-    /// all that was handed in; for want of memory too.
+    /// Settles the world: where each of its passes is there once, each sector is what the keeper
+    /// has of it, and each list of each pass is what the record says of its seat in that sector, it
+    /// hands out the record. Else it tells why not, the first cause of these in this order, and
+    /// hands back all that was handed in; for want of memory too.
     pub fn finish(
         self,
         alloc: Global,

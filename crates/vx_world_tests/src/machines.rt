@@ -84,8 +84,8 @@ pub fn at(x: i32, z: i32) -> Pos {
     Pos::new(x, 1, z)
 }
 
-/// Levers are turned, and dust, a push and a draw follow in the ticks after. A chest that was filled
-/// before holds after them what it held.
+/// Levers are turned, and dust, a push and a draw follow in the ticks after. A chest that was
+/// filled before holds after them what it held.
 pub fn step<A: Places + Send + Sync, B: Seats + Send + Sync, R: Threads + Wait + Abort + Sync>(
     rt: &R,
     alloc: Global,

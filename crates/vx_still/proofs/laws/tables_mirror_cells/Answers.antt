@@ -1,8 +1,5 @@
-use Rattle.vx_still.proofs.Stilling.{nothing_known, mirrors_agree, ticks_mirror}
+use Rattle.vx_still.proofs.Stilling.{mirrors_agree, ticks_mirror}
 use Rattle.vx_still.proofs.laws.tables_mirror_cells.Goals as goal
-
-pub returns-clause-unknown : goal.returns-clause-unknown
-returns-clause-unknown c = nothing_known
 
 pub returns-clause-agree : goal.returns-clause-agree
 returns-clause-agree c = mirrors_agree

@@ -1,5 +1,4 @@
 pub mod Beginning
-pub mod Bringing
 pub mod Closing
 pub mod Knowing
 pub mod Marking

@@ -1,10 +1,9 @@
 -- A keeper: what it knows of its world, and the ticks that it makes.
-use Rattle.std.specs.Prelude.{◌≡◌, ℕ, ◌+◌, ◌≤◌, Bool, List, [], ◌∷◌, ◌++◌, length, map, slice_index, slice_index_or, false}
-use Rattle.std.specs.List.{All}
-use Rattle.vx_block.specs.declared.cell.Cell.{Cell}
+use Rattle.std.specs.Prelude.{◌≡◌, ℕ, ◌+◌, ◌≤◌, Bool, List, [], ◌∷◌, ◌++◌, length, map, slice_index, slice_index_or}
 use Rattle.vx_cells.specs.Maps.{MapData}
-use Rattle.vx_cells.specs.SectorCells.{only_air, is_chest}
-use Rattle.vx_cells.specs.Wholes.{with_cells_on, IsMap}
+use Rattle.vx_cells.specs.SectorCells.{SectorCells, only_air}
+use Rattle.vx_cells.specs.Wholes.{IsMap}
+use Rattle.vx_geom.specs.Sizes.{Sizes}
 use Rattle.vx_geom.specs.declared.pos.Pos.{Pos}
 use Rattle.vx_policy.specs.Asked.{Asked}
 use Rattle.vx_policy.specs.Edits.{AreAccepted}
@@ -13,7 +12,6 @@ use Rattle.vx_region.specs.Regions.{Regions}
 use Rattle.vx_sector.specs.SectorData.{SectorData}
 use Rattle.vx_tick.specs.Ticks.{fates_on, stepped}
 use Rattle.vx_tick.specs.declared.fate.Fate.{Fate}
-use Rattle.vx_still.specs.Watching.{IsWatch, WatchData}
 use Rattle.vx_windows.specs.Sectors.{cells_of, entries_of, first_version}
 use Rattle.vx_windows.specs.Limits.{most_ticks}
 use Rattle.vx_record.specs.Chronicles.{TickData, ChronicleData, AreGrown, map_after, version_by}
@@ -75,9 +73,13 @@ known k n = record {
 abbrev pub version_next : Regions → KeeperData → Version
 version_next first k = version_by first k.seen (length k.seen) (length k.chronicle.ticks + 2)
 
+-- the map of a world of this size with these cells, sector by sector
+abbrev pub map_by : Sizes → List SectorCells → MapData
+map_by sizes cells = record { sizes = sizes; sectors = cells }
+
 -- the map after the windows of these sectors
 abbrev pub map_now : KeeperData → List SectorData → MapData
-map_now k sectors = record { sizes = k.world.map.sizes; sectors = map cells_of sectors }
+map_now k sectors = map_by k.world.map.sizes (map cells_of sectors)
 
 -- the map after the tick that closes them, which the version judges that judged the windows
 abbrev pub map_next : KeeperData → List SectorData → MapData
@@ -97,12 +99,3 @@ chronicle_next k sectors = record k.chronicle {
     fates = fates_next k sectors;
   } ∷ [];
 }
-
--- what a tick does to a map, as it was worked: what is put down, no chest among it, what becomes of
--- the moves, and what is kept of the map after it
-pub record IsWorked (policy : Regions) (m : MapData) (puts : List (Pos × Cell))
-    (fates : List (Pos × Fate)) (watch : WatchData) : Type 0 where
-  pub after : stepped policy m ≡ with_cells_on m puts
-  pub told : fates ≡ fates_on policy m
-  pub chests : All (λ (put : Pos × Cell). is_chest put.1 ≡ false) puts
-  pub kept : IsWatch (stepped policy m) watch

@@ -1,4 +1,3 @@
-pub mod Bases
 pub mod Keepers
 pub mod Marks
 pub mod Readiness

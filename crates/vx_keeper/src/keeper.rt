@@ -5,12 +5,13 @@ ghost use Rattle.std.specs.Prelude.{◌≡◌, ℕ, ◌<◌, ◌≤◌, ◌+◌,
 ghost use Rattle.vx_windows.specs.Sectors.{cells_of, all_renewed, opened_by, opened_with, first_version};
 ghost use Rattle.vx_windows.specs.Limits.{most_ticks};
 ghost use Rattle.vx_still.specs.Watching.{IsWatch};
+ghost use Rattle.vx_tick.specs.Leaving.{IsPlanned};
 ghost use Rattle.vx_sector.specs.Windows.{count_of};
 ghost use Rattle.vx_record.specs.Records.{chronicle_in};
 ghost use Rattle.vx_record.specs.Settling.{AreKnown, BeganWith, IsKnown, IsTorn};
-ghost use Rattle.vx_keeper.specs.Keepers.{IsKeeper, IsWorked, keeper_data, known, version_next, map_now, map_next, fates_next, chronicle_next};
+ghost use Rattle.vx_keeper.specs.Keepers.{IsKeeper, keeper_data, known, version_next, map_now, map_next, fates_next, chronicle_next};
 ghost use Rattle.vx_keeper.specs.Marks.{IsPartOf, AreParts};
-ghost use Rattle.vx_keeper.specs.Readiness.{CanClose, IsReady};
+ghost use Rattle.vx_keeper.specs.Readiness.{CanClose};
 ghost use Rattle.vx_keeper.specs.Torn.{IsNoWork};
 ghost use Rattle.vx_keeper.specs.declared.tick_error.TickError.TheVariants.{HistoryFull, NoMemory, NoView, Torn};
 
@@ -195,9 +196,8 @@ impl<A: Places> Keeper<A> {
         ensures refused { IfErr result (IsNoWork (known self.old) (map Some sectors.now)) }
         ensures torn { (k : ℕ) → result ≡ Err (Torn k) → k < A.all }
         ensures known { OnOk result (AreKnown (known self.old) (map Some sectors.now)) }
-        ensures worked { IfOk result (λ work. IsWorked self.old.world.version.policy
-            (map_now self.old sectors.now) work.plan.puts.items work.plan.fates.items
-            work.watch) }
+        ensures worked { IfOk result (λ work. IsPlanned self.old.world.version.policy
+            (map_now self.old sectors.now) (work.plan, work.watch)) }
     {
         if self.is_full() {
             return Err(TickError::HistoryFull);
@@ -240,15 +240,22 @@ impl<A: Places> Keeper<A> {
         work: Work,
         version: Version,
     ) -> Result<Ready, AllocError>
+        requires known { AreKnown (known self.old) (map Some sectors.now) }
+        requires each { length sectors.now ≡ A.all }
+        requires worked { IsPlanned self.old.world.version.policy
+            (map_now self.old sectors.now) (work.plan, work.watch) }
+        requires version { version ≡ version_next A.first self.old }
         ensures chronicle { self.new.chronicle ≡ self.old.chronicle }
         ensures counts { self.new.counts ≡ self.old.counts }
         ensures world { self.new.world ≡ self.old.world }
         ensures seen { self.new.seen ≡ self.old.seen }
         ensures room { OnOk result (self.new.is_roomy ≡ true) }
-        ensures ready { IfOk result (IsReady sectors.now work version) }
+        ensures ready { IfOk result (CanClose A.first self.new sectors.now) }
     {
         self.archive.reserve()?;
-        Ready::new(alloc, sectors, version, work)
+        self.soundness();
+        are_sectors(sectors);
+        Ready::new(alloc, self.known.bounds(), sectors, version, work)
     }
 
     /// Makes the tick: closes the windows of these sectors, adds them with what becomes of the
@@ -274,24 +281,16 @@ impl<A: Places> Keeper<A> {
         are_sectors(sectors);
         let Ready {
             version,
-            puts,
             fates,
             told,
             watch,
-            nexts,
-            bases,
+            cells,
+            fresh,
             windows,
         } = ready;
         let number = self.archive.ticks().len() as u64 + 1;
-        let was = self.known.go_on(sectors, bases, puts.as_slice(), version);
-        let windows = renew_sectors(
-            self.known.bounds(),
-            self.known.version(),
-            sectors,
-            nexts,
-            windows,
-            puts.as_slice(),
-        );
+        let was = self.known.go_on(cells, version);
+        let windows = renew_sectors(sectors, fresh, windows);
         self.archive.add(Tick {
             number,
             version: was,
@@ -424,9 +423,8 @@ impl<A: Places> Keeper<A> {
         requires known { AreKnown (known self.now) (map Some sectors.now) }
         requires each { length sectors.now ≡ A.all }
         requires workers { (0 < workers) × (workers ≤ 8) }
-        ensures { IfOk result (λ work. IsWorked self.now.world.version.policy
-            (map_now self.now sectors.now) work.plan.puts.items work.plan.fates.items
-            work.watch) }
+        ensures { IfOk result (λ work. IsPlanned self.now.world.version.policy
+            (map_now self.now sectors.now) (work.plan, work.watch)) }
     {
         self.soundness();
         are_sectors(sectors);

@@ -1,18 +1,13 @@
 ghost use Rattle.std.specs.Bool.{Decides};
-ghost use Rattle.std.specs.List.{All};
-ghost use Rattle.std.specs.Prelude.{◌≡◌, ◌<◌, ◌≤◌, false, length, map, option_map, slice_index_or};
+ghost use Rattle.std.specs.Prelude.{◌≡◌, ◌<◌, length, slice_index_or};
 ghost use Rattle.vx_cells.specs.Maps.{AreSectors};
-ghost use Rattle.vx_cells.specs.SectorCells.{only_air, is_chest};
-ghost use Rattle.vx_cells.specs.Wholes.{with_cells_on};
-ghost use Rattle.vx_windows.specs.Sectors.{base_of, cells_of};
+ghost use Rattle.vx_cells.specs.SectorCells.{only_air};
 ghost use Rattle.vx_record.specs.Settling.{BeganWith};
-ghost use Rattle.vx_keeper.specs.Bases.{AreNextBases};
 
 use std::marker::Model;
 use std::mem;
-use vx_block::Cell;
-use vx_cells::{Cells, Frozen, put_all};
-use vx_geom::{Bounds, Pos};
+use vx_cells::{Cells, Frozen};
+use vx_geom::Bounds;
 use vx_policy::Version;
 use vx_record::began_with;
 use vx_sector::Sector;
@@ -100,44 +95,16 @@ impl Known {
         began_with(sector, &self.cells[at], &self.version)
     }
 
-    /// Goes on to the world as the next windows of these sectors begin, over their cells with these
-    /// put down, judged by this version, and hands out the version before. It takes no memory.
-    pub fn go_on(
-        &mut self,
-        sectors: &[Sector],
-        bases: Vec<Option<Box<Cells>>>,
-        puts: &[(Pos, Cell)],
-        version: Version,
-    ) -> Version
-        requires began { self.old.map.sectors ≡ map base_of sectors.now }
-        requires placed { AreSectors self.old.map.sizes (map cells_of sectors.now) }
-        requires suits { AreNextBases sectors.now
-            (map (λ base. option_map (λ b. b.value) base) bases.items) }
-        requires chests { All (λ put. is_chest put.1 ≡ false) puts.now }
-        ensures map { self.new.map ≡ with_cells_on (record {
-          sizes = self.old.map.sizes;
-          sectors = map cells_of sectors.now;
-        }) puts.now }
+    /// Goes on to the world as the next windows begin, over these cells, judged by this version, and
+    /// hands out the version before. It takes no memory.
+    pub fn go_on(&mut self, cells: Vec<Cells>, version: Version) -> Version
+        requires { AreSectors self.old.map.sizes cells.items }
+        ensures map { self.new.map
+            ≡ record { sizes = self.old.map.sizes; sectors = cells.items } }
         ensures version { self.new.version ≡ version }
         ensures was { result ≡ self.old.version }
     {
-        let copies = self.cells.as_mut_slice();
-        bring_up_all(copies, sectors, bases);
-        put_all(self.bounds, copies, puts);
+        self.cells = cells;
         mem::replace(&mut self.version, version)
-    }
-}
-
-// Brings copies of the sectors' bases up to their cells.
-fn bring_up_all(copies: &mut [Cells], sectors: &[Sector], bases: Vec<Option<Box<Cells>>>)
-    requires copies { copies.old ≡ map base_of sectors.now }
-    requires suits { AreNextBases sectors.now
-        (map (λ base. option_map (λ b. b.value) base) bases.items) }
-    ensures { copies.new ≡ map cells_of sectors.now }
-{
-    let mut bases = bases;
-    for at in 0..sectors.len() {
-        let base = bases[at].take();
-        sectors[at].bring_up(&mut copies[at], base);
     }
 }

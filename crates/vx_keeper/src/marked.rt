@@ -1,4 +1,4 @@
-ghost use Rattle.std.specs.Prelude.{◌≡◌, ◌⊎◌, ◌↔◌, ◌+◌, ◌<◌, length, true, false, if◌then◌else◌, Err, Some};
+ghost use Rattle.std.specs.Prelude.{◌≡◌, ◌≢◌, ◌⊎◌, ◌↔◌, ◌+◌, ◌<◌, length, true, false, if◌then◌else◌, Ok, Err, Some, IfOk};
 ghost use Rattle.vx_block.specs.Part.{part_cell};
 ghost use Rattle.vx_cells.specs.SectorCells.{holds};
 ghost use Rattle.vx_sector.specs.Commands.{place_of};
@@ -9,6 +9,7 @@ ghost use Rattle.vx_keeper.specs.Marks.{WorldData, IsMarkOf, IsPartOf};
 
 use crate::known::Known;
 use crate::places::Places;
+use std::alloc::AllocError;
 use std::marker::Model;
 use vx_block::Part;
 use vx_geom::Pos;
@@ -97,10 +98,10 @@ impl<A: Places> Marked<A> {
     }
 
     /// Puts a part down in base and cells, as `Sector::tamper` does. The mark goes.
-    pub fn tamper(&mut self, p: Pos, part: Part) -> bool
-        ensures when { (result ≡ true) ↔ CanTamper self.old p (part_cell part) }
-        ensures tampered { result ≡ true → self.new ≡ put_in self.old p (part_cell part) }
-        ensures kept { result ≡ false → self.new ≡ self.old }
+    pub fn tamper(&mut self, p: Pos, part: Part) -> Result<bool, AllocError>
+        ensures when { IfOk result (λ done. (done ≡ true) ↔ CanTamper self.old p) }
+        ensures tampered { result ≡ Ok true → self.new ≡ put_in self.old p (part_cell part) }
+        ensures kept { result ≢ Ok true → self.new ≡ self.old }
     {
         self.mark = None;
         self.sector.tamper(p, part)

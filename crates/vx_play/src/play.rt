@@ -1,6 +1,4 @@
-ghost use Rattle.std.specs.List.{All};
-ghost use Rattle.std.specs.Prelude.{◌≡◌, false, [], map, vec_len, IfOk, IfSome, OnOk, OnErr};
-ghost use Rattle.vx_cells.specs.SectorCells.{is_chest};
+ghost use Rattle.std.specs.Prelude.{◌≡◌, [], map, vec_len, IfOk, IfSome, OnOk, OnErr};
 ghost use Rattle.vx_cells.specs.Wholes.{with_cells_on};
 ghost use Rattle.vx_windows.specs.Sectors.{entries_in, entries_of};
 ghost use Rattle.vx_still.specs.Watching.{IsWatch};
@@ -21,7 +19,7 @@ use vx_sector::{Cmd, Entry, Refusal, Reply, Seat, Sector};
 use vx_still::Watch;
 use vx_tick::{Plan, plan_by};
 use vx_windows::{
-    MAX_PLAYERS, MAX_TICKS, all_next, cells_of, open_sectors, renew_sectors, written,
+    MAX_PLAYERS, MAX_TICKS, all_fresh, cells_after, cells_of, open_sectors, renew_sectors, written,
 };
 
 /// A world at play: its sectors in their places, its players in order of their seats, and the desk
@@ -208,8 +206,6 @@ impl<J: Naming> Play<J> {
         ensures puts { IfOk result (λ done.
             next_map self.now ≡ with_cells_on (map_of self.now) done.0.puts.items) }
         ensures fates { IfOk result (λ done. done.0.fates.items ≡ next_fates self.now) }
-        ensures chests { IfOk result (λ done.
-            All (λ put. is_chest put.1 ≡ false) done.0.puts.items) }
         ensures watch { IfOk result (λ done. IsWatch (next_map self.now) done.1) }
     {
         let cells = cells_of(alloc, &self.sectors)?;
@@ -228,7 +224,6 @@ impl<J: Naming> Play<J> {
         watch: Watch,
     ) -> Result<Vec<Vec<Entry>>, AllocError>
         requires watch { IsWatch (with_cells_on (map_of self.old) puts.now) watch }
-        requires chests { All (λ put. is_chest put.1 ≡ false) puts.now }
         requires more { self.old.ticks < most_ticks }
         ensures ok { OnOk result (self.new ≡ record self.old {
           sectors = all_renewed (next_version self.old) self.old.sectors
@@ -241,9 +236,10 @@ impl<J: Naming> Play<J> {
             map entries_in windows.items ≡ map entries_of self.old.sectors) }
     {
         let version = self.desk.fix(self.ticks + 2)?;
-        let nexts = all_next(alloc, &self.sectors, &version)?;
+        let cells = cells_after(alloc, self.bounds, &self.sectors, puts)?;
+        let fresh = all_fresh(alloc, &cells, &version)?;
         let room = Vec::with_capacity(alloc, self.sectors.len())?;
-        let windows = renew_sectors(self.bounds, &version, &mut self.sectors, nexts, room, puts);
+        let windows = renew_sectors(&mut self.sectors, fresh, room);
         self.version = version;
         self.watch = Some(watch);
         self.ticks += 1;

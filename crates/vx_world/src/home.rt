@@ -8,6 +8,7 @@ ghost use Rattle.vx_record.specs.Calls.{lists_after};
 use crate::books::Books;
 use crate::pass::Pass;
 use crate::seats::Seats;
+use std::alloc::AllocError;
 use std::sync::ledger::Share;
 use std::sync::{Mutex, Wait};
 use vx_block::Part;
@@ -85,7 +86,7 @@ impl<A: Places> Home<A> {
     }
 
     /// Puts a part down in base and cells, as `Sector::tamper` does.
-    pub fn tamper(&mut self, p: Pos, part: Part) -> bool {
+    pub fn tamper(&mut self, p: Pos, part: Part) -> Result<bool, AllocError> {
         self.marked.tamper(p, part)
     }
 }

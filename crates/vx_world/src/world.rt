@@ -1,5 +1,5 @@
 ghost use Rattle.std.specs.List.{All};
-ghost use Rattle.std.specs.Prelude.{◌≡◌, ℕ, ◌↔◌, ◌+◌, ◌*◌, ◌<◌, ◌≤◌, true, false, None, Some, Err, map, length, replicate, vec_len, IfOk, IfSome, ◌^◌, []};
+ghost use Rattle.std.specs.Prelude.{◌≡◌, ℕ, ◌↔◌, ◌+◌, ◌*◌, ◌<◌, ◌≤◌, true, false, None, Some, Ok, Err, map, length, replicate, vec_len, IfOk, IfSome, ◌^◌, []};
 ghost use Rattle.vx_geom.specs.Sizes.{sector_count, sector_of};
 ghost use Rattle.vx_sector.specs.Commands.{place_of};
 ghost use Rattle.vx_sector.specs.SectorData.{seat_of};
@@ -174,13 +174,13 @@ impl<A: Places, B: Seats> World<A, B> {
         home.act(rt, &self.books, pass, at, cmd)
     }
 
-    /// Puts a part down in the base and the cells of a sector, as no rule does; `false` outside the
-    /// world and where `Sector::tamper` says so. It is there for tests of the keeper.
-    pub fn tamper<R: Wait>(&self, rt: &R, p: Pos, part: Part) -> bool
-        ensures outside { sector_of self.now.bounds p ≡ None → result ≡ false }
+    /// Puts a part down in the base and the cells of a sector, as no rule does; `Ok(false)` outside
+    /// the world and where `Sector::tamper` says so. It is there for tests of the keeper.
+    pub fn tamper<R: Wait>(&self, rt: &R, p: Pos, part: Part) -> Result<bool, AllocError>
+        ensures outside { sector_of self.now.bounds p ≡ None → result ≡ Ok false }
     {
         let Some(number) = self.number_of(p) else {
-            return false;
+            return Ok(false);
         };
         let mut slot = self.came.wait_while(
             rt,
@@ -189,7 +189,7 @@ impl<A: Places, B: Seats> World<A, B> {
         );
         match &mut slot.home {
             Some(home) => home.tamper(p, part),
-            None => false,
+            None => Ok(false),
         }
     }
 

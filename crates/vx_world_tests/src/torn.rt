@@ -22,7 +22,8 @@ pub fn tampered<A: Places, B: Seats, R: Threads + Wait + Abort + Sync>(
     keeper: &mut Keeper<A>,
 ) -> Result<(), Fail> {
     assert!(rt; world.tick(rt, alloc, keeper, 1, &NoGate).is_ok());
-    assert!(rt; world.tamper(rt, Pos::new(20, 1, 5), Part::Stone));
+    let put = world.tamper(rt, Pos::new(20, 1, 5), Part::Stone);
+    assert!(rt; matches!(put, Ok(true)));
     is_torn(rt, alloc, world, keeper);
     is_torn(rt, alloc, world, keeper);
     Ok(())

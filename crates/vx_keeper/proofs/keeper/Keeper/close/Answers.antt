@@ -4,18 +4,17 @@ use Rattle.std.proofs.lemmas.List.{length-map}
 use Rattle.std.proofs.lemmas.List.Elements.{All-same}
 use Rattle.vx_geom.specs.Sizes.{sector_count}
 use Rattle.vx_cells.specs.Maps.{AreSectors, MapData}
-use Rattle.vx_cells.specs.Wholes.{IsMap, with_cells_on}
+use Rattle.vx_cells.specs.Wholes.{IsMap}
 use Rattle.vx_sector.specs.SectorData.{SectorData}
 use Rattle.vx_sector.specs.Windows.{count_of, most_entries}
-use Rattle.vx_cells.proofs.Setting.{puts_whole}
 use Rattle.vx_still.specs.Watching.{IsWatch}
-use Rattle.vx_windows.specs.Nexts.{AreNextOf}
-use Rattle.vx_windows.specs.Sectors.{cells_of, entries_in, entries_of, all_renewed}
+use Rattle.vx_windows.specs.Sectors.{AreOf, cells_of, entries_in, entries_of, renewed_each, all_renewed}
+use Rattle.vx_windows.proofs.Renewals.{as_many_on_map, of_map, renewed_over_map}
 use Rattle.vx_record.specs.Chronicles.{TickData, ChronicleData}
 use Rattle.vx_record.specs.Records.{tick_in}
 use Rattle.vx_record.specs.Archives.{IsArchive, IsNextTick, next_counts}
 use Rattle.vx_record.proofs.Counting.{archive_grown, counts_fit, counts_go_on}
-use Rattle.vx_keeper.specs.Keepers.{KeeperData, keeper_data, IsKeeper, map_now, map_next, chronicle_next}
+use Rattle.vx_keeper.specs.Keepers.{KeeperData, keeper_data, IsKeeper, map_by, map_now, map_next, chronicle_next}
 use Rattle.vx_keeper.specs.Marks.{IsPartOf}
 use Rattle.vx_keeper.proofs.Closing.{tick, is_next, keeps}
 use Rattle.vx_keeper.proofs.Knowing.{AreAsKnown, held_of, whole_now}
@@ -23,34 +22,21 @@ use Rattle.vx_keeper.proofs.Parts.{parts_renewed}
 use Rattle.vx_keeper.proofs.keeper.Keeper.close.Given.{Over}
 use Rattle.vx_keeper.proofs.keeper.Keeper.close.Goals as goal
 
-pub go_on-was-requires-clause-began : goal.go_on-was-requires-clause-began
-go_on-was-requires-clause-began g c =
-    let held = held_of g.A.Naming.first g.A.Places.all c.args.self.now c.soundness.ensures c.args.sectors.now c.requires.each c.requires.known in
-    ap (λ (k : KeeperData). k.world.map.sectors) c.self.view_is ∙ held.bases
+pub go_on-was-requires : goal.go_on-was-requires
+go_on-was-requires g c =
+    subst (λ v. AreSectors v c.args.ready.cells.items) (sym (ap (λ (k : KeeperData). k.world.map.sizes) c.self.view_is))
+    c.requires.ready.placed
 
-pub go_on-was-requires-clause-placed : goal.go_on-was-requires-clause-placed
-go_on-was-requires-clause-placed g c =
+pub renew_sectors-windows-requires-clause-fresh : goal.renew_sectors-windows-requires-clause-fresh
+renew_sectors-windows-requires-clause-fresh g c =
     let first = g.A.Naming.first in
     let many = g.A.Places.all in
     let k = c.args.self.now in
     let ss = c.args.sectors.now in
     let held = held_of first many k c.soundness.ensures ss c.requires.each c.requires.known in
-    subst (λ v. AreSectors v (map cells_of ss)) (sym (ap (λ (k : KeeperData). k.world.map.sizes) c.self.view_is))
-    (whole_now first many k c.soundness.ensures ss c.requires.each c.are_sectors.ensures held.bases)
-
-pub renew_sectors-windows-requires-clause-sectors : goal.renew_sectors-windows-requires-clause-sectors
-renew_sectors-windows-requires-clause-sectors g c =
-    let first = g.A.Naming.first in
-    let many = g.A.Places.all in
-    let k = c.args.self.now in
-    let ss = c.args.sectors.now in
-    let held = held_of first many k c.soundness.ensures ss c.requires.each c.requires.known in
-    let whole = whole_now first many k c.soundness.ensures ss c.requires.each c.are_sectors.ensures held.bases in
-    let sizes = ap (λ (k : KeeperData). k.world.map.sizes) c.self.view_is in
-    let m : MapData = record { sizes = c.self.inside.known.map.sizes; sectors = map cells_of ss } in
-    let kept = puts_whole m c.as_slice.result.now (subst (λ v. AreSectors v (map cells_of ss)) (sym sizes) whole) in
-    let same = c.bounds.ensures ∙ ap (λ (m : MapData). m.sizes) c.go_on-was.ensures.map ∙ kept.1 ∙ sizes in
-    subst (λ v. AreSectors v (map cells_of ss)) (sym same) whole
+    subst (AreOf ss) (sym c.requires.ready.fresh)
+    (of_map c.args.ready.version k.world.map.sizes ss c.args.ready.cells.items
+    (whole_now first many k c.soundness.ensures ss c.requires.each c.are_sectors.ensures held.bases) c.requires.ready.placed)
 
 pub add-requires-clause-next : goal.add-requires-clause-next
 add-requires-clause-next g c =
@@ -74,7 +60,7 @@ add-requires-clause-next g c =
       number = number i;
       version = version i;
       windows = c.renew_sectors-windows.ensures.windows i;
-      fates = c.requires.ready.worked.told i;
+      fates = c.requires.ready.fates i;
     } in
     subst (λ (d : ChronicleData). IsNextTick d told) (sym (ap (λ (k : KeeperData). k.chronicle) c.self.view_is))
     (subst (IsNextTick k.chronicle) (sym is) due)
@@ -112,21 +98,17 @@ module _ (g : Over) (c : goal.After-drop-puts g) where
   map_is : c.go_on-was.new.self.map ≡ map_next k ss
   map_is =
       c.go_on-was.ensures.map
-      ∙ (λ i. with_cells_on (record { sizes = sizes i; sectors = map cells_of ss }) (c.as_slice.ensures.value i))
-      ∙ sym c.requires.ready.worked.after
+      ∙ ap (λ v. map_by v c.args.ready.cells.items) sizes
+      ∙ c.requires.ready.map
 
   world_is : c.go_on-was.new.self ≡ record { map = map_next k ss; version = c.args.ready.version }
   world_is = λ i. record { map = map_is i; version = c.go_on-was.ensures.version i }
 
-  put : IsMap (with_cells_on (map_now k ss) c.args.ready.puts.items)
-      × ((with_cells_on (map_now k ss) c.args.ready.puts.items).sizes ≡ k.world.map.sizes)
-  put = puts_whole (map_now k ss) c.args.ready.puts.items whole
-
   next_whole : IsMap (map_next k ss)
-  next_whole = subst IsMap (sym c.requires.ready.worked.after) put.0
+  next_whole = subst IsMap c.requires.ready.map c.requires.ready.placed
 
   next_sizes : (map_next k ss).sizes ≡ k.world.map.sizes
-  next_sizes = ap (λ (m : MapData). m.sizes) c.requires.ready.worked.after ∙ put.1
+  next_sizes = ap (λ (m : MapData). m.sizes) (sym c.requires.ready.map)
 
   next_each : length (map_next k ss).sectors ≡ g.A.Places.all
   next_each =
@@ -134,12 +116,11 @@ module _ (g : Over) (c : goal.After-drop-puts g) where
 
   sectors_are : c.renew_sectors-windows.new.sectors ≡ all_renewed c.args.ready.version ss (map_next k ss).sectors
   sectors_are =
-      let version = c.version.ensures ∙ c.go_on-was.ensures.version in
-      let bounds = c.bounds.ensures ∙ ap (λ (m : MapData). m.sizes) map_is ∙ next_sizes in
+      let cells = c.args.ready.cells.items in
       c.renew_sectors-windows.ensures.renewed
-      ∙ (λ i. all_renewed (version i) ss
-      (with_cells_on (record { sizes = bounds i; sectors = map cells_of ss }) (c.as_slice-2.ensures.value i)).sectors)
-      ∙ ap (λ (m : MapData). all_renewed c.args.ready.version ss m.sectors) (sym c.requires.ready.worked.after)
+      ∙ ap (renewed_each ss) c.requires.ready.fresh
+      ∙ renewed_over_map c.args.ready.version ss cells (as_many_on_map k.world.map.sizes ss cells whole c.requires.ready.placed)
+      ∙ ap (λ (m : MapData). all_renewed c.args.ready.version ss m.sectors) c.requires.ready.map
 
   counts_are : c.add.new.self.counts ≡ map count_of ss
   counts_are =
@@ -161,7 +142,7 @@ module _ (g : Over) (c : goal.After-drop-puts g) where
           number = number i;
           version = version i;
           windows = c.renew_sectors-windows.ensures.windows i;
-          fates = c.requires.ready.worked.told i;
+          fates = c.requires.ready.fates i;
         } ∷ [];
       })
 
@@ -193,7 +174,7 @@ pub invariant_of-self : goal.invariant_of-self
 invariant_of-self g c = (
   keeper_is g c,
   c.mark.ensures,
-  subst (λ m. IsWatch m c.args.ready.watch) (sym (map_is g c)) c.requires.ready.worked.kept,
+  subst (λ m. IsWatch m c.args.ready.watch) (sym (map_is g c)) c.requires.ready.watch,
 )
 
 pub returns-clause-counts : goal.returns-clause-counts
@@ -218,12 +199,4 @@ pub returns-clause-world : goal.returns-clause-world
 returns-clause-world g c = world_is g c
 
 pub returns-clause-fates : goal.returns-clause-fates
-returns-clause-fates g c = c.requires.ready.told ∙ c.requires.ready.worked.told
-
-pub go_on-was-requires-clause-suits : goal.go_on-was-requires-clause-suits
-go_on-was-requires-clause-suits g c = c.requires.ready.bases
-
-pub renew_sectors-windows-requires-clause-nexts : goal.renew_sectors-windows-requires-clause-nexts
-renew_sectors-windows-requires-clause-nexts g c =
-    subst (λ v. AreNextOf v c.args.sectors.now c.args.ready.nexts.items)
-    (sym (c.version.ensures ∙ c.go_on-was.ensures.version)) c.requires.ready.nexts
+returns-clause-fates g c = c.requires.ready.told

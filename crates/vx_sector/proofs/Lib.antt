@@ -1,9 +1,9 @@
 pub mod ActingLemmas
-pub mod Catching
 pub mod ChestLemmas
 pub mod ContentsLemmas
 pub mod Keeping
 pub mod Leaving
 pub mod Outside
+pub mod Places
 pub mod Transfers
 pub mod WindowLemmas

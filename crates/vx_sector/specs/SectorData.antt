@@ -1,4 +1,4 @@
-use Rattle.std.specs.Prelude.{ℕ, List, Option, Result, map}
+use Rattle.std.specs.Prelude.{ℕ, List, Result, map}
 use Rattle.vx_cells.specs.SectorCells.{SectorCells}
 use Rattle.vx_policy.specs.declared.version.Version.{Version}
 use Rattle.vx_sector.specs.declared.cmd.Cmd.{Cmd}
@@ -21,12 +21,6 @@ pub record EntryData : Type 0 where
 -- what a window begins with: the cells, and the version that judges its commands
 pub record FreshData : Type 0 where
   pub cells : SectorCells
-  pub version : Version
-
--- what the next window takes beside the cells as they are: a copy of them to begin with, where one is
--- needed, and the version that judges its commands
-pub record NextData : Type 0 where
-  pub base : Option SectorCells
   pub version : Version
 
 -- a sector: the cells as its window began and as they are, the version that judges the commands of

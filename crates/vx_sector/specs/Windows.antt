@@ -1,12 +1,11 @@
-use Rattle.std.specs.Prelude.{◌≡◌, ℕ, ◌+◌, ◌≤◌, ◌^◌, Bool, true, false, not, nat_le, if◌then◌else◌, List, [], ◌∷◌, ◌++◌, length, Option, Some, None, Result, Ok, Err}
+use Rattle.std.specs.Prelude.{◌≡◌, ℕ, ◌+◌, ◌≤◌, ◌^◌, Bool, true, false, not, nat_le, if◌then◌else◌, List, [], ◌∷◌, ◌++◌, length, Result, Ok, Err}
 use Rattle.vx_block.specs.declared.cell.Cell.{Cell}
-use Rattle.vx_cells.specs.SectorCells.{SectorCells, is_chest, cell_at, holds, with_cell}
+use Rattle.vx_cells.specs.SectorCells.{SectorCells, holds, with_cell}
 use Rattle.vx_geom.specs.declared.pos.Pos.{Pos}
-use Rattle.vx_policy.specs.declared.version.Version.{Version}
 use Rattle.vx_region.specs.Regions.{Regions}
 use Rattle.vx_sector.specs.Acting.{rules_answer, cells_by}
 use Rattle.vx_sector.specs.Commands.{place_of}
-use Rattle.vx_sector.specs.SectorData.{SectorData, SeatData, EntryData, FreshData, NextData}
+use Rattle.vx_sector.specs.SectorData.{SectorData, SeatData, EntryData, FreshData}
 use Rattle.vx_sector.specs.declared.cmd.Cmd.{Cmd}
 use Rattle.vx_sector.specs.declared.reply.Reply.{Reply}
 use Rattle.vx_sector.specs.declared.refusal.Refusal.{Refusal}
@@ -98,41 +97,12 @@ first_window fresh = record {
 unfoldable pub renewed : SectorData → FreshData → SectorData
 renewed s fresh = record (first_window fresh) { closed = count_of s }
 
--- where the cells have a chest at the place of an entry, the base has one too
-abbrev pub IsCovered : SectorCells → SectorCells → List EntryData → Type 0
-IsCovered base cells [] = Unit {0}
-IsCovered base cells (entry ∷ entries) =
-    (is_chest (cell_at cells (place_of entry.cmd)) ≡ true
-    → is_chest (cell_at base (place_of entry.cmd)) ≡ true)
-    × IsCovered base cells entries
-
--- what was made brings the base up to the cells that the entries leave: a copy of them, or none
--- where each chest that an entry left stands over one of the base
-abbrev pub Suits : Option SectorCells → SectorCells → SectorCells → List EntryData → Type 0
-Suits None base cells entries = IsCovered base cells entries
-Suits (Some copy) base cells entries = copy ≡ cells
-
--- the base that was made suits a sector
-abbrev pub IsNextBase : Option SectorCells → SectorData → Type 0
-IsNextBase next s = Suits next s.base s.cells s.entries
-
--- what is made for the next window suits a sector as it is: a copy of the cells takes the base's
--- place, or the base is brought up to the cells where it takes no memory
-abbrev pub IsNextOf : NextData → SectorData → Type 0
-IsNextOf next s = IsNextBase next.base s
-
--- the sector as it goes on over its cells as they are, judged by the version that was made for it
-abbrev pub gone_on : SectorData → Version → SectorData
-gone_on s version = renewed s (record { cells = s.cells; version = version })
-
--- the sector with a cell put down as its window begins, by a machine
+-- the sector with a cell put down as its window begins
 abbrev pub put_in : SectorData → Pos → Cell → SectorData
 put_in s p cell = record s { base = with_cell s.cells p cell; cells = with_cell s.cells p cell }
 
--- a cell may be put down in base and cells where the position is of the sector, nothing is recorded
--- in its window, and no chest is put down or replaced
-pub record CanTamper (s : SectorData) (p : Pos) (cell : Cell) : Type 0 where
+-- a part may be put down in base and cells where the position is of the sector, and nothing is
+-- recorded in its window
+pub record CanTamper (s : SectorData) (p : Pos) : Type 0 where
   pub held : holds s.cells p ≡ true
   pub nothing : s.entries ≡ []
-  pub put : is_chest cell ≡ false
-  pub there : is_chest (cell_at s.cells p) ≡ false

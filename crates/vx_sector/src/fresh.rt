@@ -30,8 +30,8 @@ impl Model for Fresh {
 }
 
 impl Fresh {
-    /// A window over a copy of these cells, judged by a copy of this version. The cells are copied
-    /// twice, as bytes.
+    /// A window over copies of these cells, judged by a copy of this version. The copies share what
+    /// the cells hold.
     pub fn new(
         alloc: Global,
         bounds: Bounds,
@@ -47,8 +47,8 @@ impl Fresh {
         Fresh::over(alloc, copy, version)
     }
 
-    /// A window over these cells, judged by a copy of this version. The cells are taken, and copied
-    /// once, as bytes.
+    /// A window over these cells, judged by a copy of this version. The base is a copy, which shares
+    /// what they hold.
     pub fn over(alloc: Global, cells: Cells, version: &Version) -> Result<Fresh, AllocError>
         ensures { IfOk result (λ fresh.
             fresh ≡ record { cells = cells; version = version.now }) }

@@ -2,7 +2,6 @@
 #![tactic(auto)]
 
 mod acting;
-mod bringing;
 mod chests;
 mod cmd;
 mod contents;
@@ -11,7 +10,6 @@ mod entry;
 mod fresh;
 mod judge;
 mod laws;
-mod next;
 mod outcome;
 mod refusal;
 mod reply;
@@ -27,7 +25,6 @@ pub use laws::{
     putting_adds_so_many, refusal_leaves_cells, sectors_stay_whole, seeing_changes_nothing,
     shown_by_leave, taking_leaves_so_many_fewer, turning_keeps_the_facing,
 };
-pub use next::Next;
 pub use refusal::Refusal;
 pub use reply::Reply;
 pub use seat::Seat;

@@ -1,19 +1,17 @@
-ghost use Rattle.std.specs.Prelude.{◌≡◌, ◌≤◌, ◌<◌, ◌⊎◌, ◌↔◌, true, false, [], map, option_map, Err, IfOk, IfErr, OnOk, OnErr};
+ghost use Rattle.std.specs.Prelude.{◌≡◌, ◌≢◌, ◌≤◌, ◌<◌, ◌⊎◌, ◌↔◌, true, false, map, Ok, Err, IfOk, IfErr, OnOk, OnErr};
 ghost use Rattle.vx_block.specs.Part.{part_cell};
-ghost use Rattle.vx_cells.specs.SectorCells.{holds, is_chest, with_cell};
+ghost use Rattle.vx_cells.specs.SectorCells.{IsSlot, holds, is_chest, cell_at, with_cell, with_slot};
 ghost use Rattle.vx_sector.specs.Acting.{rules_answer, effect_by, Fits};
 ghost use Rattle.vx_sector.specs.Commands.{place_of};
 ghost use Rattle.vx_sector.specs.SectorData.{seat_of, entry_of};
-ghost use Rattle.vx_sector.specs.Windows.{IsWindow, cells_after, most_entries, count_of, is_recorded, is_full, IsCovered, IsNextBase, IsNextOf, gone_on, put_in, CanTamper};
+ghost use Rattle.vx_sector.specs.Windows.{IsWindow, cells_after, most_entries, count_of, is_recorded, is_full, put_in, CanTamper};
 
 use crate::acting::outcome_of;
-use crate::bringing::{are_covered, bring_up};
 use crate::cmd::Cmd;
 use crate::effect::Effect;
 use crate::entry::Entry;
 use crate::fresh::Fresh;
 use crate::judge::Judge;
-use crate::next::Next;
 use crate::outcome::Outcome;
 use crate::refusal::Refusal;
 use crate::reply::Reply;
@@ -22,7 +20,7 @@ use std::alloc::AllocError;
 use std::marker::Model;
 use std::mem;
 use vx_block::{Cell, Part};
-use vx_cells::Cells;
+use vx_cells::{Cells, Slot};
 use vx_geom::Pos;
 use vx_policy::Version;
 
@@ -108,88 +106,22 @@ impl Sector {
         mem::replace(&mut self.entries, entries)
     }
 
-    /// What the next window takes, judged by a copy of this version. The cells are copied, as
-    /// bytes, only where a chest was left at a place that had none.
-    pub fn next(&self, version: &Version) -> Result<Next, AllocError>
-        ensures suits { IfOk result (λ next. IsNextOf next self.now) }
-        ensures version { IfOk result (λ next. next.version ≡ version.now) }
+    /// Puts a part down in base and cells, as no rule does: it is there for tests. A chest begins
+    /// empty. It says whether it did: where the position is of the sector and nothing is recorded
+    /// in its window.
+    pub fn tamper(&mut self, p: Pos, part: Part) -> Result<bool, AllocError>
+        ensures when { IfOk result (λ done. (done ≡ true) ↔ CanTamper self.old p) }
+        ensures tampered { result ≡ Ok true → self.new ≡ put_in self.old p (part_cell part) }
+        ensures kept { result ≢ Ok true → self.new ≡ self.old }
     {
-        Ok(Next {
-            base: self.next_base()?,
-            judge: Judge::new(*self.entries.allocator(), version)?,
-            entries: Vec::new(*self.entries.allocator()),
-        })
-    }
-
-    /// What brings a copy of the base up to the cells: nothing, or a copy of the cells, as bytes,
-    /// where a chest was left at a place that had none.
-    pub fn next_base(&self) -> Result<Option<Box<Cells>>, AllocError>
-        ensures { IfOk result (λ next.
-            IsNextBase (option_map (λ b. b.value) next) self.now) }
-    {
-        if self.is_covered() {
-            return Ok(None);
+        if !self.can_tamper(p) {
+            return Ok(false);
         }
-        let copy = self.cells.try_clone()?;
-        Ok(Some(Box::new(*self.entries.allocator(), copy)?))
-    }
-
-    /// Brings a copy of the base up to the cells, by what was made for it. It takes no memory, and
-    /// copies at most what stands at the places of the record.
-    pub fn bring_up(&self, base: &mut Cells, next: Option<Box<Cells>>)
-        requires copy { base.old ≡ self.now.base }
-        requires suits { IsNextBase (option_map (λ b. b.value) next) self.now }
-        ensures { base.new ≡ self.now.cells }
-    {
-        bring_up(base, next, &self.entries, &self.cells);
-    }
-
-    /// Goes on with the next window over the cells as they are, and hands out the record of the
-    /// window that it closes. It takes no memory, and copies at most what stands at the places of
-    /// the record.
-    #[tactic(auto, unfolding(crate::specs::Windows::renewed))]
-    pub fn go_on(&mut self, next: Next) -> Vec<Entry>
-        requires { IsNextOf next self.old }
-        ensures entries { map entry_of result.items ≡ self.old.entries }
-        ensures next { self.new ≡ gone_on self.old next.version }
-    {
-        let Next {
-            base,
-            judge: judging,
-            entries: empty,
-        } = next;
-        bring_up(&mut self.base, base, &self.entries, &self.cells);
-        self.judge = judging;
-        let recorded = mem::replace(&mut self.entries, empty);
-        self.closed += recorded.len() as u64;
-        recorded
-    }
-
-    /// Puts a cell down as a window begins, as a machine does. It takes no memory.
-    pub fn put(&mut self, p: Pos, cell: Cell)
-        requires nothing { self.old.entries ≡ [] }
-        requires held { holds self.old.cells p ≡ true }
-        requires chest { is_chest cell ≡ false }
-        ensures { self.new ≡ put_in self.old p cell }
-    {
-        put_down_always(&mut self.base, p, &cell);
-        put_down_always(&mut self.cells, p, &cell);
-    }
-
-    /// Puts a part down in base and cells, as no rule does: it is there for tests. It says whether
-    /// it did: where the position is of the sector, nothing is recorded in its window, and no chest
-    /// is put down or replaced.
-    pub fn tamper(&mut self, p: Pos, part: Part) -> bool
-        ensures when { (result ≡ true) ↔ CanTamper self.old p (part_cell part) }
-        ensures tampered { result ≡ true → self.new ≡ put_in self.old p (part_cell part) }
-        ensures kept { result ≡ false → self.new ≡ self.old }
-    {
-        let cell = part.cell();
-        if !self.can_tamper(p, &cell) {
-            return false;
-        }
-        self.put(p, cell);
-        true
+        let mut changed = self.cells.try_clone()?;
+        changed.set(p, part.cell())?;
+        self.base = changed.try_clone()?;
+        self.cells = changed;
+        Ok(true)
     }
 
     /// The cells as the window began.
@@ -311,28 +243,17 @@ impl Sector {
         match effect {
             Effect::Same => {}
             Effect::NewCell(cell) => put_down(&mut self.cells, p, cell)?,
-            Effect::NewSlot(slot, content) => self.cells.set_slot(p, slot, content),
+            Effect::NewSlot(slot, content) => put_slot(&mut self.cells, p, slot, content)?,
         }
         self.entries.push_reserved(entry);
         Ok(())
     }
 
-    // Whether the base has a chest wherever the commands of the window left one.
-    fn is_covered(&self) -> bool
-        ensures { result ≡ true → IsCovered self.now.base self.now.cells self.now.entries }
+    // Whether a part may be put down at a position in base and cells.
+    fn can_tamper(&self, p: Pos) -> bool
+        ensures { (result ≡ true) ↔ CanTamper self.now p }
     {
-        are_covered(&self.base, &self.cells, &self.entries)
-    }
-
-    // Whether this cell may be put down at a position in base and cells: it and what stands there
-    // are no chests, and nothing is recorded.
-    fn can_tamper(&self, p: Pos, cell: &Cell) -> bool
-        ensures { (result ≡ true) ↔ CanTamper self.now p cell.now }
-    {
-        self.entries.is_empty()
-            && self.cells.holds(p)
-            && *cell != Cell::Chest
-            && self.cells.get(p) != Cell::Chest
+        self.entries.is_empty() && self.cells.holds(p)
     }
 
     // Whether as many commands were recorded as may be.
@@ -368,12 +289,17 @@ fn put_down(cells: &mut Cells, p: Pos, cell: Cell) -> Result<(), Refusal>
     cells.set(p, cell).map_err(|_| Refusal::NoMemory)
 }
 
-// Puts a cell other than a chest down at a position of the sector. It takes no memory, so it is
-// always done.
-fn put_down_always(cells: &mut Cells, p: Pos, cell: &Cell)
+// Puts something else into a slot of the chest at a position of the sector.
+fn put_slot(cells: &mut Cells, p: Pos, slot: u8, content: Slot) -> Result<(), Refusal>
     requires held { holds cells.old p ≡ true }
-    requires chest { is_chest cell.now ≡ false }
-    ensures { cells.new ≡ with_cell cells.old p cell.now }
+    requires chest { is_chest (cell_at cells.old p) ≡ true }
+    requires slot { slot < 27 }
+    requires content { IsSlot content }
+    ensures ok { OnOk result (cells.new ≡ with_slot cells.old p slot content) }
+    ensures err { OnErr result (cells.new ≡ cells.old) }
+    ensures memory { IfErr result (λ refusal. refusal ≡ Refusal.NoMemory) }
 {
-    let _ = cells.set(p, *cell);
+    cells
+        .set_slot(p, slot, content)
+        .map_err(|_| Refusal::NoMemory)
 }

@@ -9,7 +9,7 @@ use Rattle.vx_geom.specs.declared.pos.Pos.{Pos}
 use Rattle.vx_geom.specs.Sizes.{Sizes, AreSizes, sector_count, sector_of}
 use Rattle.vx_block.specs.declared.cell.Cell.{Cell}
 use Rattle.vx_cells.specs.Wholes.{with_cells_on, IsMap}
-use Rattle.vx_cells.specs.SectorCells.{SectorCells, holds, block_at, cell_at, with_block}
+use Rattle.vx_cells.specs.SectorCells.{SectorCells, holds, block_at, cell_at}
 use Rattle.vx_cells.specs.Maps.{AreSectors, MapData, cell_in, cell_on, sector_at}
 use Rattle.vx_cells.proofs.CellLaws.{other_blocks_stay}
 use Rattle.vx_cells.proofs.Copying.{held_too}
@@ -19,13 +19,14 @@ use Rattle.vx_policy.specs.declared.version.Version.{Version}
 use Rattle.vx_cells.proofs.Setting.{puts_whole}
 use Rattle.vx_power.specs.Levels.{has, same_place}
 use Rattle.vx_power.proofs.Having.{own_place}
+use Rattle.vx_sector.specs.Acting.{effect_by, cells_by}
 use Rattle.vx_sector.specs.Commands.{place_of}
 use Rattle.vx_sector.specs.SectorData.{SectorData, EntryData, SeatData}
 use Rattle.vx_sector.specs.Windows.{cells_after, is_recorded, sector_after, HoldsPlaces, IsWindow}
 use Rattle.vx_sector.specs.declared.cmd.Cmd.{Cmd}
 use Rattle.vx_sector.specs.declared.refusal.Refusal.{Refusal}
 use Rattle.vx_sector.specs.declared.reply.Reply.{Reply}
-use Rattle.vx_sector.proofs.Catching.{after_bounds, after_sector, copied_at, caught_up, places_too, window_places, with_bounds, with_sector}
+use Rattle.vx_sector.proofs.Places.{after_bounds, after_sector, block_done, by_bounds, by_sector, places_too, window_places}
 use Rattle.vx_sector.proofs.Keeping.{cases_place}
 use Rattle.vx_windows.specs.Sectors.{base_of, all_renewed, cells_of, opened_by}
 use Rattle.vx_windows.specs.Writing.{IsSpared, AreSpared, map_before}
@@ -52,19 +53,22 @@ found_place p base cells (entry ∷ entries) spared = elim (cases_place p (place
   ]
 ]
 
--- what is put down at the places of entries leaves other positions
-others_left : (p : Pos) (base cells : SectorCells) (entries : List EntryData) → AreSizes base.bounds
+-- entries leave what stands at other positions
+others_left : (p : Pos) (base : SectorCells) (entries : List EntryData) → AreSizes base.bounds
     → holds base p ≡ true → HoldsPlaces base entries → AreElsewhere p entries
-    → block_at (copied_at base cells entries) p ≡ block_at base p
-others_left p base cells [] sizes at_p held elsewhere = refl
-others_left p base cells (entry ∷ entries) sizes at_p held elsewhere =
+    → block_at (cells_after base entries) p ≡ block_at base p
+others_left p base [] sizes at_p held elsewhere = refl
+others_left p base (entry ∷ entries) sizes at_p held elsewhere =
     let q = place_of entry.cmd in
-    let next = with_block base q (block_at cells q) in
-    let bounds = with_bounds base q (block_at cells q) in
-    let sector = with_sector base q (block_at cells q) in
-    others_left p next cells entries (subst AreSizes (sym bounds) sizes)
+    let effect = effect_by base entry.cmd entry.answer in
+    let next = cells_by base entry.cmd entry.answer in
+    let done = block_done base q effect in
+    let bounds = by_bounds base q effect in
+    let sector = by_sector base q effect in
+    others_left p next entries (subst AreSizes (sym bounds) sizes)
     (held_too base next p bounds sector at_p) (places_too base next entries bounds sector held.1) elsewhere.1
-    ∙ other_blocks_stay base q p (block_at cells q) sizes held.0 at_p elsewhere.0
+    ∙ ap (λ (c : SectorCells). block_at c p) done.1
+    ∙ other_blocks_stay base q p done.0 sizes held.0 at_p elsewhere.0
 
 -- so where no entry has left another cell the cells of a window are as it began
 pub spared : (p : Pos) (base cells : SectorCells) (entries : List EntryData) → cells ≡ cells_after base entries
@@ -73,8 +77,8 @@ pub spared : (p : Pos) (base cells : SectorCells) (entries : List EntryData) →
 spared p base cells entries after sizes at_p held each = elim (found_place p base cells entries each) [
   | inl is ↦ is
   | inr elsewhere ↦
-      ap (λ (c : SectorCells). cell_at c p) (after ∙ sym (caught_up base entries))
-      ∙ ap (λ b. b.cell) (others_left p base (cells_after base entries) entries sizes at_p held elsewhere)
+      ap (λ (c : SectorCells). cell_at c p) after
+      ∙ ap (λ b. b.cell) (others_left p base entries sizes at_p held elsewhere)
 ]
 
 module _ (v : Sizes) (p : Pos) (sectors : List SectorData) (whole : AreSectors v (map cells_of sectors))

@@ -1,4 +1,3 @@
 pub mod Limits
-pub mod Nexts
 pub mod Sectors
 pub mod Writing

@@ -1,5 +1,6 @@
 -- The sectors of a world, from one window to the next.
-use Rattle.std.specs.Prelude.{List, [], ◌∷◌, Vec, map}
+use Rattle.std.specs.Prelude.{◌≡◌, List, [], ◌∷◌, Vec, map}
+use Rattle.std.specs.Bool.{⊤}
 use Rattle.std.specs.declared.alloc.Global.{Global}
 use Rattle.vx_cells.specs.SectorCells.{SectorCells}
 use Rattle.vx_region.specs.Regions.{Regions}
@@ -43,6 +44,21 @@ all_renewed version (s ∷ sectors) [] =
     renewed_over version s s.cells ∷ all_renewed version sectors []
 all_renewed version (s ∷ sectors) (c ∷ cells) =
     renewed_over version s c ∷ all_renewed version sectors cells
+
+-- each sector has what its next window begins with, and none is left: the cells are of the world's
+-- size and of the sector's number
+abbrev pub AreOf : List SectorData → List FreshData → Type 0
+AreOf [] [] = ⊤
+AreOf (s ∷ sectors) (fresh ∷ all) =
+    ((fresh.cells.bounds ≡ s.cells.bounds) × (fresh.cells.sector ≡ s.cells.sector))
+    × AreOf sectors all
+AreOf sectors all = ⊥
+
+-- the sectors, of which the first begin their next windows so, and the others are as they were
+abbrev pub renewed_each : List SectorData → List FreshData → List SectorData
+renewed_each [] all = []
+renewed_each (s ∷ sectors) [] = s ∷ sectors
+renewed_each (s ∷ sectors) (fresh ∷ all) = renewed s fresh ∷ renewed_each sectors all
 
 -- the record of a sector's window
 abbrev pub entries_of : SectorData → List EntryData

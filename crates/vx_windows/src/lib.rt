@@ -1,5 +1,5 @@
-//! The sectors of a world from one window to the next: as it opens, as each goes on with its next
-//! window over what a tick has left, and what was written between two ticks.
+//! The sectors of a world from one window to the next: as it opens, as each begins its next window
+//! over what a tick has left, and what was written between two ticks.
 #![tactic(auto)]
 
 mod limits;
@@ -7,5 +7,5 @@ mod windows;
 mod writes;
 
 pub use limits::{MAX_PLAYERS, MAX_TICKS};
-pub use windows::{all_next, cells_of, open_sectors, renew_sectors};
+pub use windows::{all_fresh, cells_after, cells_of, open_sectors, renew_sectors};
 pub use writes::written;

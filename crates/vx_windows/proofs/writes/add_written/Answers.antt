@@ -4,7 +4,7 @@ use Rattle.vx_geom.specs.Sizes.{AreSizes}
 use Rattle.vx_cells.specs.SectorCells.{SectorCells}
 use Rattle.vx_sector.specs.SectorData.{entry_of}
 use Rattle.vx_sector.specs.Windows.{HoldsPlaces}
-use Rattle.vx_sector.proofs.Catching.{after_bounds, after_sector, places_too, window_places}
+use Rattle.vx_sector.proofs.Places.{after_bounds, after_sector, places_too, window_places}
 use Rattle.vx_windows.specs.Writing.{AreSpared}
 use Rattle.vx_windows.proofs.Sparing.{spared_all}
 use Rattle.vx_windows.proofs.writes.add_written.Goals as goal

@@ -4,7 +4,7 @@ use Rattle.vx_sector.specs.declared.entry.Entry.{Entry}
 use Rattle.vx_sector.specs.SectorData.{entry_of, sector_data}
 use Rattle.vx_sector.specs.Windows.{recorded}
 use Rattle.vx_sector.proofs.WindowLemmas.{is_recorded_as, is_sector_too}
-use Rattle.vx_sector.proofs.sector.Sector.record.Goals.{in-Same, in-NewCell+in_ok-put_down-in-NewCell, in-NewSlot}
+use Rattle.vx_sector.proofs.sector.Sector.record.Goals.{in-Same, in-NewCell+in_ok-put_down-in-NewCell, in-NewSlot+in_ok-put_slot-in-NewSlot}
 use Rattle.vx_sector.proofs.sector.Sector.record.Goals as goal
 
 mapped_push : (old reserved new : List Entry) (entry : Entry) → reserved ≡ old → new ≡ reserved ++ entry ∷ [] → map entry_of new ≡ map entry_of old ++ entry_of entry ∷ []
@@ -30,8 +30,8 @@ whole c =
       | in-NewCell+in_ok-put_down-in-NewCell w ↦ is (ap (λ (x : Inside). x.base) w.self-inside-is) (ap (λ (x : Inside). x.judge) w.self-inside-is)
           (ap (λ (x : Inside). x.closed) w.self-inside-is)
           (rw w.in-NewCell.is (ap (λ (x : Inside). x.cells) w.self-inside-is ∙ w.in_ok-put_down-in-NewCell.ensures.ok)) (pushed (ap (λ (x : Inside). x.entries.items) w.self-inside-is ∙ c.reserve.ensures.items))
-      | in-NewSlot w ↦ is (ap (λ (x : Inside). x.base) w.self-inside-is) (ap (λ (x : Inside). x.judge) w.self-inside-is)
-          (ap (λ (x : Inside). x.closed) w.self-inside-is) (rw w.in-NewSlot.is (ap (λ (x : Inside). x.cells) w.self-inside-is ∙ w.set_slot.ensures))
+      | in-NewSlot+in_ok-put_slot-in-NewSlot w ↦ is (ap (λ (x : Inside). x.base) w.self-inside-is) (ap (λ (x : Inside). x.judge) w.self-inside-is)
+          (ap (λ (x : Inside). x.closed) w.self-inside-is) (rw w.in-NewSlot.is (ap (λ (x : Inside). x.cells) w.self-inside-is ∙ w.in_ok-put_slot-in-NewSlot.ensures.ok))
           (pushed (ap (λ (x : Inside). x.entries.items) w.self-inside-is ∙ c.reserve.ensures.items))
     ]
 

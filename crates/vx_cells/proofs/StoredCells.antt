@@ -114,6 +114,13 @@ undone old mid new k slots none put taken q = elim (cases_eq q k) [
   | inr apart ↦ taken q ∙ update_apart (slots_of_chest mid) k None q apart ∙ put q ∙ update_apart (slots_of_chest old) k slots q apart
 ]
 
+-- where there is no chest, none is taken away
+pub left_out : (chests : ChestData) (k : ℕ) → slots_of_chest chests k ≡ None → Changes chests chests k None
+left_out chests k none q = elim (cases_eq q k) [
+  | inl same ↦ ap (slots_of_chest chests) same ∙ none ∙ sym (update_here (slots_of_chest chests) k None) ∙ ap (λ n. update nat_eq (slots_of_chest chests) k None n) (sym same)
+  | inr apart ↦ sym (update_apart (slots_of_chest chests) k None q apart)
+]
+
 -- where no chest stands there are no slots, and where one does there are
 module _ (bounds : Sizes) (codes : List ℕ) (chests : ChestData) (held : IsStored bounds codes chests) (index : ℕ) where
   pub no-slots : is_chest (cell_of (get_or codes index 0)) ≡ false → slots_of_chest chests index ≡ None

@@ -133,8 +133,7 @@ impl Cells {
         ensures ok { OnOk result (self.new ≡ with_slot self.old p slot content) }
         ensures err { OnErr result (self.new ≡ self.old) }
     {
-        Arc::make_mut(&mut self.stored)?.set_slot(p, slot, content);
-        Ok(())
+        Arc::make_mut(&mut self.stored)?.set_slot(p, slot, content)
     }
 
     /// In which form the section of 16 by 16 by 16 cells is kept that holds the position: 1, one

@@ -78,20 +78,21 @@ impl Chests {
         *self.slots.get_mut(&index).unwrap() = slots;
     }
 
-    /// A copy of all chests.
-    pub fn try_clone(&self) -> Result<Chests, AllocError>
-        ensures { IfOk result (λ copy. copy ≡ self.now) }
-    {
-        Ok(Chests {
-            slots: self.slots.clone()?,
-        })
-    }
-
     /// Whether both have chests at the same indices, with the same in each slot.
     pub fn same(&self, other: &Chests) -> bool
         ensures { IsTrue result
             ↔ ((index : ℕ) → slots_of_chest self.now index ≡ slots_of_chest other.now index) }
     {
         self.slots == other.slots
+    }
+}
+
+impl Clone for Chests {
+    ghost is_clone = { λ chests copy. copy ≡ chests };
+
+    fn clone(&self) -> Result<Chests, AllocError> {
+        Ok(Chests {
+            slots: self.slots.clone()?,
+        })
     }
 }

@@ -1,5 +1,6 @@
 //! A byte put down at an index of a sector, and what that does to the chest there.
 ghost use Rattle.std.specs.Prelude.{◌≡◌, ◌<◌, ℕ, true, false, length, None, IsSome, slice_index_or, slice_set, OnOk, OnErr};
+ghost use Rattle.std.specs.Arc.{arc_value};
 ghost use Rattle.std.specs.List.{All};
 ghost use Rattle.vx_cells.specs.Chests.{slots_of_chest, Changes, SameSlots, begun};
 ghost use Rattle.vx_cells.specs.Codes.{code_count, cell_of};
@@ -9,11 +10,39 @@ use crate::chests::Chests;
 use crate::code::is_chest;
 use crate::stack::SLOTS;
 use std::alloc::AllocError;
+use std::sync::Arc;
 use vx_section::Sections;
 
-/// Puts a byte down, in place of the one that was there. A chest begins empty, and where one was
-/// and none is any more, its slots go.
-pub fn put_down(
+/// Puts a byte down, in place of the one that was there. The chests are looked at only where the
+/// cell is or was one, so that copies go on sharing them.
+pub fn put_over(
+    store: &mut Sections,
+    chests: &mut Arc<Chests>,
+    index: u32,
+    code: u8,
+) -> Result<(), AllocError>
+    requires within { index < length store.old }
+    requires codes { All (λ each. each < code_count) store.old }
+    requires code { code < code_count }
+    requires none { is_chest (cell_of (slice_index_or store.old index 0)) ≡ false
+        → slots_of_chest (arc_value chests.old) index ≡ None }
+    requires some { is_chest (cell_of (slice_index_or store.old index 0)) ≡ true
+        → IsSome (slots_of_chest (arc_value chests.old) index) }
+    ensures store { OnOk result (store.new ≡ slice_set store.old index code) }
+    ensures chests { OnOk result (Changes (arc_value chests.old) (arc_value chests.new) index
+        (begun (is_chest (cell_of code)))) }
+    ensures err { OnErr result ((store.new ≡ store.old)
+        × SameSlots (arc_value chests.old) (arc_value chests.new)) }
+{
+    if is_chest(code) || is_chest(store.get(index)) {
+        return put_down(store, Arc::make_mut(chests)?, index, code);
+    }
+    store.set(index, code)
+}
+
+// Puts a byte down, in place of the one that was there. A chest begins empty, and where one was
+// and none is any more, its slots go.
+fn put_down(
     store: &mut Sections,
     chests: &mut Chests,
     index: u32,

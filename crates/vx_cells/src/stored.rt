@@ -10,10 +10,11 @@ ghost use Rattle.vx_cells.specs.Listed.{components_of, devices_of};
 use crate::cell_marks::CellMarks;
 use crate::chests::Chests;
 use crate::code::{AIR, conducts, decode, encode, is_component, is_device, is_dust};
-use crate::put_down::put_down;
+use crate::put_down::put_over;
 use crate::stack::{SLOTS, Slot};
 use std::alloc::{AllocError, Global};
 use std::marker::Model;
+use std::sync::Arc;
 use vx_block::Cell;
 use vx_geom::{Bounds, Pos};
 use vx_section::Sections;
@@ -27,20 +28,22 @@ pub(crate) struct Stored {
     bounds: Bounds,
     sector: u32,
     store: Sections,
-    chests: Chests,
+    // Apart, since most changes of a sector are none of a chest, and a sector may have many.
+    chests: Arc<Chests>,
     components: CellMarks,
     devices: CellMarks,
 }
 
 impl Model for Stored {
+    ghost use Rattle.std.specs.Arc.{arc_value};
     ghost use Rattle.vx_cells.specs.SectorCells.{SectorCells};
     ghost use Rattle.vx_cells.specs.Stored.{stored, IsKept};
 
     ghost Value = { SectorCells };
 
-    ghost view = { λ a. stored a.bounds a.sector a.store a.chests };
+    ghost view = { λ a. stored a.bounds a.sector a.store (arc_value a.chests) };
 
-    ghost invariant = { λ a. IsKept a.bounds a.sector a.store a.chests a.components.words
+    ghost invariant = { λ a. IsKept a.bounds a.sector a.store (arc_value a.chests) a.components.words
         a.devices.words };
 }
 
@@ -60,7 +63,7 @@ impl Stored {
             bounds,
             sector,
             store,
-            chests: Chests::new(alloc),
+            chests: Arc::new(alloc, Chests::new(alloc))?,
             components: CellMarks::new(count),
             devices: CellMarks::new(count),
         })
@@ -147,7 +150,7 @@ impl Stored {
         // Before the cell: where that is put down, its marks have room.
         room_for(self.alloc, &mut self.components, is_component(code))?;
         room_for(self.alloc, &mut self.devices, is_device(code))?;
-        put_down(&mut self.store, &mut self.chests, index, code)?;
+        put_over(&mut self.store, &mut self.chests, index, code)?;
         self.components.set(index, is_component(code));
         self.devices.set(index, is_device(code));
         Ok(())
@@ -164,15 +167,17 @@ impl Stored {
 
     /// Puts something else into a slot of the chest at a position of this sector: nothing, or 1 to
     /// 64 of an item.
-    pub fn set_slot(&mut self, p: Pos, slot: u8, content: Slot)
+    pub fn set_slot(&mut self, p: Pos, slot: u8, content: Slot) -> Result<(), AllocError>
         requires held { holds self.old p ≡ true }
         requires chest { is_chest (cell_at self.old p) ≡ true }
         requires slot { slot < 27 }
         requires content { IsSlot content }
-        ensures { self.new ≡ with_slot self.old p slot content }
+        ensures ok { OnOk result (self.new ≡ with_slot self.old p slot content) }
+        ensures err { OnErr result (self.new ≡ self.old) }
     {
         let index = self.bounds.index_in_sector(p);
-        self.chests.set(index, slot, content);
+        Arc::make_mut(&mut self.chests)?.set(index, slot, content);
+        Ok(())
     }
 
     /// The form of the section that holds the position.
@@ -232,7 +237,7 @@ impl Clone for Stored {
             bounds: self.bounds,
             sector: self.sector,
             store: self.store.clone()?,
-            chests: self.chests.try_clone()?,
+            chests: Arc::try_clone(&self.chests)?,
             components: self.components.clone()?,
             devices: self.devices.clone()?,
         })

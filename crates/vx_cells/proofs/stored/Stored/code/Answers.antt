@@ -1,5 +1,6 @@
 use Rattle.std.proofs.Common.{◌<◌, length, ap, ◌∙◌, subst, sym, arith}
 use Rattle.vx_cells.specs.Codes.{code_count, cell_of}
+use Rattle.std.specs.Arc.{arc_value}
 use Rattle.vx_cells.proofs.Indices.{inside_from_holds}
 use Rattle.vx_cells.proofs.StoredCells.{cell-stored}
 use Rattle.vx_cells.proofs.stored.Stored.code.Goals as goal
@@ -14,7 +15,7 @@ pub returns-clause-cell : goal.returns-clause-cell
 returns-clause-cell c =
     let s = c.self.inside in
     rw (← c.self.view_is) (ap cell_of c.get.ensures
-    ∙ cell-stored s.bounds s.sector s.store s.chests c.self.invariant.stored c.args.p _
+    ∙ cell-stored s.bounds s.sector s.store (arc_value s.chests) c.self.invariant.stored c.args.p _
     c.index_in_sector.ensures.value c.index_in_sector.ensures.within)
 
 pub returns-clause-within : goal.returns-clause-within

@@ -1,6 +1,7 @@
 use Rattle.std.proofs.Common.{◌≡◌, IfOk, subst, ◌∙◌}
 use Rattle.vx_block.specs.Components.{is_component}
 use Rattle.vx_cells.specs.Listed.{components_of}
+use Rattle.std.specs.Arc.{arc_value}
 use Rattle.vx_cells.proofs.StoredMarks.{marked_are}
 use Rattle.vx_cells.proofs.stored.Stored.components.Goals as goal
 
@@ -15,6 +16,6 @@ unfolding components_of
 returns c =
     let s = c.self.inside in
     rw (← c.self.view_is) (subst (λ all. IfOk c.places.result (λ found. found.items ≡ all))
-    (marked_are s.bounds s.sector s.store s.chests c.soundness.ensures c.self.invariant.sector_low
+    (marked_are s.bounds s.sector s.store (arc_value s.chests) c.soundness.ensures c.self.invariant.sector_low
     is_component s.components.words c.self.invariant.components)
     c.places.ensures)

@@ -1,6 +1,7 @@
 use Rattle.std.proofs.Common.{◌≡◌, IfOk, subst, ◌∙◌}
 use Rattle.vx_block.specs.Components.{is_device}
 use Rattle.vx_cells.specs.Listed.{devices_of}
+use Rattle.std.specs.Arc.{arc_value}
 use Rattle.vx_cells.proofs.StoredMarks.{marked_are}
 use Rattle.vx_cells.proofs.stored.Stored.devices.Goals as goal
 
@@ -15,6 +16,6 @@ unfolding devices_of
 returns c =
     let s = c.self.inside in
     rw (← c.self.view_is) (subst (λ all. IfOk c.places.result (λ found. found.items ≡ all))
-    (marked_are s.bounds s.sector s.store s.chests c.soundness.ensures c.self.invariant.sector_low
+    (marked_are s.bounds s.sector s.store (arc_value s.chests) c.soundness.ensures c.self.invariant.sector_low
     is_device s.devices.words c.self.invariant.devices)
     c.places.ensures)

@@ -1,6 +1,7 @@
 use Rattle.std.proofs.Common.{nat_lt, length, ap, ◌∙◌}
 use Rattle.vx_block.specs.Components.{is_device}
 use Rattle.vx_cells.specs.Listed.{devices_of}
+use Rattle.std.specs.Arc.{arc_value}
 use Rattle.vx_cells.proofs.StoredMarks.{marked_are}
 use Rattle.vx_cells.proofs.stored.Stored.has_devices.Goals as goal
 
@@ -12,5 +13,5 @@ returns c =
     rw (← c.self.view_is) (c.has_any.ensures s.bounds s.sector c.soundness.ensures kept.sector_low
     (kept.devices.long ∙ kept.stored.whole)
     ∙ ap (λ ps. nat_lt 0 (length ps))
-    (marked_are s.bounds s.sector s.store s.chests c.soundness.ensures kept.sector_low
+    (marked_are s.bounds s.sector s.store (arc_value s.chests) c.soundness.ensures kept.sector_low
     is_device s.devices.words kept.devices))

@@ -16,15 +16,15 @@ invariant_of-result c =
     let whole = whole_words v c.soundness.ensures in
     record {
       sector_low = c.requires;
-      stored = stored-fresh v n store c.new-2.result codes c.new-2.ensures refl;
-      components = blank_marks is_component n store c.new-3.result.words refl codes whole
-          (c.new-3.ensures ∙ ap (λ k. replicate (k / 64) 0) count);
-      devices = blank_marks is_device n store c.new-4.result.words refl codes whole
+      stored = stored-fresh v n store _ codes (c.in_ok-new.ensures.ok ∙ c.new-2.ensures) refl;
+      components = blank_marks is_component n store c.new-4.result.words refl codes whole
           (c.new-4.ensures ∙ ap (λ k. replicate (k / 64) 0) count);
+      devices = blank_marks is_device n store c.new-5.result.words refl codes whole
+          (c.new-5.ensures ∙ ap (λ k. replicate (k / 64) 0) count);
     }
 
 pub returns : goal.returns
 returns c =
     let v = c.args.bounds in
     let codes = all_alike v c.soundness.ensures _ c.sector_cells-count.ensures c.in_ok-store.store 0 c.in_ok-store.ensures in
-    fresh-stored v c.args.sector (sector_cells v) c.in_ok-store.store c.new-2.result codes c.new-2.ensures refl
+    fresh-stored v c.args.sector (sector_cells v) c.in_ok-store.store _ codes (c.in_ok-new.ensures.ok ∙ c.new-2.ensures) refl

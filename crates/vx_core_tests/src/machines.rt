@@ -1,5 +1,5 @@
 //! What machines ask for in one sector, by calls that a tick makes for all sectors at once.
-use crate::maps::{Placed, world};
+use crate::maps::{Placed, row, world};
 use crate::same::same;
 use std::alloc::{AllocError, Global};
 use std::process::Abort;
@@ -30,6 +30,28 @@ const LINE: Placed<'static> = &[
     (19, 1, 5, "dust:0"),
     (20, 1, 5, "dust:0"),
     (21, 1, 5, "dust:0"),
+];
+
+// A lever two sectors off the last dust that it feeds, by the stone that it powers.
+const FAR: Placed<'static> = &[
+    (14, 1, 5, "lever:east:on"),
+    (15, 1, 5, "stone"),
+    (16, 1, 5, "dust:0"),
+    (17, 1, 5, "dust:0"),
+    (18, 1, 5, "dust:0"),
+    (19, 1, 5, "dust:0"),
+    (20, 1, 5, "dust:0"),
+    (21, 1, 5, "dust:0"),
+    (22, 1, 5, "dust:0"),
+    (23, 1, 5, "dust:0"),
+    (24, 1, 5, "dust:0"),
+    (25, 1, 5, "dust:0"),
+    (26, 1, 5, "dust:0"),
+    (27, 1, 5, "dust:0"),
+    (28, 1, 5, "dust:0"),
+    (29, 1, 5, "dust:0"),
+    (30, 1, 5, "dust:0"),
+    (31, 1, 5, "dust:0"),
 ];
 
 const REPEATER: Placed<'static> = &[
@@ -73,6 +95,13 @@ fn levels_of_a_sector_come_from_its_neighbor(rt: HostRuntime) -> Result<(), Fail
         1,
         &[(15, 6), (16, 5), (20, 1), (21, 0)],
     )?;
+    Ok(())
+}
+
+#[test]
+fn levels_of_a_sector_come_from_two_sectors_off(rt: HostRuntime) -> Result<(), Fail> {
+    let map = row(&rt, rt.alloc(), 3, FAR)?;
+    are_levels(&rt, rt.alloc(), &map, 2, &[(30, 1), (31, 0)])?;
     Ok(())
 }
 

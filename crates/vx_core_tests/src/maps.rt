@@ -23,6 +23,14 @@ pub fn world(rt: &impl Abort, alloc: Global, placed: Placed) -> Result<Whole, Fa
     Ok(map)
 }
 
+// A world of so many sectors of 16 by 16 columns side by side.
+pub fn row(rt: &impl Abort, alloc: Global, sectors: u8, placed: Placed) -> Result<Whole, Fail> {
+    let bounds = Bounds::new(sectors, 1, 1).ok_or("no bounds")?;
+    let mut map = Whole::new(alloc, bounds)?;
+    put(rt, &mut map, placed)?;
+    Ok(map)
+}
+
 fn put(rt: &impl Abort, map: &mut Whole, placed: Placed) -> Result<(), AllocError> {
     for (x, y, z, text) in placed {
         let cell = Cell::read(text).expect(rt, "no such cell");

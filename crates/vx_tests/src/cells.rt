@@ -6,7 +6,7 @@ use crate::same::same;
 use std::alloc::{AllocError, Global};
 use std::process::Abort;
 use std::test::Fail;
-use vx_block::Cell;
+use vx_block::{Cell, Level};
 use vx_cells::{Cells, Slot, Stack};
 use vx_geom::{Bounds, Pos};
 
@@ -29,11 +29,12 @@ fn put(rt: &impl Abort, cells: &mut Cells, p: Pos, cell: Cell) -> Result<(), All
 fn fill(rt: &impl Abort, cells: &mut Cells, p: Pos, slot: u8, count: u8) {
     assert!(rt; cells.holds(p));
     assert!(rt; slot < 27 && count <= 64);
-    match cells.get(p) {
+    let filled = match cells.get(p) {
         Cell::Chest if count == 0 => cells.set_slot(p, slot, None),
         Cell::Chest => cells.set_slot(p, slot, stack(count)),
         _ => panic!(rt; "no chest"),
-    }
+    };
+    assert!(rt; filled.is_ok());
 }
 
 fn stack(count: u8) -> Slot
@@ -115,4 +116,49 @@ fn is_same(
     let other = sector(alloc, sectors, number)?;
     compares(rt, west, &other, due);
     Ok(())
+}
+
+// Sixteen kinds of cells beside air: dust of each level but one, stone and glass.
+#[test]
+fn a_section_goes_on_to_the_form_that_its_kinds_need(rt: HostRuntime) -> Result<(), Fail> {
+    let mut cells = sector(rt.alloc(), 1, 0)?;
+    is_in_form(&rt, &cells, 1);
+    put(&rt, &mut cells, Pos::new(0, 0, 0), Cell::Stone)?;
+    is_in_form(&rt, &cells, 2);
+    put_levels(&rt, &mut cells)?;
+    is_in_form(&rt, &cells, 2);
+    put(&rt, &mut cells, Pos::new(15, 15, 15), Cell::Glass)?;
+    is_in_form(&rt, &cells, 3);
+    clear(&rt, &mut cells)?;
+    is_in_form(&rt, &cells, 3);
+    Ok(())
+}
+
+// Dust of fourteen levels, in one section.
+fn put_levels(rt: &impl Abort, cells: &mut Cells) -> Result<(), AllocError> {
+    for level in 1..15_u8 {
+        let dust = Cell::Dust(Level::new(level));
+        put(rt, cells, Pos::new(i32::from(level), 7, 15), dust)?;
+    }
+    Ok(())
+}
+
+// Air in place of all that was put down.
+fn clear(rt: &impl Abort, cells: &mut Cells) -> Result<(), AllocError> {
+    put(rt, cells, Pos::new(0, 0, 0), Cell::Air)?;
+    put(rt, cells, Pos::new(15, 15, 15), Cell::Air)?;
+    for x in 1..15_i32 {
+        put(rt, cells, Pos::new(x, 7, 15), Cell::Air)?;
+    }
+    Ok(())
+}
+
+// The lowest section is kept in that form, and the one over it, where nothing was put down, in the
+// first.
+fn is_in_form(rt: &impl Abort, cells: &Cells, due: u8) {
+    for (y, form) in [(0, due), (15, due), (16, 1)] {
+        let p = Pos::new(3, y, 9);
+        assert!(rt; cells.holds(p));
+        same(rt, &cells.form(p), &form);
+    }
 }

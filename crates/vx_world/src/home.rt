@@ -1,4 +1,4 @@
-ghost use Rattle.std.specs.Prelude.{◌≡◌, ◌≢◌, ◌⊎◌, ◌+◌, ◌<◌, true, if◌then◌else◌, Err};
+ghost use Rattle.std.specs.Prelude.{◌≡◌, ◌≢◌, ◌⊎◌, ◌+◌, ◌<◌, true, false, if◌then◌else◌, Err};
 ghost use Rattle.vx_cells.specs.SectorCells.{holds};
 ghost use Rattle.vx_sector.specs.Commands.{place_of};
 ghost use Rattle.vx_sector.specs.SectorData.{seat_of};
@@ -73,6 +73,7 @@ impl<A: Places> Home<A> {
         ensures share { pass.new.share.amount
             ≡ pass.old.share.amount + (if is_recorded result then 1 else 0) }
         ensures seat { pass.new.seat ≡ pass.old.seat }
+        ensures kept { is_recorded result ≡ false → pass.new ≡ pass.old }
         ensures inside { holds self.old.marked.cells (place_of cmd) ≡ true
             → result ≢ Err Refusal.OutOfWorld }
     {

@@ -252,9 +252,9 @@ impl<A: Places> Keeper<A> {
         ensures room { OnOk result (self.new.is_roomy ≡ true) }
         ensures ready { IfOk result (CanClose A.first self.new sectors.now) }
     {
-        self.archive.reserve()?;
         self.soundness();
         are_sectors(sectors);
+        self.archive.reserve()?;
         Ready::new(alloc, self.known.bounds(), sectors, version, work)
     }
 

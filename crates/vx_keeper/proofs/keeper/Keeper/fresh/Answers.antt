@@ -2,6 +2,8 @@ use Rattle.std.proofs.Common.{◌≡◌, map, sym, ap, subst, ◌∙◌}
 use Rattle.std.proofs.lemmas.Result.{IfOk-weaker}
 use Rattle.vx_cells.specs.Maps.{AreSectors}
 use Rattle.vx_cells.specs.Wholes.{with_cells_on}
+use Rattle.vx_geom.specs.Sizes.{Sizes}
+use Rattle.vx_policy.specs.declared.version.Version.{Version}
 use Rattle.vx_still.specs.Watching.{IsWatch}
 use Rattle.vx_windows.specs.Sectors.{cells_of, window_over}
 use Rattle.vx_windows.proofs.Renewals.{after_placed}
@@ -26,3 +28,48 @@ invariant_of-self-2 g c = (
   c.self.invariant.1,
   c.self.invariant.2,
 )
+
+pub new-requires : goal.new-requires
+new-requires g c =
+    let first = g.A.Naming.first in
+    let many = g.A.Places.all in
+    let k = c.args.self.now in
+    let ss = c.args.sectors.now in
+    let held = held_of first many k c.soundness.ensures ss c.requires.each c.requires.known in
+    let sizes = c.bounds.ensures ∙ ap (λ (k : KeeperData). k.world.map.sizes) c.self.view_is in
+    subst (λ v. AreSectors v (map cells_of ss)) (sym sizes)
+    (whole_now first many k c.soundness.ensures ss c.requires.each c.are_sectors.ensures held.bases)
+
+pub returns-clause-ready : goal.returns-clause-ready
+returns-clause-ready g c =
+    let first = g.A.Naming.first in
+    let many = g.A.Places.all in
+    let k = c.args.self.now in
+    let ss = c.args.sectors.now in
+    let held = held_of first many k c.soundness.ensures ss c.requires.each c.requires.known in
+    let sizes = c.bounds.ensures ∙ ap (λ (k : KeeperData). k.world.map.sizes) c.self.view_is in
+    let whole = whole_now first many k c.soundness.ensures ss c.requires.each c.are_sectors.ensures held.bases in
+    let left : keeper_data c.reserve.new.self c.self.inside.known c.self.inside.view ≡ record k { is_roomy = c.reserve.new.self.is_roomy } =
+    λ i. record {
+      chronicle = (c.reserve.ensures.chronicle ∙ ap (λ (k : KeeperData). k.chronicle) c.self.view_is) i;
+      counts = (c.reserve.ensures.counts ∙ ap (λ (k : KeeperData). k.counts) c.self.view_is) i;
+      world = ap (λ (k : KeeperData). k.world) c.self.view_is i;
+      seen = ap (λ (k : KeeperData). k.seen) c.self.view_is i;
+      is_roomy = c.reserve.new.self.is_roomy;
+    } in
+    IfOk-weaker c.new.result _ _
+    (λ ready is.
+    let cells = ready.cells.items in
+    let after = subst (λ v. map_by v cells ≡ with_cells_on (map_by v (map cells_of ss)) c.args.work.plan.puts.items) sizes is.cells in
+    subst (λ k. CanClose first k ss ready) (sym left) (record {
+      map = after ∙ sym c.requires.worked.puts;
+      placed = after_placed c.args.version k.world.map.sizes ss cells c.args.work.plan.puts.items whole after;
+      fates = is.fates ∙ c.requires.worked.fates;
+      told = is.told ∙ c.requires.worked.fates;
+      watch = subst (IsWatch (map_next k ss)) (sym is.watch) c.requires.worked.watch;
+      version = is.version ∙ c.requires.version;
+      fresh = is.fresh ∙ ap (λ (v : Version). map (window_over v) cells) (sym is.version);
+      none = is.none;
+      room = is.room;
+    }))
+    c.new.ensures

@@ -28,26 +28,40 @@ pub fn made_again<A: Places, B: Seats, R: Threads + Wait + Abort + Sync>(
     Ok(())
 }
 
+// Dust is placed, and a chest that then takes something and is opened.
 fn act_again<A: Places, B: Seats, R: Wait + Abort>(
     rt: &R,
     world: &World<A, B>,
     pass: &mut Pass<A, B>,
 ) {
-    let placed = place(rt, world, pass);
-    if placed == Err(Refusal::NoMemory) {
-        assert!(rt; place(rt, world, pass).is_ok());
-    } else {
-        assert!(rt; placed.is_ok());
+    let chest = Pos::new(6, 1, 5);
+    let put = Cmd::Put {
+        at: chest,
+        slot: 0,
+        item: 7,
+        count: 3,
+    };
+    for cmd in [
+        Cmd::Place(Pos::new(5, 1, 5), Part::Dust),
+        Cmd::Place(chest, Part::Chest),
+        put,
+        Cmd::OpenChest(chest),
+    ] {
+        assert!(rt; submit_again(rt, world, pass, cmd).is_ok());
     }
 }
 
-fn place<A: Places, B: Seats, R: Wait>(
+// Carries out a command, a second time where memory was refused to the first.
+fn submit_again<A: Places, B: Seats, R: Wait>(
     rt: &R,
     world: &World<A, B>,
     pass: &mut Pass<A, B>,
+    cmd: Cmd,
 ) -> Result<Reply, Refusal> {
-    let cmd = Cmd::Place(Pos::new(5, 1, 5), Part::Dust);
-    world.submit(rt, pass, cmd, &NoGate)
+    match world.submit(rt, pass, cmd, &NoGate) {
+        Err(Refusal::NoMemory) => world.submit(rt, pass, cmd, &NoGate),
+        answer => answer,
+    }
 }
 
 fn tick_again<A: Places, B: Seats, R: Threads + Wait + Abort + Sync>(
@@ -74,7 +88,7 @@ pub fn finished_again<A: Places, B: Seats>(
 ) -> Result<(), Fail>
     requires ledgers { (A.parts ≡ A.all + B.all) × (B.parts ≡ 2 * B.all) }
 {
-    let counts = (1, 1);
+    let counts = (1, 4);
     let unsettled = match lifted.finish(alloc, keeper, passes) {
         Ok(report) => {
             has_counts(rt, &report, counts);

@@ -88,7 +88,7 @@ pub fn finished_again<A: Places, B: Seats>(
 ) -> Result<(), Fail>
     requires ledgers { (A.parts ≡ A.all + B.all) × (B.parts ≡ 2 * B.all) }
 {
-    let counts = (1, 4);
+    let counts = (4, 1);
     let unsettled = match lifted.finish(alloc, keeper, passes) {
         Ok(report) => {
             has_counts(rt, &report, counts);

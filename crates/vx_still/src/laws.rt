@@ -26,12 +26,11 @@ pub fn tables_mirror_cells()
     ensures ticks { TicksMirror }
 {}
 
-/// A table that mirrors a map is one of it after writes, one with its levels and links is one of it
-/// after the tick, and one without any level is one of a map of which nothing is known.
+/// A table that mirrors a map is one of it after writes, and one with its levels and links is one of
+/// it after the tick.
 pub fn tables_stay_mirrors()
     ensures writes { WritesKeepMirror }
     ensures ticks { TicksLeaveMirror }
-    ensures unknown { NothingKnownIsMirrored }
 {}
 
 /// What is kept of a map between two ticks is right after cells were written, with their places

@@ -1,4 +1,4 @@
-use Rattle.vx_still.proofs.Mirroring.{writes_keep_mirror, ticks_leave_mirror, nothing_is_mirrored}
+use Rattle.vx_still.proofs.Mirroring.{writes_keep_mirror, ticks_leave_mirror}
 use Rattle.vx_still.proofs.laws.tables_stay_mirrors.Goals as goal
 
 pub returns-clause-writes : goal.returns-clause-writes
@@ -6,6 +6,3 @@ returns-clause-writes c = writes_keep_mirror
 
 pub returns-clause-ticks : goal.returns-clause-ticks
 returns-clause-ticks c = ticks_leave_mirror
-
-pub returns-clause-unknown : goal.returns-clause-unknown
-returns-clause-unknown c = nothing_is_mirrored

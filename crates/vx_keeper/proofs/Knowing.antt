@@ -12,7 +12,7 @@ use Rattle.vx_policy.specs.declared.version.Version.{Version}
 use Rattle.vx_region.specs.Regions.{Regions}
 use Rattle.vx_sector.specs.SectorData.{SectorData}
 use Rattle.vx_sector.specs.Windows.{IsSector}
-use Rattle.vx_sector.proofs.Catching.{after_bounds, after_sector}
+use Rattle.vx_sector.proofs.Places.{after_bounds, after_sector}
 use Rattle.vx_windows.specs.Sectors.{base_of, cells_of}
 use Rattle.vx_record.specs.Chronicles.{AreSeated}
 use Rattle.vx_record.specs.Archives.{closed_of}

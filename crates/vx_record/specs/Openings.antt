@@ -1,11 +1,10 @@
 -- How a world opens.
 use Rattle.std.specs.Prelude.{◌≡◌, ℕ, List, Option, None, true, option_map}
 use Rattle.vx_geom.specs.declared.pos.Pos.{Pos}
-use Rattle.vx_geom.specs.Sizes.{Sizes}
+use Rattle.vx_geom.specs.Sizes.{Sizes, is_inside}
 use Rattle.vx_block.specs.declared.part.Part.{Part}
 use Rattle.vx_block.specs.Part.{part_cell}
 use Rattle.vx_cells.specs.Maps.{MapData}
-use Rattle.vx_cells.specs.SectorCells.{is_chest}
 use Rattle.vx_cells.specs.Wholes.{bare, with_cell_on}
 use Rattle.vx_region.specs.Regions.{Regions}
 use Rattle.vx_sector.specs.declared.refusal.Refusal.{Refusal}
@@ -28,8 +27,9 @@ with_part o p part =
     option_map (λ (m : MapData). record o { terrain = m })
     (with_cell_on o.terrain p (part_cell part))
 
--- why a part was not put there: outside the world, or for want of memory, which a chest alone takes
+-- why a part was not put there: outside the world, or for want of memory, which is told inside it
+-- alone
 abbrev pub IsUnset : OpeningData → Pos → Part → Refusal → Type 0
 IsUnset o p part OutOfWorld = with_part o p part ≡ None
-IsUnset o p part NoMemory = is_chest (part_cell part) ≡ true
+IsUnset o p part NoMemory = is_inside o.terrain.sizes p ≡ true
 IsUnset o p part other = ⊥

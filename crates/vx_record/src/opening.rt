@@ -92,12 +92,16 @@ impl Opening {
     }
 
     /// Puts a part at a position of the terrain, in place of what was there; refused outside the
-    /// world and for want of memory, which a chest takes.
+    /// world and for want of memory.
+    #[tactic(auto, unfolding(vx_cells::specs::Wholes::with_cell_on, vx_geom::specs::Sizes::sector_of))]
     pub fn set(&mut self, p: Pos, part: Part) -> Result<(), Refusal>
         ensures ok { OnOk result (with_part self.old p part ≡ Some self.new) }
         ensures err { OnErr result (self.new ≡ self.old) }
         ensures refusal { IfErr result (IsUnset self.old p part) }
     {
+        if !self.terrain.bounds().inside(p) {
+            return Err(Refusal::OutOfWorld);
+        }
         match self.terrain.set(p, part.cell()) {
             Ok(true) => Ok(()),
             Ok(false) => Err(Refusal::OutOfWorld),

@@ -66,7 +66,7 @@ returns-clause-ok g c =
     let fresh = c.in_ok-fresh.ensures ∙ ap (map (window_over v)) c.deref-2.ensures.value in
     let next = (with_cells_on (map_is i.bounds (map cells_of ss)) puts).sectors in
     let over = c.renew_sectors-windows.ensures.renewed ∙ (λ j. renewed_each (c.deref_mut.ensures.value j) (fresh j))
-        ∙ renewed_after v i.bounds ss cs puts c.self.invariant.2 after in
+    ∙ renewed_after v i.bounds ss cs puts c.self.invariant.2 after in
     let written = with_items_is i.sectors c.renew_sectors-windows.new.sectors (ap length over ∙ as_many_renewed v ss next ∙ omega (arith, i.sectors.ok.0)) in
     let fixed = c.in_ok-version.ensures in
     let sectors = written ∙ over ∙ ap (λ w. all_renewed w ss next) fixed in

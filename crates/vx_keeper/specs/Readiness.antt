@@ -29,7 +29,7 @@ pub record IsReady (sizes : Sizes) (sectors : List SectorData) (work : Work) (ne
 -- tick, and the version that the tick fixes
 pub record CanClose (first : Regions) (k : KeeperData) (sectors : List SectorData) (ready : Ready)
     : Type 0 where
-  pub map : map_by k.world.map.sizes ready.cells.items ≡ map_next k sectors
+  pub after : map_by k.world.map.sizes ready.cells.items ≡ map_next k sectors
   pub placed : AreSectors k.world.map.sizes ready.cells.items
   pub fates : ready.fates.items ≡ fates_next k sectors
   pub told : ready.told.items ≡ fates_next k sectors

@@ -8,7 +8,7 @@ use Rattle.vx_cells.specs.Wholes.{IsMap}
 use Rattle.vx_sector.specs.SectorData.{SectorData}
 use Rattle.vx_sector.specs.Windows.{count_of, most_entries}
 use Rattle.vx_still.specs.Watching.{IsWatch}
-use Rattle.vx_windows.specs.Sectors.{AreOf, cells_of, entries_in, entries_of, renewed_each, all_renewed}
+use Rattle.vx_windows.specs.Sectors.{AreOf, entries_in, entries_of, renewed_each, all_renewed}
 use Rattle.vx_windows.proofs.Renewals.{as_many_on_map, of_map, renewed_over_map}
 use Rattle.vx_record.specs.Chronicles.{TickData, ChronicleData}
 use Rattle.vx_record.specs.Records.{tick_in}
@@ -79,7 +79,7 @@ add-requires-clause-most g c =
     fits
 
 -- where the sectors lie, and the map that the tick leaves
-module _ (g : Over) (c : goal.After-drop-puts g) where
+module _ (g : Over) (c : goal.Joined-self-mark g) where
   abbrev k : KeeperData
   k = c.args.self.now
 
@@ -99,16 +99,16 @@ module _ (g : Over) (c : goal.After-drop-puts g) where
   map_is =
       c.go_on-was.ensures.map
       ∙ ap (λ v. map_by v c.args.ready.cells.items) sizes
-      ∙ c.requires.ready.map
+      ∙ c.requires.ready.after
 
   world_is : c.go_on-was.new.self ≡ record { map = map_next k ss; version = c.args.ready.version }
   world_is = λ i. record { map = map_is i; version = c.go_on-was.ensures.version i }
 
   next_whole : IsMap (map_next k ss)
-  next_whole = subst IsMap c.requires.ready.map c.requires.ready.placed
+  next_whole = subst IsMap c.requires.ready.after c.requires.ready.placed
 
   next_sizes : (map_next k ss).sizes ≡ k.world.map.sizes
-  next_sizes = ap (λ (m : MapData). m.sizes) (sym c.requires.ready.map)
+  next_sizes = ap (λ (m : MapData). m.sizes) (sym c.requires.ready.after)
 
   next_each : length (map_next k ss).sectors ≡ g.A.Places.all
   next_each =
@@ -120,7 +120,7 @@ module _ (g : Over) (c : goal.After-drop-puts g) where
       c.renew_sectors-windows.ensures.renewed
       ∙ ap (renewed_each ss) c.requires.ready.fresh
       ∙ renewed_over_map c.args.ready.version ss cells (as_many_on_map k.world.map.sizes ss cells whole c.requires.ready.placed)
-      ∙ ap (λ (m : MapData). all_renewed c.args.ready.version ss m.sectors) c.requires.ready.map
+      ∙ ap (λ (m : MapData). all_renewed c.args.ready.version ss m.sectors) c.requires.ready.after
 
   counts_are : c.add.new.self.counts ≡ map count_of ss
   counts_are =

@@ -2,7 +2,6 @@ use Rattle.std.proofs.Common.{◌≡◌, map, sym, ap, subst, ◌∙◌}
 use Rattle.std.proofs.lemmas.Result.{IfOk-weaker}
 use Rattle.vx_cells.specs.Maps.{AreSectors}
 use Rattle.vx_cells.specs.Wholes.{with_cells_on}
-use Rattle.vx_geom.specs.Sizes.{Sizes}
 use Rattle.vx_policy.specs.declared.version.Version.{Version}
 use Rattle.vx_still.specs.Watching.{IsWatch}
 use Rattle.vx_windows.specs.Sectors.{cells_of, window_over}
@@ -62,7 +61,7 @@ returns-clause-ready g c =
     let cells = ready.cells.items in
     let after = subst (λ v. map_by v cells ≡ with_cells_on (map_by v (map cells_of ss)) c.args.work.plan.puts.items) sizes is.cells in
     subst (λ k. CanClose first k ss ready) (sym left) (record {
-      map = after ∙ sym c.requires.worked.puts;
+      after = after ∙ sym c.requires.worked.puts;
       placed = after_placed c.args.version k.world.map.sizes ss cells c.args.work.plan.puts.items whole after;
       fates = is.fates ∙ c.requires.worked.fates;
       told = is.told ∙ c.requires.worked.fates;

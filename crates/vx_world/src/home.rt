@@ -73,7 +73,8 @@ impl<A: Places> Home<A> {
         ensures share { pass.new.share.amount
             ≡ pass.old.share.amount + (if is_recorded result then 1 else 0) }
         ensures seat { pass.new.seat ≡ pass.old.seat }
-        ensures kept { is_recorded result ≡ false → pass.new ≡ pass.old }
+        ensures kept { is_recorded result ≡ false → (pass.new.lists ≡ pass.old.lists)
+            × (pass.new.share ≡ pass.old.share) × (pass.new.reserve ≡ pass.old.reserve) }
         ensures inside { holds self.old.marked.cells (place_of cmd) ≡ true
             → result ≢ Err Refusal.OutOfWorld }
     {

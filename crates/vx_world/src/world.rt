@@ -141,7 +141,8 @@ impl<A: Places, B: Seats> World<A, B> {
     /// Carries out a command from the seat of a pass under the lock of its sector, by the rules of
     /// docs/RULES.md, and waits while the sector is away. The gate is called under the lock. Where
     /// the answer is recorded, the command stands with it in the sector's record and on the pass's
-    /// list of that sector; where it is not, the pass stays as it was. It does not return where
+    /// list of that sector; where it is not, the pass keeps what it
+    /// had. It does not return where
     /// there would be 2^64 recorded calls, and those that passes have in reserve, at most 64 each,
     /// count among them.
     pub fn submit<R: Wait, G: Gate>(
@@ -157,7 +158,8 @@ impl<A: Places, B: Seats> World<A, B> {
             × (sector_of self.now.bounds (place_of cmd) ≡ Some at)
             × (pass.new.lists ≡ with_call pass.old.lists at (record { cmd = cmd; answer = result }))
             × (pass.new.share.amount ≡ pass.old.share.amount + 1) }
-        ensures unrecorded { is_recorded result ≡ false → pass.new ≡ pass.old }
+        ensures unrecorded { is_recorded result ≡ false → (pass.new.lists ≡ pass.old.lists)
+            × (pass.new.share ≡ pass.old.share) × (pass.new.reserve ≡ pass.old.reserve) }
         ensures seat { pass.new.seat ≡ pass.old.seat }
     {
         let p = cmd.place();

@@ -1,4 +1,4 @@
-use Rattle.std.proofs.Common.{◌≡◌, ◌↔◌, ◌<◌, None, Some, Err, sym, ap, ◌∙◌, subst}
+use Rattle.std.proofs.Common.{◌≡◌, ◌↔◌, ◌<◌, None, Some, Err, sym, ◌∙◌, subst}
 use Rattle.vx_geom.specs.Sizes.{Sizes, sector_of, sector_count}
 use Rattle.vx_sector.specs.Commands.{place_of}
 use Rattle.vx_sector.specs.declared.refusal.Refusal.TheVariants.{OutOfWorld}
@@ -20,4 +20,4 @@ returns-clause-called g c =
     (subst (λ (v : Sizes). (answer ≡ Err OutOfWorld) ↔ (sector_of v p ≡ None)) c.requires submitted.outside)
     (λ yes_. let found = submitted.recorded yes_ in
     (found.0, subst (λ (v : Sizes). sector_of v p ≡ Some found.0) c.requires found.1, found.2))
-    (λ none. ap (λ p. p.lists) (submitted.unrecorded none))
+    (λ none. (submitted.unrecorded none).0)

@@ -1,5 +1,6 @@
-use Rattle.std.proofs.Common.{◌≡◌, true, false, sym, ap, ◌∙◌, arith, rules}
+use Rattle.std.proofs.Common.{◌≡◌, Bool, true, false, if◌then◌else◌, refl, sym, ap, ◌∙◌, arith, rules}
 use Rattle.vx_sector.specs.Windows.{count_of, is_recorded}
+use Rattle.vx_record.specs.Calls.{with_call}
 use Rattle.vx_world.proofs.Counted.{count_kept, count_more}
 use Rattle.vx_world.proofs.home.Home.act.Goals as goal
 
@@ -17,3 +18,9 @@ invariant_of-self-2 g c =
       one_part = c.spend.ensures.place.1 ∙ c.args.self.now.one_part;
       counted = omega (arith, c.spend.ensures.place.0, c.args.self.now.counted, more);
     }
+
+pub returns-then-not-is_recorded-clause-kept : goal.returns-then-not-is_recorded-clause-kept
+returns-then-not-is_recorded-clause-kept g c none =
+    let lists = c.args.pass.now.lists in
+    let call = with_call lists c.args.at (record { cmd = c.args.cmd; answer = c.act-answer.result }) in
+    (c.act-answer.ensures.lists ∙ ap (λ (b : Bool). if b then call else lists) none, refl, refl)

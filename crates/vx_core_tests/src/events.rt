@@ -101,8 +101,8 @@ fn an_opening_has_its_parts_and_players(rt: HostRuntime) -> Result<(), Fail> {
 fn has_parts(rt: &impl Abort, opening: &mut Opening) -> Result<(), AllocError> {
     let inside = Pos::new(31, 63, 15);
     let chest = Pos::new(5, 1, 5);
-    is_told(rt, opening, inside, Ok(()));
-    has_chest(rt, opening, chest)?;
+    is_set(rt, opening, inside, Part::Stone)?;
+    is_set(rt, opening, chest, Part::Chest)?;
     let outside = Pos::new(32, 1, 5);
     is_told(rt, opening, outside, Err(Refusal::OutOfWorld));
     let map = opening.terrain().frozen();
@@ -111,9 +111,13 @@ fn has_parts(rt: &impl Abort, opening: &mut Opening) -> Result<(), AllocError> {
     Ok(())
 }
 
-// A chest alone takes memory.
-fn has_chest(rt: &impl Abort, opening: &mut Opening, p: Pos) -> Result<(), AllocError> {
-    let told = opening.set(p, Part::Chest);
+fn is_set(
+    rt: &impl Abort,
+    opening: &mut Opening,
+    p: Pos,
+    part: Part,
+) -> Result<(), AllocError> {
+    let told = opening.set(p, part);
     if told == Err(Refusal::NoMemory) {
         return Err(AllocError);
     }

@@ -111,12 +111,7 @@ fn has_parts(rt: &impl Abort, opening: &mut Opening) -> Result<(), AllocError> {
     Ok(())
 }
 
-fn is_set(
-    rt: &impl Abort,
-    opening: &mut Opening,
-    p: Pos,
-    part: Part,
-) -> Result<(), AllocError> {
+fn is_set(rt: &impl Abort, opening: &mut Opening, p: Pos, part: Part) -> Result<(), AllocError> {
     let told = opening.set(p, part);
     if told == Err(Refusal::NoMemory) {
         return Err(AllocError);

@@ -1,5 +1,5 @@
 -- Marks beside the store: which cells they tell.
-use Rattle.std.proofs.Common.{◌≡◌, ℕ, ◌*◌, ◌/◌, ◌%◌, ◌<◌, ◌≤◌, Bool, false, if◌then◌else◌, List, length, get_or, set, replicate, nat_eq, inl, inr, ap, sym, ◌∙◌, arith}
+use Rattle.std.proofs.Common.{◌≡◌, ℕ, ◌*◌, ◌/◌, ◌%◌, ◌<◌, ◌≤◌, Bool, false, if◌then◌else◌, List, length, get_or, set, replicate, nat_eq, inl, inr, ap, refl, sym, ◌∙◌, arith}
 use Rattle.std.proofs.lemmas.Bool.{cases_lt, cases_eq, eq-eqb, ne_eqb}
 use Rattle.std.proofs.lemmas.List.{get_or_past, get_or-set_same, get_or-set_other, length-set, length-replicate}
 use Rattle.std.specs.List.{filter}
@@ -55,6 +55,16 @@ marks_set test codes marks new k code marked old near told long changed = record
         ∙ sym (ap (λ n. test (cell_of n)) (get_or-set_other codes k i code 0 apart))
   ];
 }
+
+-- a byte changes, and the mark at its index is the one that it wants
+pub marks_kept : (test : Cell → Bool) (codes marks : List ℕ) (k code : ℕ)
+    → AreMarks test codes marks → k < length codes → is_marked marks k ≡ test (cell_of code)
+    → AreMarks test (set codes k code) marks
+marks_kept test codes marks k code old near told =
+    marks_set test codes marks marks k code (is_marked marks k) old near told refl (λ i. elim (cases_eq i k) [
+      | inl same ↦ ap (is_marked marks) same ∙ sym (ap (λ b. if b then is_marked marks k else is_marked marks i) (eq-eqb i k same))
+      | inr apart ↦ sym (ap (λ b. if b then is_marked marks k else is_marked marks i) (ne_eqb i k apart))
+    ])
 
 -- the cell at each index is that of its byte; past the last one both are air
 cell_here : (codes : List ℕ) (chests : ChestData) (k : ℕ)

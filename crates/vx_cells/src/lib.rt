@@ -7,6 +7,7 @@ mod chests;
 mod code;
 mod frozen;
 mod laws;
+mod machine_marks;
 mod marked;
 mod put_down;
 mod puts;

@@ -5,11 +5,13 @@ ghost use Rattle.std.specs.List.{All};
 ghost use Rattle.vx_cells.specs.Chests.{slots_of_chest, Changes, SameSlots, begun};
 ghost use Rattle.vx_cells.specs.Codes.{code_count, cell_of};
 ghost use Rattle.vx_cells.specs.SectorCells.{is_chest};
+ghost use Rattle.vx_cells.specs.Stored.{AreMachineMarks};
 
 use crate::chests::Chests;
 use crate::code::is_chest;
+use crate::machine_marks::MachineMarks;
 use crate::stack::SLOTS;
-use std::alloc::AllocError;
+use std::alloc::{AllocError, Global};
 use std::sync::Arc;
 use vx_section::Sections;
 
@@ -38,6 +40,38 @@ pub fn put_over(
         return put_down(store, Arc::make_mut(chests)?, index, code);
     }
     store.set(index, code)
+}
+
+/// Puts a byte down whose cell has other marks than the one that was there. The marks are copied and
+/// have room before anything changes.
+pub fn put_marked(
+    alloc: Global,
+    marks: &mut Arc<MachineMarks>,
+    store: &mut Sections,
+    chests: &mut Arc<Chests>,
+    index: u32,
+    code: u8,
+) -> Result<(), AllocError>
+    requires within { index < length store.old }
+    requires codes { All (λ each. each < code_count) store.old }
+    requires code { code < code_count }
+    requires none { is_chest (cell_of (slice_index_or store.old index 0)) ≡ false
+        → slots_of_chest (arc_value chests.old) index ≡ None }
+    requires some { is_chest (cell_of (slice_index_or store.old index 0)) ≡ true
+        → IsSome (slots_of_chest (arc_value chests.old) index) }
+    requires marks { AreMachineMarks store.old (arc_value marks.old) }
+    ensures store { OnOk result (store.new ≡ slice_set store.old index code) }
+    ensures chests { OnOk result (Changes (arc_value chests.old) (arc_value chests.new) index
+        (begun (is_chest (cell_of code)))) }
+    ensures err { OnErr result ((store.new ≡ store.old)
+        × SameSlots (arc_value chests.old) (arc_value chests.new)) }
+    ensures marks { AreMachineMarks store.new (arc_value marks.new) }
+{
+    let marks = Arc::make_mut(marks)?;
+    marks.make_room(alloc, code)?;
+    put_over(store, chests, index, code)?;
+    marks.set(index, code);
+    Ok(())
 }
 
 // Puts a byte down, in place of the one that was there. A chest begins empty, and where one was

@@ -7,10 +7,10 @@ ghost use Rattle.vx_block.specs.Conductors.{conducts};
 ghost use Rattle.vx_cells.specs.Codes.{code_count, cell_of};
 ghost use Rattle.vx_cells.specs.Listed.{components_of, devices_of};
 
-use crate::cell_marks::CellMarks;
 use crate::chests::Chests;
-use crate::code::{AIR, conducts, decode, encode, is_component, is_device, is_dust};
-use crate::put_down::put_over;
+use crate::code::{AIR, conducts, decode, encode, is_dust};
+use crate::machine_marks::MachineMarks;
+use crate::put_down::{put_marked, put_over};
 use crate::stack::{SLOTS, Slot};
 use std::alloc::{AllocError, Global};
 use std::marker::Model;
@@ -30,8 +30,8 @@ pub(crate) struct Stored {
     store: Sections,
     // Apart, since most changes of a sector are none of a chest, and a sector may have many.
     chests: Arc<Chests>,
-    components: CellMarks,
-    devices: CellMarks,
+    // Apart, too: most changes leave them as they are.
+    marks: Arc<MachineMarks>,
 }
 
 impl Model for Stored {
@@ -43,8 +43,8 @@ impl Model for Stored {
 
     ghost view = { λ a. stored a.bounds a.sector a.store (arc_value a.chests) };
 
-    ghost invariant = { λ a. IsKept a.bounds a.sector a.store (arc_value a.chests) a.components.words
-        a.devices.words };
+    ghost invariant = { λ a.
+        IsKept a.bounds a.sector a.store (arc_value a.chests) (arc_value a.marks) };
 }
 
 impl Stored {
@@ -64,8 +64,7 @@ impl Stored {
             sector,
             store,
             chests: Arc::new(alloc, Chests::new(alloc))?,
-            components: CellMarks::new(count),
-            devices: CellMarks::new(count),
+            marks: Arc::new(alloc, MachineMarks::new(count))?,
         })
     }
 
@@ -147,13 +146,17 @@ impl Stored {
     {
         let index = self.bounds.index_in_sector(p);
         let code = encode(cell);
-        // Before the cell: where that is put down, its marks have room.
-        room_for(self.alloc, &mut self.components, is_component(code))?;
-        room_for(self.alloc, &mut self.devices, is_device(code))?;
-        put_over(&mut self.store, &mut self.chests, index, code)?;
-        self.components.set(index, is_component(code));
-        self.devices.set(index, is_device(code));
-        Ok(())
+        if self.marks.tell(index, code) {
+            return put_over(&mut self.store, &mut self.chests, index, code);
+        }
+        put_marked(
+            self.alloc,
+            &mut self.marks,
+            &mut self.store,
+            &mut self.chests,
+            index,
+            code,
+        )
     }
 
     /// The slots of the chest at a position of this sector, if there is one.
@@ -193,7 +196,7 @@ impl Stored {
         ensures { IfOk result (λ found. found.items ≡ components_of self.now) }
     {
         self.bounds.soundness();
-        self.components.places(alloc, self.bounds, self.sector)
+        self.marks.components.places(alloc, self.bounds, self.sector)
     }
 
     /// The positions where a device stands, in order.
@@ -201,12 +204,12 @@ impl Stored {
         ensures { IfOk result (λ found. found.items ≡ devices_of self.now) }
     {
         self.bounds.soundness();
-        self.devices.places(alloc, self.bounds, self.sector)
+        self.marks.devices.places(alloc, self.bounds, self.sector)
     }
 
     /// How many components of machines stand in this sector.
     pub fn component_count(&self) -> u32 {
-        self.components.count()
+        self.marks.components.count()
     }
 
     /// Whether a device stands in this sector.
@@ -214,7 +217,7 @@ impl Stored {
         ensures { result ≡ nat_lt 0 (length (devices_of self.now)) }
     {
         self.bounds.soundness();
-        self.devices.has_any()
+        self.marks.devices.has_any()
     }
 
     /// Whether both are the same sector of worlds of one size, with the same at each position.
@@ -238,22 +241,10 @@ impl Clone for Stored {
             sector: self.sector,
             store: self.store.clone()?,
             chests: Arc::try_clone(&self.chests)?,
-            components: self.components.clone()?,
-            devices: self.devices.clone()?,
+            marks: Arc::try_clone(&self.marks)?,
         })
     }
 }
 
 // How many cells a sector of one chunk has.
 const NARROW: u32 = 16_384;
-
-// Makes room for a mark, where there is one to be set.
-fn room_for(alloc: Global, marks: &mut CellMarks, marked: bool) -> Result<(), AllocError>
-    ensures same { marks.new.words ≡ marks.old.words }
-    ensures room { OnOk result (marked ≡ true → marks.new.has_room ≡ true) }
-{
-    if marked {
-        marks.make_room(alloc)?;
-    }
-    Ok(())
-}

@@ -1,7 +1,10 @@
-use Rattle.std.proofs.Common.{◌≡◌, IfOk, subst, ◌∙◌}
+use Rattle.std.proofs.Common.{◌≡◌, ◌*◌, length, IfOk, sym, subst, ◌∙◌}
 use Rattle.vx_block.specs.Components.{is_component}
+use Rattle.vx_geom.specs.Sizes.{sector_cells}
 use Rattle.vx_cells.specs.Listed.{components_of}
 use Rattle.std.specs.Arc.{arc_value}
+use Rattle.vx_cells.specs.Stored.{AreMarks}
+use Rattle.vx_cells.specs.declared.machine_marks.MachineMarks.{MachineMarks}
 use Rattle.vx_cells.proofs.StoredMarks.{marked_are}
 use Rattle.vx_cells.proofs.stored.Stored.components.Goals as goal
 
@@ -9,13 +12,16 @@ pub places-requires-clause-sector : goal.places-requires-clause-sector
 places-requires-clause-sector c = c.self.invariant.sector_low
 
 pub places-requires-clause-all : goal.places-requires-clause-all
-places-requires-clause-all c = c.self.invariant.components.long ∙ c.self.invariant.stored.whole
+places-requires-clause-all c =
+    subst (λ (m : MachineMarks). 64 * length m.components.words ≡ sector_cells c.self.inside.bounds) (sym c.deref.ensures)
+    (c.self.invariant.marks.components.long ∙ c.self.invariant.stored.whole)
 
 pub returns : goal.returns
 unfolding components_of
 returns c =
     let s = c.self.inside in
+    let are = subst (λ (m : MachineMarks). AreMarks is_component s.store m.components.words) (sym c.deref.ensures) c.self.invariant.marks.components in
     rw (← c.self.view_is) (subst (λ all. IfOk c.places.result (λ found. found.items ≡ all))
     (marked_are s.bounds s.sector s.store (arc_value s.chests) c.soundness.ensures c.self.invariant.sector_low
-    is_component s.components.words c.self.invariant.components)
+    is_component c.deref.result.now.components.words are)
     c.places.ensures)

@@ -1,7 +1,9 @@
-use Rattle.std.proofs.Common.{nat_lt, length, ap, ◌∙◌}
+use Rattle.std.proofs.Common.{nat_lt, length, ap, sym, subst, ◌∙◌}
 use Rattle.vx_block.specs.Components.{is_device}
 use Rattle.vx_cells.specs.Listed.{devices_of}
 use Rattle.std.specs.Arc.{arc_value}
+use Rattle.vx_cells.specs.Stored.{AreMarks}
+use Rattle.vx_cells.specs.declared.machine_marks.MachineMarks.{MachineMarks}
 use Rattle.vx_cells.proofs.StoredMarks.{marked_are}
 use Rattle.vx_cells.proofs.stored.Stored.has_devices.Goals as goal
 
@@ -10,8 +12,9 @@ unfolding devices_of
 returns c =
     let s = c.self.inside in
     let kept = c.self.invariant in
+    let are = subst (λ (m : MachineMarks). AreMarks is_device s.store m.devices.words) (sym c.deref.ensures) kept.marks.devices in
     rw (← c.self.view_is) (c.has_any.ensures s.bounds s.sector c.soundness.ensures kept.sector_low
-    (kept.devices.long ∙ kept.stored.whole)
+    (are.long ∙ kept.stored.whole)
     ∙ ap (λ ps. nat_lt 0 (length ps))
     (marked_are s.bounds s.sector s.store (arc_value s.chests) c.soundness.ensures kept.sector_low
-    is_device s.devices.words kept.devices))
+    is_device c.deref.result.now.devices.words are))

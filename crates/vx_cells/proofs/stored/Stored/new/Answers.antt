@@ -1,6 +1,7 @@
-use Rattle.std.proofs.Common.{◌/◌, replicate, refl, ap, ◌∙◌}
+use Rattle.std.proofs.Common.{◌/◌, replicate, refl, ap, sym, subst, ◌∙◌}
 use Rattle.vx_block.specs.Components.{is_device, is_component}
 use Rattle.vx_geom.specs.Sizes.{sector_cells}
+use Rattle.vx_cells.specs.Stored.{AreMachineMarks}
 use Rattle.vx_cells.proofs.Sectioned.{whole_words, all_alike}
 use Rattle.vx_cells.proofs.StoredBlocks.{stored-fresh, fresh-stored}
 use Rattle.vx_cells.proofs.StoredMarks.{blank_marks}
@@ -17,10 +18,12 @@ invariant_of-result c =
     record {
       sector_low = c.requires;
       stored = stored-fresh v n store _ codes (c.in_ok-new.ensures.ok ∙ c.new-2.ensures) refl;
-      components = blank_marks is_component n store c.new-4.result.words refl codes whole
-          (c.new-4.ensures ∙ ap (λ k. replicate (k / 64) 0) count);
-      devices = blank_marks is_device n store c.new-5.result.words refl codes whole
-          (c.new-5.ensures ∙ ap (λ k. replicate (k / 64) 0) count);
+      marks = subst (AreMachineMarks store) (sym c.in_ok-new-2.ensures.ok) (record {
+        components = blank_marks is_component n store c.new-4.result.components.words refl codes whole
+            (c.new-4.ensures.components ∙ ap (λ k. replicate (k / 64) 0) count);
+        devices = blank_marks is_device n store c.new-4.result.devices.words refl codes whole
+            (c.new-4.ensures.devices ∙ ap (λ k. replicate (k / 64) 0) count);
+      });
     }
 
 pub returns : goal.returns

@@ -4,30 +4,12 @@ use Rattle.std.proofs.lemmas.List.{ext_get_or}
 use Rattle.std.proofs.Math.Bool.{beq}
 use Rattle.vx_section.specs.Forms.{SectionData}
 use Rattle.vx_section.specs.Indices.{section_of, place_of, section_count, nothing, byte_at, bytes_of, AreSections, AreSame}
+use Rattle.vx_section.proofs.Digits.{section_apart, place_apart}
 use Rattle.vx_section.proofs.Storing.{length-bytes_of, read_bytes, section_within}
 
 -- the index of a place of a section
 index_of : Bool → ℕ → ℕ → ℕ
 index_of wide k n = if wide then k / 4 * 16384 + n / 256 * 1024 + k / 2 % 2 * 512 + n / 16 % 16 * 32 + k % 2 * 16 + n % 16 else k * 4096 + n
-
--- digits put together and taken apart
-section_apart : (a y z v x u : ℕ) → y < 16 → z < 2 → v < 16 → x < 2 → u < 16
-    → section_of true (a * 16384 + y * 1024 + z * 512 + v * 32 + x * 16 + u) ≡ a * 4 + z * 2 + x
-section_apart a y z v x u y-low z-low v-low x-low u-low =
-    let i : ℕ = a * 16384 + y * 1024 + z * 512 + v * 32 + x * 16 + u in
-    let one : i / 16384 ≡ a = omega arith in
-    let two : i / 512 % 2 ≡ z = omega arith in
-    let three : i / 16 % 2 ≡ x = omega arith in
-    omega arith
-
-place_apart : (a y z v x u : ℕ) → y < 16 → z < 2 → v < 16 → x < 2 → u < 16
-    → place_of true (a * 16384 + y * 1024 + z * 512 + v * 32 + x * 16 + u) ≡ y * 256 + v * 16 + u
-place_apart a y z v x u y-low z-low v-low x-low u-low =
-    let i : ℕ = a * 16384 + y * 1024 + z * 512 + v * 32 + x * 16 + u in
-    let one : i / 1024 % 16 ≡ y = omega arith in
-    let two : i / 32 % 16 ≡ v = omega arith in
-    let three : i % 16 ≡ u = omega arith in
-    omega arith
 
 section_back : (wide : Bool) (k n : ℕ) → k < section_count wide → n < 4096 → section_of wide (index_of wide k n) ≡ k
 unfolding index_of

@@ -1,5 +1,5 @@
 -- The bytes of a sector over its sections, in the order of their indices.
-use Rattle.std.specs.Prelude.{◌≡◌, ℕ, ◌+◌, ◌*◌, ◌/◌, ◌%◌, ◌<◌, Bool, List, [], length, map, slice_index_or, if◌then◌else◌}
+use Rattle.std.specs.Prelude.{◌≡◌, ℕ, ◌+◌, ◌*◌, ◌/◌, ◌%◌, ◌<◌, Bool, nat_lt, List, [], length, map, slice_index_or, if◌then◌else◌}
 use Rattle.std.specs.List.{range_with_len}
 use Rattle.vx_section.specs.Forms.{SectionData}
 
@@ -14,6 +14,18 @@ place_of wide i = if wide then i / 1024 % 16 * 256 + i / 32 % 16 * 16 + i % 16 e
 -- how many sections there are
 abbrev pub section_count : Bool → ℕ
 section_count wide = if wide then 16 else 4
+
+-- how many columns a side has, where there are 16, or 32
+abbrev pub columns_of : Bool → ℕ
+columns_of wide = if wide then 32 else 16
+
+-- how many columns a side a sector of so many bytes has
+abbrev pub side_of : ℕ → ℕ
+side_of bytes = if nat_lt 16384 bytes then 32 else 16
+
+-- the index of a column, a layer and a row, of columns and rows that are counted on over sides
+abbrev pub index_at : ℕ → ℕ → ℕ → ℕ → ℕ
+index_at side column layer row = column % side + side * (row % side + side * layer)
 
 -- no section
 abbrev pub nothing : SectionData

@@ -1,6 +1,6 @@
-ghost use Rattle.std.specs.Prelude.{◌≡◌, ◌<◌, ◌≤◌, ◌*◌, ◌↔◌, ℕ, length, slice_index_or, slice_set, IsTrue, IfOk, OnOk, OnErr};
+ghost use Rattle.std.specs.Prelude.{◌≡◌, ◌<◌, ◌≤◌, ◌+◌, ◌*◌, ◌%◌, ◌↔◌, ℕ, Bool, length, slice_index_or, slice_set, IsTrue, IfOk, OnOk, OnErr};
 ghost use Rattle.vx_section.specs.Forms.{filled};
-ghost use Rattle.vx_section.specs.Indices.{section_of, place_of, section_count, nothing, AreSections, AreSame};
+ghost use Rattle.vx_section.specs.Indices.{section_of, place_of, section_count, columns_of, side_of, index_at, nothing, AreSections, AreSame};
 
 use crate::section::Section;
 use std::alloc::{AllocError, Global};
@@ -42,6 +42,19 @@ impl Sections {
     {
         let section = section_of(self.wide, index) as usize;
         let place = place_of(self.wide, index);
+        self.sections[section].get(place)
+    }
+
+    /// The byte of a column, a layer and a row. Columns and rows may be counted on over the sectors
+    /// beside this one: what counts is what is left over whole sides.
+    #[inline(always)]
+    pub fn at(&self, column: u32, layer: u32, row: u32) -> u8
+        requires { layer < 64 }
+        ensures { let side = side_of (length self.now) in
+            result ≡ slice_index_or self.now (column % side + side * (row % side + side * layer)) 0 }
+    {
+        let section = section_at(self.wide, column, layer, row) as usize;
+        let place = place_at(column, layer, row);
         self.sections[section].get(place)
     }
 
@@ -118,6 +131,30 @@ fn place_of(wide: bool, index: u32) -> u32
     } else {
         index % 4096
     }
+}
+
+// The section of a column, a layer and a row.
+#[inline(always)]
+fn section_at(wide: bool, column: u32, layer: u32, row: u32) -> u32
+    requires { layer < 64 }
+    ensures value { result ≡ section_of wide (index_at (columns_of wide) column layer row) }
+    ensures within { result < section_count wide }
+{
+    if wide {
+        layer / 16 * 4 + row / 16 % 2 * 2 + column / 16 % 2
+    } else {
+        layer / 16
+    }
+}
+
+// The place of a column, a layer and a row in their section.
+#[inline(always)]
+fn place_at(column: u32, layer: u32, row: u32) -> u32
+    ensures value { (wide : Bool)
+        → result ≡ place_of wide (index_at (columns_of wide) column layer row) }
+    ensures within { result < 4096 }
+{
+    layer % 16 * 256 + row % 16 * 16 + column % 16
 }
 
 // How many sections there are.

@@ -97,6 +97,7 @@ impl<'a> Frozen<'a> {
     }
 
     /// Whether dust lies at a position.
+    #[inline(always)]
     #[tactic(auto, unfolding(crate::specs::Maps::cell_on, vx_geom::specs::Sizes::sector_of))]
     pub fn has_dust(&self, p: Pos) -> bool
         ensures { result ≡ is_dust (cell_on self.now p) }

@@ -134,7 +134,9 @@ impl Stored {
         ensures cell { cell_of result ≡ cell_at self.now p }
         ensures within { result < code_count }
     {
-        self.store.get(self.bounds.index_in_sector(p))
+        self.bounds.soundness();
+        let (column, layer, row) = (p.x.unsigned_abs(), p.y.unsigned_abs(), p.z.unsigned_abs());
+        self.store.at(column, layer, row)
     }
 
     /// Puts a cell down at a position of this sector, in place of what was there. A chest begins

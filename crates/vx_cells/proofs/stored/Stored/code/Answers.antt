@@ -1,25 +1,31 @@
-use Rattle.std.proofs.Common.{◌<◌, length, ap, ◌∙◌, subst, sym, arith}
+use Rattle.std.proofs.Common.{◌≡◌, ◌<◌, length, get_or, unsigned_abs, refl, ap, ◌∙◌, subst, sym, arith}
+use Rattle.std.proofs.lemmas.Int.{ints}
+use Rattle.vx_geom.specs.Sizes.{index_in_sector}
+use Rattle.vx_geom.proofs.SectorLemmas.{inside_at}
 use Rattle.vx_cells.specs.Codes.{code_count, cell_of}
 use Rattle.std.specs.Arc.{arc_value}
-use Rattle.vx_cells.proofs.Indices.{inside_from_holds}
+use Rattle.vx_cells.proofs.Indices.{inside_from_holds, index_below}
+use Rattle.vx_cells.proofs.Sectioned.{index_by_sides}
 use Rattle.vx_cells.proofs.StoredCells.{cell-stored}
 use Rattle.vx_cells.proofs.stored.Stored.code.Goals as goal
 
-pub index_in_sector-requires : goal.index_in_sector-requires
-index_in_sector-requires c = let held = rw (← c.self.view_is) at c.requires in inside_from_holds _ c.args.p held
-
-pub get-requires : goal.get-requires
-get-requires c = omega (arith, c.index_in_sector.ensures.within, c.self.invariant.stored.whole)
+pub at-requires : goal.at-requires
+at-requires c =
+    let held = rw (← c.self.view_is) at c.requires in
+    let inside = inside_at c.self.inside.bounds c.args.p (inside_from_holds _ c.args.p held) in
+    omega (arith, ints, inside.y_is, inside.y_below, c.unsigned_abs-layer.ensures.value)
 
 pub returns-clause-cell : goal.returns-clause-cell
 returns-clause-cell c =
     let s = c.self.inside in
-    rw (← c.self.view_is) (ap cell_of c.get.ensures
-    ∙ cell-stored s.bounds s.sector s.store (arc_value s.chests) c.self.invariant.stored c.args.p _
-    c.index_in_sector.ensures.value c.index_in_sector.ensures.within)
-
-pub returns-clause-within : goal.returns-clause-within
-returns-clause-within c =
-    let near : c.index_in_sector.result < length c.self.inside.store =
-    omega (arith, c.index_in_sector.ensures.within, c.self.invariant.stored.whole) in
-    subst (λ code. code < code_count) (sym c.get.ensures) (c.self.invariant.stored.codes _ 0 near)
+    let p = c.args.p in
+    let held = rw (← c.self.view_is) at c.requires in
+    let is_inside = inside_from_holds _ p held in
+    let inside = inside_at s.bounds p is_inside in
+    let within = index_below s.bounds p c.soundness.ensures is_inside in
+    let x : c.unsigned_abs-column.result ≡ unsigned_abs p.x = omega (arith, ints, inside.x_is, c.unsigned_abs-column.ensures.value) in
+    let y : c.unsigned_abs-layer.result ≡ unsigned_abs p.y = omega (arith, ints, inside.y_is, c.unsigned_abs-layer.ensures.value) in
+    let z : c.unsigned_abs-row.result ≡ unsigned_abs p.z = omega (arith, ints, inside.z_is, c.unsigned_abs-row.ensures.value) in
+    let index = index_by_sides s.bounds p (length s.store) _ _ _ c.soundness.ensures c.self.invariant.stored.whole x y z in
+    rw (← c.self.view_is) (ap cell_of (c.at.ensures ∙ ap (λ k. get_or s.store k 0) index)
+    ∙ cell-stored s.bounds s.sector s.store (arc_value s.chests) c.self.invariant.stored p (index_in_sector s.bounds p) refl within)

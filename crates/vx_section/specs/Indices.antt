@@ -38,14 +38,14 @@ byte_at wide sections i =
 
 -- the bytes in the order of their indices
 unfoldable pub bytes_of : Bool → List SectionData → List ℕ
-bytes_of wide sections = map (byte_at wide sections) (range_with_len 0 (4096 * length sections))
+bytes_of wide sections = map (byte_at wide sections) (range_with_len 0 (4096 * section_count wide))
 
--- all sections are there, with a byte at each place
-pub record AreSections (wide : Bool) (sections : List SectionData) : Type 0 where
-  pub count : length sections ≡ section_count wide
-  pub long : (k : ℕ) → k < length sections → length (slice_index_or sections k nothing).bytes ≡ 4096
+-- sixteen sections with a byte at each place, of which a sector of 16 columns a side has the first
+pub record AreSections (sections : List SectionData) : Type 0 where
+  pub count : length sections ≡ 16
+  pub long : (k : ℕ) → k < 16 → length (slice_index_or sections k nothing).bytes ≡ 4096
 
--- sections with the same bytes, one by one
-abbrev pub AreSame : List SectionData → List SectionData → Type 0
-AreSame ss ts = (k : ℕ) → k < length ss
+-- so many sections with the same bytes, one by one
+abbrev pub AreSame : ℕ → List SectionData → List SectionData → Type 0
+AreSame count ss ts = (k : ℕ) → k < count
     → (slice_index_or ss k nothing).bytes ≡ (slice_index_or ts k nothing).bytes

@@ -58,7 +58,8 @@ impl Sections {
     pub fn at(&self, column: u32, layer: u32, row: u32) -> u8
         requires { layer < 64 }
         ensures { let side = side_of (length self.now) in
-            result ≡ slice_index_or self.now (column % side + side * (row % side + side * layer)) 0 }
+            result ≡ slice_index_or self.now
+            (column % side + side * (row % side + side * layer)) 0 }
     {
         let section = section_at(self.wide, column, layer, row) as usize;
         let place = place_at(column, layer, row);

@@ -5,7 +5,7 @@ use Rattle.std.proofs.Math.Bool.{beq}
 use Rattle.vx_section.specs.Forms.{SectionData}
 use Rattle.vx_section.specs.Indices.{section_of, place_of, section_count, nothing, byte_at, bytes_of, AreSections, AreSame}
 use Rattle.vx_section.proofs.Digits.{section_apart, place_apart}
-use Rattle.vx_section.proofs.Storing.{length-bytes_of, read_bytes, section_within}
+use Rattle.vx_section.proofs.Storing.{length-bytes_of, read_bytes, section_within, section_below}
 
 -- the index of a place of a section
 index_of : Bool → ℕ → ℕ → ℕ
@@ -31,40 +31,37 @@ index_below false k n k-low n-low = omega arith
 index_below true k n k-low n-low = omega arith
 
 -- a place of a section is read at its index
-read_back : (wide : Bool) (ss : List SectionData) (k n : ℕ) → AreSections wide ss → k < length ss → n < 4096
+read_back : (wide : Bool) (ss : List SectionData) (k n : ℕ) → k < section_count wide → n < 4096
     → get_or (bytes_of wide ss) (index_of wide k n) 0 ≡ get_or (get_or ss k nothing).bytes n 0
 unfolding byte_at
-read_back wide ss k n held low n-low =
-    let k-low : k < section_count wide = omega (arith, held.count) in
-    let below = index_below wide k n k-low n-low in
-    read_bytes wide ss (index_of wide k n) (omega (arith, held.count))
-    ∙ ap (λ m. get_or (get_or ss m nothing).bytes (place_of wide (index_of wide k n)) 0) (section_back wide k n k-low n-low)
-    ∙ ap (λ m. get_or (get_or ss k nothing).bytes m 0) (place_back wide k n k-low n-low)
+read_back wide ss k n low n-low =
+    read_bytes wide ss (index_of wide k n) (index_below wide k n low n-low)
+    ∙ ap (λ m. get_or (get_or ss m nothing).bytes (place_of wide (index_of wide k n)) 0) (section_back wide k n low n-low)
+    ∙ ap (λ m. get_or (get_or ss k nothing).bytes m 0) (place_back wide k n low n-low)
 
-pub same_bytes : (wide : Bool) (ss ts : List SectionData) → AreSections wide ss → AreSections wide ts → AreSame ss ts → bytes_of wide ss ≡ bytes_of wide ts
+pub same_bytes : (wide : Bool) (ss ts : List SectionData) → AreSame (section_count wide) ss ts → bytes_of wide ss ≡ bytes_of wide ts
 unfolding byte_at
-same_bytes wide ss ts mine its same =
+same_bytes wide ss ts same =
     let long = length-bytes_of wide ss in
-    let count : length ss ≡ length ts = mine.count ∙ sym its.count in
-    ext_get_or 0 _ _ (long ∙ ap (λ n. 4096 * n) count ∙ sym (length-bytes_of wide ts)) (λ i low.
-    let below : i < 4096 * length ss = omega arith in
-    let within : section_of wide i < length ss = omega (arith, section_within wide i (omega (arith, mine.count)), mine.count) in
+    ext_get_or 0 _ _ (long ∙ sym (length-bytes_of wide ts)) (λ i low.
+    let below : i < 4096 * section_count wide = omega arith in
     read_bytes wide ss i below
-    ∙ ap (λ bs. get_or bs (place_of wide i) 0) (same (section_of wide i) within)
-    ∙ sym (read_bytes wide ts i (omega arith)))
+    ∙ ap (λ bs. get_or bs (place_of wide i) 0) (same (section_of wide i) (section_within wide i below))
+    ∙ sym (read_bytes wide ts i below))
 
-pub same_each : (wide : Bool) (ss ts : List SectionData) → AreSections wide ss → AreSections wide ts → bytes_of wide ss ≡ bytes_of wide ts → AreSame ss ts
+pub same_each : (wide : Bool) (ss ts : List SectionData) → AreSections ss → AreSections ts → bytes_of wide ss ≡ bytes_of wide ts
+    → AreSame (section_count wide) ss ts
 same_each wide ss ts mine its same k low =
-    let there : k < length ts = omega (arith, mine.count, its.count) in
-    let long = mine.long k low in
+    let there : k < 16 = section_below wide k low in
+    let long = mine.long k there in
     ext_get_or 0 _ _ (long ∙ sym (its.long k there)) (λ n n-low.
     let within : n < 4096 = omega arith in
-    sym (read_back wide ss k n mine low within) ∙ ap (λ bs. get_or bs (index_of wide k n) 0) same ∙ read_back wide ts k n its there within)
+    sym (read_back wide ss k n low within) ∙ ap (λ bs. get_or bs (index_of wide k n) 0) same ∙ read_back wide ts k n low within)
 
 -- and those of two widths are as many
-pub one_width : (v w : Bool) (ss ts : List SectionData) → AreSections v ss → AreSections w ts → bytes_of v ss ≡ bytes_of w ts → v ≡ w
-one_width v w ss ts mine its same =
-    by v w (sym (length-bytes_of v ss ∙ ap (λ n. 4096 * n) mine.count) ∙ ap length same ∙ length-bytes_of w ts ∙ ap (λ n. 4096 * n) its.count)
+pub one_width : (v w : Bool) (ss ts : List SectionData) → bytes_of v ss ≡ bytes_of w ts → v ≡ w
+one_width v w ss ts same =
+    by v w (sym (length-bytes_of v ss) ∙ ap length same ∙ length-bytes_of w ts)
   where
     by : (v w : Bool) → 4096 * section_count v ≡ 4096 * section_count w → v ≡ w
     by true true e = refl

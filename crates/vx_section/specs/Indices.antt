@@ -11,7 +11,7 @@ section_of wide i = if wide then i / 16384 * 4 + i / 512 % 2 * 2 + i / 16 % 2 el
 abbrev pub place_of : Bool → ℕ → ℕ
 place_of wide i = if wide then i / 1024 % 16 * 256 + i / 32 % 16 * 16 + i % 16 else i % 4096
 
--- how many sections there are
+-- how many sections a sector has
 abbrev pub section_count : Bool → ℕ
 section_count wide = if wide then 16 else 4
 
@@ -38,14 +38,14 @@ byte_at wide sections i =
 
 -- the bytes in the order of their indices
 unfoldable pub bytes_of : Bool → List SectionData → List ℕ
-bytes_of wide sections = map (byte_at wide sections) (range_with_len 0 (4096 * length sections))
+bytes_of wide sections = map (byte_at wide sections) (range_with_len 0 (4096 * section_count wide))
 
--- all sections are there, with a byte at each place
-pub record AreSections (wide : Bool) (sections : List SectionData) : Type 0 where
-  pub count : length sections ≡ section_count wide
-  pub long : (k : ℕ) → k < length sections → length (slice_index_or sections k nothing).bytes ≡ 4096
+-- sixteen sections with a byte at each place; a sector of 16 columns a side has the first four
+pub record AreSections (sections : List SectionData) : Type 0 where
+  pub count : length sections ≡ 16
+  pub long : (k : ℕ) → k < 16 → length (slice_index_or sections k nothing).bytes ≡ 4096
 
--- sections with the same bytes, one by one
-abbrev pub AreSame : List SectionData → List SectionData → Type 0
-AreSame ss ts = (k : ℕ) → k < length ss
+-- so many sections with the same bytes, one by one
+abbrev pub AreSame : ℕ → List SectionData → List SectionData → Type 0
+AreSame count ss ts = (k : ℕ) → k < count
     → (slice_index_or ss k nothing).bytes ≡ (slice_index_or ts k nothing).bytes

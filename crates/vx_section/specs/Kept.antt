@@ -9,4 +9,4 @@ use Rattle.vx_section.specs.declared.section.Form.TheVariants.{One, Few, Each}
 abbrev pub shown : Form → SectionData
 shown (One byte) = fresh byte
 shown (Few few) = arc_value few
-shown (Each bytes) = record { bytes = bytes; form = 3; palette = [] }
+shown (Each bytes) = record { bytes = arc_value bytes; form = 3; palette = [] }

@@ -1,35 +1,33 @@
-ghost use Rattle.std.specs.Prelude.{◌≡◌, ◌<◌, ◌↔◌, length, IfOk, IsTrue, OnOk, OnErr, slice_index_or, slice_set};
+ghost use Rattle.std.specs.Prelude.{◌≡◌, ◌<◌, ◌↔◌, length, IsTrue, OnOk, OnErr, slice_index_or, slice_set};
+ghost use Rattle.std.specs.Arc.{arc_value};
 
-use std::alloc::{AllocError, Global};
+use std::alloc::AllocError;
 use std::marker::Model;
 use std::sync::Arc;
 
-/// A byte for each of 4,096 places. Copies share them until one of them changes.
+/// A byte for each of 4,096 places.
 #[derive(Drop)]
 pub(crate) struct Bytes {
-    bytes: Arc<Vec<u8>>,
+    bytes: [u8; 4096],
 }
 
 impl Model for Bytes {
     ghost use Rattle.std.specs.Prelude.{◌≡◌, List, ℕ, length};
-    ghost use Rattle.std.specs.Arc.{arc_value};
 
     ghost Value = { List ℕ };
 
-    ghost view = { λ b. (arc_value b.bytes).items };
+    ghost view = { λ b. b.bytes };
 
-    ghost invariant = { λ b. length (arc_value b.bytes).items ≡ 4096 };
+    ghost invariant = { λ b. length b.bytes ≡ 4096 };
 }
 
 impl Bytes {
     /// These bytes.
-    pub(crate) fn of(alloc: Global, bytes: Vec<u8>) -> Result<Bytes, AllocError>
-        requires { length bytes.items ≡ 4096 }
-        ensures { IfOk result (λ made. made ≡ bytes.items) }
+    pub(crate) fn of(bytes: [u8; 4096]) -> Bytes
+        requires { length bytes ≡ 4096 }
+        ensures { result ≡ bytes }
     {
-        Ok(Bytes {
-            bytes: Arc::new(alloc, bytes)?,
-        })
+        Bytes { bytes }
     }
 
     /// What holds of every one.
@@ -48,25 +46,20 @@ impl Bytes {
         self.bytes[place as usize]
     }
 
-    /// Puts a byte down at a place. What copies share is copied before it changes.
-    pub(crate) fn set(&mut self, place: u32, byte: u8) -> Result<(), AllocError>
+    /// Puts a byte down at a place.
+    #[inline(always)]
+    pub(crate) fn put(&mut self, place: u32, byte: u8)
         requires { place < 4096 }
-        ensures ok { OnOk result (self.new ≡ slice_set self.old place byte) }
-        ensures err { OnErr result (self.new ≡ self.old) }
+        ensures { self.new ≡ slice_set self.old place byte }
     {
-        if self.get(place) == byte {
-            return Ok(());
-        }
-        let bytes = Arc::make_mut(&mut self.bytes)?;
-        bytes[place as usize] = byte;
-        Ok(())
+        self.bytes[place as usize] = byte;
     }
 
     /// Whether both have the same byte at each place.
     pub(crate) fn same(&self, other: &Bytes) -> bool
         ensures { IsTrue result ↔ self.now ≡ other.now }
     {
-        *self.bytes == *other.bytes
+        self.bytes == other.bytes
     }
 }
 
@@ -74,8 +67,19 @@ impl Clone for Bytes {
     ghost is_clone = { λ bytes copy. copy ≡ bytes };
 
     fn clone(&self) -> Result<Bytes, AllocError> {
-        Ok(Bytes {
-            bytes: Arc::try_clone(&self.bytes)?,
-        })
+        Ok(Bytes { bytes: self.bytes })
     }
+}
+
+/// Puts a byte down at a place. What copies share is copied before it changes.
+pub(crate) fn write_each(bytes: &mut Arc<Bytes>, place: u32, byte: u8) -> Result<(), AllocError>
+    requires { place < 4096 }
+    ensures ok { OnOk result (arc_value bytes.new ≡ slice_set (arc_value bytes.old) place byte) }
+    ensures err { OnErr result (arc_value bytes.new ≡ arc_value bytes.old) }
+{
+    if bytes.get(place) == byte {
+        return Ok(());
+    }
+    Arc::make_mut(bytes)?.put(place, byte);
+    Ok(())
 }

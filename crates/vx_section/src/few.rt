@@ -3,7 +3,8 @@ ghost use Rattle.std.specs.Arc.{arc_value};
 ghost use Rattle.std.specs.List.{list_any};
 ghost use Rattle.vx_section.specs.Forms.{kind_at, filled, admits, admitted, with_byte, IsFull};
 
-use crate::pairs::{byte_of, find, set_number, unpack, zeros};
+use crate::bytes::Bytes;
+use crate::pairs::{byte_of, find, set_number, zeros};
 use std::alloc::{AllocError, Global};
 use std::marker::Model;
 use std::sync::Arc;
@@ -14,7 +15,7 @@ use std::sync::Arc;
 pub(crate) struct Few {
     palette: [u8; 16],
     used: u8,
-    pairs: Vec<u8>,
+    pairs: [u8; 2048],
 }
 
 impl Model for Few {
@@ -24,28 +25,28 @@ impl Model for Few {
     ghost Value = { SectionData };
 
     ghost view = { λ f. record {
-      bytes = unpacked f.palette f.pairs.items;
+      bytes = unpacked f.palette f.pairs;
       form = 2;
       palette = take f.used f.palette;
     } };
 
-    ghost invariant = { λ f. IsFew f.palette f.pairs.items f.used };
+    ghost invariant = { λ f. IsFew f.palette f.pairs f.used };
 }
 
 impl Few {
     /// One byte at each place, and another one in the palette.
-    pub(crate) fn of_two(alloc: Global, everywhere: u8, other: u8) -> Result<Few, AllocError>
-        ensures { IfOk result (λ few. few ≡ record {
+    pub(crate) fn of_two(everywhere: u8, other: u8) -> Few
+        ensures { result ≡ record {
           bytes = filled 4096 everywhere;
           form = 2;
           palette = everywhere ∷ other ∷ [];
-        }) }
+        } }
     {
-        Ok(Few {
+        Few {
             palette: [everywhere, other, 0, 0, 0, 0, 0, 0, 0, 0, 0, 0, 0, 0, 0, 0],
             used: 2,
-            pairs: zeros(alloc)?,
-        })
+            pairs: zeros(),
+        }
     }
 
     /// What holds of every one.
@@ -114,7 +115,7 @@ impl Few {
         requires known { number < length self.old.palette }
         ensures { self.new ≡ with_byte self.old place (kind_at self.old.palette number) }
     {
-        set_number(self.pairs.as_mut_slice(), place, number);
+        set_number(&mut self.pairs, place, number);
     }
 
     /// Puts a byte down at a place that the palette lacks.
@@ -132,19 +133,25 @@ impl Few {
     }
 
     /// A byte each, with one put down at a place.
-    pub(crate) fn unpacked_with(
-        &self,
-        alloc: Global,
-        place: u32,
-        byte: u8,
-    ) -> Result<Vec<u8>, AllocError>
+    pub(crate) fn unpacked_with(&self, place: u32, byte: u8) -> Bytes
         requires { place < 4096 }
-        ensures { IfOk result (λ bytes. bytes.items ≡ slice_set self.now.bytes place byte) }
+        ensures { result ≡ slice_set self.now.bytes place byte }
+    {
+        let mut bytes = self.unpacked();
+        bytes.put(place, byte);
+        bytes
+    }
+
+    // A byte each.
+    fn unpacked(&self) -> Bytes
+        ensures { result ≡ self.now.bytes }
     {
         self.soundness();
-        let mut bytes = unpack(alloc, &self.palette, &self.pairs)?;
-        bytes[place as usize] = byte;
-        Ok(bytes)
+        let mut bytes = [0_u8; 4096];
+        for place in 0..4096_u32 {
+            bytes[place as usize] = self.get(place);
+        }
+        Bytes::of(bytes)
     }
 
     /// Whether both are kept alike, and so have the same byte at each place.
@@ -159,11 +166,10 @@ impl Clone for Few {
     ghost is_clone = { λ few copy. copy ≡ few };
 
     fn clone(&self) -> Result<Few, AllocError> {
-        let alloc = *self.pairs.allocator();
         Ok(Few {
             palette: self.palette,
             used: self.used,
-            pairs: Vec::from_slice(alloc, &self.pairs)?,
+            pairs: self.pairs,
         })
     }
 }
@@ -182,7 +188,7 @@ pub(crate) fn with_second(
       palette = everywhere ∷ other ∷ [];
     }) }
 {
-    let mut few = Few::of_two(alloc, everywhere, other)?;
+    let mut few = Few::of_two(everywhere, other);
     few.put(place, 1);
     Ok(Arc::new(alloc, few)?)
 }

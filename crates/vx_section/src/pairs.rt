@@ -1,10 +1,8 @@
 //! Numbers below sixteen, two to a byte, and the bytes of a palette that they stand for.
 
-ghost use Rattle.std.specs.Prelude.{◌≡◌, ◌*◌, ◌/◌, ◌%◌, ◌<◌, ◌≤◌, ℕ, List, false, nat_eq, length, take, None, IfOk, IfSome, slice_index_or, slice_set};
+ghost use Rattle.std.specs.Prelude.{◌≡◌, ◌*◌, ◌/◌, ◌%◌, ◌<◌, ◌≤◌, ℕ, List, false, nat_eq, length, take, None, IfSome, slice_index_or, slice_set};
 ghost use Rattle.std.specs.List.{AllByRecursion, list_any};
 ghost use Rattle.vx_section.specs.Forms.{unpacked, kind_at, filled, IsPair};
-
-use std::alloc::{AllocError, Global};
 
 /// The number of a place.
 #[inline(always)]
@@ -62,25 +60,12 @@ pub(crate) fn find(palette: &[u8], used: u8, byte: u8) -> Option<u8>
     None
 }
 
-/// The byte of each place, one after another.
-pub(crate) fn unpack(alloc: Global, palette: &[u8], pairs: &[u8]) -> Result<Vec<u8>, AllocError>
-    requires { length palette.now ≡ 16 }
-    ensures { IfOk result (λ bytes. bytes.items ≡ unpacked palette.now pairs.now) }
-{
-    let mut bytes = Vec::with_capacity(alloc, 2 * pairs.len())?;
-    for pair in pairs {
-        bytes.push(palette[(*pair % 16) as usize])?;
-        bytes.push(palette[(*pair / 16) as usize])?;
-    }
-    Ok(bytes)
-}
-
 /// The number 0 at each place.
-pub(crate) fn zeros(alloc: Global) -> Result<Vec<u8>, AllocError>
-    ensures bytes { IfOk result (λ pairs. (palette : List ℕ)
-        → unpacked palette pairs.items ≡ filled 4096 (kind_at palette 0)) }
-    ensures length { IfOk result (λ pairs. length pairs.items ≡ 2048) }
-    ensures numbers { IfOk result (λ pairs. AllByRecursion (IsPair 1) pairs.items) }
+pub(crate) fn zeros() -> [u8; 2048]
+    ensures bytes { (palette : List ℕ)
+        → unpacked palette result ≡ filled 4096 (kind_at palette 0) }
+    ensures length { length result ≡ 2048 }
+    ensures numbers { AllByRecursion (IsPair 1) result }
 {
-    vec![in alloc; 0_u8; 2048]
+    [0; 2048]
 }

@@ -1,7 +1,8 @@
 ghost use Rattle.std.specs.Prelude.{◌≡◌, ◌<◌, ◌≤◌, ◌↔◌, true, false, length, slice_index_or, slice_set, IsTrue, IfOk, OnOk, OnErr};
+ghost use Rattle.std.specs.Arc.{arc_value};
 ghost use Rattle.vx_section.specs.Forms.{admitted, with_byte, fresh, IsFull};
 
-use crate::bytes::Bytes;
+use crate::bytes::{Bytes, write_each};
 use crate::few::{Few, with_second, write_few};
 use std::alloc::{AllocError, Global};
 use std::marker::Model;
@@ -11,7 +12,7 @@ use std::sync::Arc;
 enum Form {
     One(u8),
     Few(Arc<Few>),
-    Each(Bytes),
+    Each(Arc<Bytes>),
 }
 
 /// A byte at each of the 4,096 places of a section: one for all, or up to sixteen different ones
@@ -104,7 +105,7 @@ impl Section {
             Form::One(old) => Ok(*old == byte),
             Form::Few(few) => write_few(few, place, byte),
             Form::Each(bytes) => {
-                bytes.set(place, byte)?;
+                write_each(bytes, place, byte)?;
                 Ok(true)
             }
         }
@@ -158,18 +159,18 @@ impl Clone for Section {
         let kept = match &self.kept {
             Form::One(byte) => Form::One(*byte),
             Form::Few(few) => Form::Few(Arc::try_clone(few)?),
-            Form::Each(bytes) => Form::Each(bytes.clone()?),
+            Form::Each(bytes) => Form::Each(Arc::try_clone(bytes)?),
         };
         Ok(Section { kept })
     }
 }
 
 // A byte each, with one put down at a place.
-fn widened(alloc: Global, few: &Few, place: u32, byte: u8) -> Result<Bytes, AllocError>
+fn widened(alloc: Global, few: &Few, place: u32, byte: u8) -> Result<Arc<Bytes>, AllocError>
     requires { place < 4096 }
-    ensures bytes { IfOk result (λ bytes. bytes ≡ slice_set few.now.bytes place byte) }
+    ensures bytes { IfOk result (λ bytes. arc_value bytes ≡ slice_set few.now.bytes place byte) }
     ensures form { few.now.form ≡ 2 }
 {
     few.soundness();
-    Bytes::of(alloc, few.unpacked_with(alloc, place, byte)?)
+    Ok(Arc::new(alloc, few.unpacked_with(place, byte))?)
 }

@@ -4,14 +4,18 @@ ghost use Rattle.vx_section.specs.Indices.{section_of, place_of, section_count, 
 
 use crate::section::Section;
 use std::alloc::{AllocError, Global};
+use std::array;
 use std::marker::Model;
 
 /// The bytes of a sector of 16 by 64 by 16 or of 32 by 64 by 32 cells, in the order of their
 /// indices, kept section by section. Copies share each section until one of them changes it.
 #[derive(Drop)]
 pub struct Sections {
+    alloc: Global,
     wide: bool,
-    sections: Vec<Section>,
+    // A sector of sixteen columns a side has the first four. Its other twelve stay as they were
+    // made, which takes no further memory, and nothing reads their bytes.
+    sections: [Section; 16],
 }
 
 impl Model for Sections {
@@ -20,9 +24,9 @@ impl Model for Sections {
 
     ghost Value = { List ℕ };
 
-    ghost view = { λ s. bytes_of s.wide s.sections.items };
+    ghost view = { λ s. bytes_of s.wide s.sections };
 
-    ghost invariant = { λ s. AreSections s.wide s.sections.items };
+    ghost invariant = { λ s. AreSections s.sections };
 }
 
 impl Sections {
@@ -30,8 +34,11 @@ impl Sections {
     pub fn new(alloc: Global, wide: bool, byte: u8) -> Result<Sections, AllocError>
         ensures { IfOk result (λ s. s ≡ filled (4096 * section_count wide) byte) }
     {
-        let sections = blank(alloc, section_count(wide), byte)?;
-        Ok(Sections { wide, sections })
+        Ok(Sections {
+            alloc,
+            wide,
+            sections: blank(byte),
+        })
     }
 
     /// The byte of an index.
@@ -51,7 +58,8 @@ impl Sections {
     pub fn at(&self, column: u32, layer: u32, row: u32) -> u8
         requires { layer < 64 }
         ensures { let side = side_of (length self.now) in
-            result ≡ slice_index_or self.now (column % side + side * (row % side + side * layer)) 0 }
+            result ≡ slice_index_or self.now
+            (column % side + side * (row % side + side * layer)) 0 }
     {
         let section = section_at(self.wide, column, layer, row) as usize;
         let place = place_at(column, layer, row);
@@ -65,7 +73,7 @@ impl Sections {
         ensures ok { OnOk result (self.new ≡ slice_set self.old index byte) }
         ensures err { OnErr result (self.new ≡ self.old) }
     {
-        let alloc = *self.sections.allocator();
+        let alloc = self.alloc;
         let section = section_of(self.wide, index) as usize;
         let place = place_of(self.wide, index);
         self.sections[section].set(alloc, place, byte)
@@ -78,7 +86,7 @@ impl Sections {
         if self.wide != other.wide {
             return false;
         }
-        all_same(&self.sections, &other.sections)
+        all_same(&self.sections, &other.sections, section_count(self.wide))
     }
 
     /// The form of the section that holds an index: 1, 2 or 3.
@@ -94,14 +102,10 @@ impl Clone for Sections {
     ghost is_clone = { λ sections copy. copy ≡ sections };
 
     fn clone(&self) -> Result<Sections, AllocError> {
-        let alloc = *self.sections.allocator();
-        let mut sections = Vec::with_capacity(alloc, self.sections.len())?;
-        for section in &self.sections {
-            sections.push(section.clone()?)?;
-        }
         Ok(Sections {
+            alloc: self.alloc,
             wide: self.wide,
-            sections,
+            sections: copied(&self.sections)?,
         })
     }
 }
@@ -157,32 +161,40 @@ fn place_at(column: u32, layer: u32, row: u32) -> u32
     layer % 16 * 256 + row % 16 * 16 + column % 16
 }
 
-// How many sections there are.
+// How many sections a sector has.
 fn section_count(wide: bool) -> usize
-    ensures { result ≡ section_count wide }
+    ensures value { result ≡ section_count wide }
+    ensures within { result ≤ 16 }
 {
     if wide { 16 } else { 4 }
 }
 
-// So many sections of that byte.
-fn blank(alloc: Global, count: usize, byte: u8) -> Result<Vec<Section>, AllocError>
-    ensures count { IfOk result (λ ss. length ss.items ≡ count) }
-    ensures each { IfOk result (λ ss. (k : ℕ) → k < count
-        → (slice_index_or ss.items k nothing).bytes ≡ filled 4096 byte) }
+// Sixteen sections of that byte.
+fn blank(byte: u8) -> [Section; 16]
+    ensures count { length result ≡ 16 }
+    ensures each { (k : ℕ) → k < 16 → (slice_index_or result k nothing).bytes ≡ filled 4096 byte }
 {
-    let mut sections = Vec::with_capacity(alloc, count)?;
-    for _ in 0..count {
-        sections.push(Section::new(byte))?;
-    }
-    Ok(sections)
+    array::from_fn(|_| Section::new(byte))
 }
 
-// Whether the sections of two lists have the same bytes, one by one.
-fn all_same(mine: &[Section], its: &[Section]) -> bool
-    requires { length mine.now ≡ length its.now }
-    ensures { IsTrue result ↔ AreSame mine.now its.now }
+// Copies of sixteen sections.
+fn copied(sections: &[Section; 16]) -> Result<[Section; 16], AllocError>
+    ensures { IfOk result (λ copies. copies ≡ sections.now) }
 {
-    for k in 0..mine.len() {
+    let mut copies = blank(0);
+    for k in 0..16 {
+        copies[k] = sections[k].clone()?;
+    }
+    Ok(copies)
+}
+
+// Whether the first so many sections of two lists have the same bytes, one by one.
+fn all_same(mine: &[Section], its: &[Section], count: usize) -> bool
+    requires mine { count ≤ length mine.now }
+    requires its { count ≤ length its.now }
+    ensures { IsTrue result ↔ AreSame count mine.now its.now }
+{
+    for k in 0..count {
         if !mine[k].same(&its[k]) {
             return false;
         }

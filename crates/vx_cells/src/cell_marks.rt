@@ -1,6 +1,6 @@
-ghost use Rattle.std.specs.Prelude.{◌≡◌, ◌*◌, ◌/◌, ◌%◌, ◌<◌, ℕ, true, nat_eq, nat_lt, length, replicate, if◌then◌else◌, IfOk, OnOk};
+ghost use Rattle.std.specs.Prelude.{◌≡◌, ◌+◌, ◌*◌, ◌/◌, ◌%◌, ◌<◌, ℕ, true, nat_eq, nat_lt, length, replicate, if◌then◌else◌, IfOk, OnOk};
 ghost use Rattle.vx_geom.specs.Sizes.{Sizes, AreSizes, sector_count, sector_cells};
-ghost use Rattle.vx_marks.specs.Marks.{is_marked};
+ghost use Rattle.vx_marks.specs.Marks.{is_marked, IsFirst};
 ghost use Rattle.vx_cells.specs.Listed.{marked_places};
 
 use crate::marked::marked_places;
@@ -83,6 +83,29 @@ impl CellMarks {
         match &self.marks {
             Some(marks) => marks.first_from(0).is_some(),
             None => false,
+        }
+    }
+
+    /// Whether an index is marked.
+    #[inline(always)]
+    pub fn has(&self, index: u32) -> bool
+        ensures { result ≡ is_marked self.now.words index }
+    {
+        match &self.marks {
+            Some(marks) => marks.has(index),
+            None => false,
+        }
+    }
+
+    /// The first marked index from this one on, in the same word of 64.
+    #[inline(always)]
+    pub fn first_in_word(&self, from: u32) -> Option<u32>
+        requires { from < 64 * length self.now.words }
+        ensures { IsFirst (is_marked self.now.words) (64 * (from / 64 + 1)) from result }
+    {
+        match &self.marks {
+            Some(marks) => marks.first_in_word(from),
+            None => None,
         }
     }
 

@@ -1,0 +1,7 @@
+use Rattle.std.proofs.Common.{sym}
+use Rattle.vx_cells.proofs.Unmarked.{no_mark}
+use Rattle.vx_cells.proofs.cell_marks.CellMarks.has.Goals as goal
+
+pub returns-in-None : goal.returns-in-None
+returns-in-None c =
+    sym (no_mark c.self.inside.count c.self.inside.marks c.args.self.now c.self.view_is c.in-None.is c.args.index)

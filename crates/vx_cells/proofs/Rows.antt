@@ -1,17 +1,16 @@
 -- Columns of a row of a layer: their indices in a sector, and what is found among them.
-use Rattle.std.proofs.Common.{◌≡◌, ◌≢◌, ℕ, ℤ, pos, ◌+◌, ◌-◌, ◌*◌, ◌/◌, ◌%◌, ◌<◌, ◌≤◌, ◌⊎◌, inl, inr, Bool, true, false, true≢false, List, Option, Some, None, slice_get, ap, sym, refl, subst, ◌∙◌, w32, arith}
+use Rattle.std.proofs.Common.{◌≡◌, ◌≢◌, ℕ, pos, ◌+◌, ◌-◌, ◌*◌, ◌/◌, ◌%◌, ◌<◌, ◌≤◌, ◌⊎◌, inl, inr, Bool, true, false, true≢false, List, Option, Some, None, slice_get, ap, sym, subst, ◌∙◌, w32, arith}
 use Rattle.std.proofs.lemmas.Bool.{and_from, and_parts, cases_lt, cases_eq}
 use Rattle.std.proofs.lemmas.Int.{ints}
 use mir.Val.{to_z}
 use Rattle.vx_block.specs.Components.{is_component}
-use Rattle.vx_block.specs.declared.cell.Cell.{Cell}
 use Rattle.vx_geom.specs.declared.pos.Pos.{Pos}
-use Rattle.vx_geom.specs.Sizes.{Sizes, AreSizes, span, height, is_below, is_inside, sector_number, sector_of, index_in_sector}
+use Rattle.vx_geom.specs.Sizes.{Sizes, AreSizes, span, is_below, is_inside, sector_number, sector_of, index_in_sector}
 use Rattle.vx_geom.proofs.Divisions.{part_is, part_below, below_parts}
 use Rattle.vx_geom.proofs.SectorLemmas.{below_from, inside_at}
 use Rattle.vx_marks.specs.Marks.{is_marked, IsFirst}
 use Rattle.vx_cells.specs.Listed.{place, is_component_in_column}
-use Rattle.vx_cells.specs.Maps.{MapData, AreSectors, cell_on}
+use Rattle.vx_cells.specs.Maps.{MapData, AreSectors}
 use Rattle.vx_cells.specs.SectorCells.{SectorCells, holds, cell_at}
 use Rattle.vx_cells.proofs.Indices.{numbered}
 use Rattle.vx_cells.proofs.MapLemmas.{is_held, cell_found, placed_at, narrow, outside_is_air}
@@ -88,7 +87,7 @@ module _ (v : Sizes) (sizes : AreSizes v) (x y z index : ℕ) (at : index ≡ in
       before : (c : ℕ) → x ≤ c → c < end_of_row → c < column → test (place c y z) ≡ false
       before c low high near = told_later c low high ∙ first.3 (index + (c - x)) (omega arith) (omega arith)
 
-      -- a mark further in the word is of a column of this row, or of none
+      -- a mark in this row is of the first such column; one further on says that the row has none
       pub found_in_row : column / span v ≡ x / span v → IsFirst (λ c. test (place c y z)) end_of_row x (Some column)
       found_in_row same =
           let low : x ≤ column = omega arith in
@@ -159,7 +158,7 @@ module _ (m : MapData) (x y z : ℕ) (whole : AreSectors m.sizes m.sectors)
   -- what is found in the row of the sector is what is found on the map
   pub row_on_map : (cells : SectorCells) (found : Option ℕ) → slice_get m.sectors here ≡ Some cells
       → IsFirst (λ c. is_component (cell_at cells (place c y z)))
-          (span cells.bounds * (x / span cells.bounds + 1)) x found
+      (span cells.bounds * (x / span cells.bounds + 1)) x found
       → IsFirst (is_component_in_column m y z) end_here x found
   row_on_map cells found there first =
       let size = (placed_at m.sizes 0 here m.sectors cells whole.each there).0 in

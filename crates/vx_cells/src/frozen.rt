@@ -244,7 +244,8 @@ impl<'a> Frozen<'a> {
     {
         self.soundness();
         let p = Pos::new(x as i32, y as i32, z as i32);
-        self.sector_at(self.bounds.sector_holding(p)).component_in_row(x, y, z)
+        self.sector_at(self.bounds.sector_holding(p))
+            .component_in_row(x, y, z)
     }
 
     // The sector of a number.

@@ -1,4 +1,4 @@
-use Rattle.std.proofs.Common.{◌≡◌, ap, sym, ◌∙◌, arith}
+use Rattle.std.proofs.Common.{ap, sym, ◌∙◌, arith}
 use Rattle.vx_geom.specs.Sizes.{is_inside}
 use Rattle.vx_cells.specs.Listed.{is_component_in_column}
 use Rattle.vx_cells.specs.Maps.{MapData}

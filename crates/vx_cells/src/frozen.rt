@@ -178,8 +178,8 @@ impl<'a> Frozen<'a> {
         self.sector_at(sector).devices(alloc)
     }
 
-    /// The first of the columns from one up to below another, in a row of a layer, where a component
-    /// of machines stands. It costs a look for each sector that the columns lie in.
+    /// The first of the columns from one up to below another, in a row of a layer, where a
+    /// component of machines stands. It costs a look for each sector that the columns lie in.
     pub fn component_in_row(&self, y: u32, z: u32, first: u32, end: u32) -> Option<u32>
         requires layer { y < 64 }
         requires row { z < 256 }

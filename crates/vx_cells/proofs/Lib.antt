@@ -6,6 +6,7 @@ pub mod Listing
 pub mod MapLemmas
 pub mod Placed
 pub mod Putting
+pub mod Rows
 pub mod Sectioned
 pub mod Setting
 pub mod Stacks

@@ -64,7 +64,7 @@ module _ (m : MapData) (p : Pos) (k : ℕ) (in_sector : sector_of m.sizes p ≡ 
       ∙ ap (λ c. cell_in c p) (slice_get_past m.sectors k past))
 
 -- a world is less wide than that
-narrow : (n s : ℕ) → n ≤ 8 → s ≤ 2 → n * (16 * s) ≤ far
+pub narrow : (n s : ℕ) → n ≤ 8 → s ≤ 2 → n * (16 * s) ≤ far
 narrow n s few small =
     let most = mul-le n (16 * s) 8 32 few (omega (arith, small)) in
     omega (arith, most)

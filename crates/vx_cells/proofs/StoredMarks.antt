@@ -5,6 +5,7 @@ use Rattle.std.proofs.lemmas.List.{get_or_past, get_or-set_same, get_or-set_othe
 use Rattle.std.specs.List.{filter}
 use Rattle.vx_block.specs.declared.cell.Cell.{Cell}
 use Rattle.vx_block.specs.declared.cell.Cell.TheVariants.{Air}
+use Rattle.vx_geom.specs.declared.pos.Pos.{Pos}
 use Rattle.vx_geom.specs.Places.{positions}
 use Rattle.vx_geom.specs.Sizes.{Sizes, AreSizes, sector_count, sector_cells, index_in_sector}
 use Rattle.vx_marks.specs.Marks.{is_marked}
@@ -79,15 +80,23 @@ cell_here codes chests k = elim (cases_lt k (length codes)) [
       ∙ ap (λ b. b.cell) (sym (get_or_past blocks k (placed Air) no_block))
 ]
 
+-- the mark at the index of a position tells what stands there
+pub marked_at : (test : Cell → Bool) (bounds : Sizes) (sector : ℕ) (codes marks : List ℕ) (chests : ChestData)
+    → AreMarks test codes marks → (p : Pos)
+    → is_marked marks (index_in_sector bounds p) ≡ test (cell_at (stored bounds sector codes chests) p)
+unfolding block_at
+marked_at test bounds sector codes marks chests are p =
+    are.each (index_in_sector bounds p) ∙ ap test (cell_here codes chests (index_in_sector bounds p))
+
 -- marks tell the positions at which something stands
 module _ (bounds : Sizes) (sector : ℕ) (codes : List ℕ) (chests : ChestData) (sizes : AreSizes bounds)
     (low : sector < sector_count bounds) where
   pub marked_are : (test : Cell → Bool) (marks : List ℕ) → AreMarks test codes marks
       → marked_places bounds sector marks
       ≡ filter (λ p. test (cell_at (stored bounds sector codes chests) p)) (positions bounds sector)
-  unfolding block_at positions
+  unfolding positions
   marked_are test marks are =
       same_found (λ p. is_marked marks (index_in_sector bounds p))
       (λ p. test (cell_at (stored bounds sector codes chests) p)) bounds sector sizes low
-      (λ p held. are.each (index_in_sector bounds p) ∙ ap test (cell_here codes chests (index_in_sector bounds p)))
+      (λ p held. marked_at test bounds sector codes marks chests are p)
       (sector_cells bounds) 0 (omega arith)

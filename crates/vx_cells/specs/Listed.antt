@@ -1,5 +1,5 @@
 -- The components of machines in a sector, in order.
-use Rattle.std.specs.Prelude.{ℕ, List}
+use Rattle.std.specs.Prelude.{ℕ, pos, Bool, List}
 use Rattle.std.specs.List.{filter}
 use Rattle.vx_block.specs.Components.{is_device, is_component}
 use Rattle.vx_geom.specs.declared.pos.Pos.{Pos}
@@ -8,6 +8,10 @@ use Rattle.vx_geom.specs.Sizes.{Sizes, index_in_sector}
 use Rattle.vx_marks.specs.Marks.{is_marked}
 use Rattle.vx_cells.specs.Maps.{MapData, cell_on}
 use Rattle.vx_cells.specs.SectorCells.{SectorCells, cell_at}
+
+-- the position in a column of a row of a layer
+abbrev pub place : ℕ → ℕ → ℕ → Pos
+place x y z = record { y = pos y; z = pos z; x = pos x }
 
 -- the positions of a sector where a component stands
 unfoldable pub components_of : SectorCells → List Pos
@@ -28,3 +32,8 @@ components_on m k = filter (λ p. is_component (cell_on m p)) (positions m.sizes
 
 unfoldable pub devices_on : MapData → ℕ → List Pos
 devices_on m k = filter (λ p. is_device (cell_on m p)) (positions m.sizes k)
+
+-- a component stands in that column of a row of a layer
+abbrev pub is_component_in_column : MapData → ℕ → ℕ → ℕ → Bool
+is_component_in_column m y z x =
+    is_component (cell_on m (record { y = pos y; z = pos z; x = pos x }))

@@ -1,6 +1,6 @@
-ghost use Rattle.std.specs.Prelude.{◌≡◌, ◌*◌, ◌/◌, ◌%◌, ◌<◌, ℕ, true, nat_eq, nat_lt, length, replicate, if◌then◌else◌, IfOk, OnOk};
+ghost use Rattle.std.specs.Prelude.{◌≡◌, ◌+◌, ◌*◌, ◌/◌, ◌%◌, ◌<◌, ℕ, true, nat_eq, nat_lt, length, replicate, if◌then◌else◌, IfOk, OnOk};
 ghost use Rattle.vx_geom.specs.Sizes.{Sizes, AreSizes, sector_count, sector_cells};
-ghost use Rattle.vx_marks.specs.Marks.{is_marked};
+ghost use Rattle.vx_marks.specs.Marks.{is_marked, IsFirst};
 ghost use Rattle.vx_cells.specs.Listed.{marked_places};
 
 use crate::marked::marked_places;
@@ -85,7 +85,7 @@ impl CellMarks {
         }
     }
 
-    /// Whether an index is marked, in a sector of any world of so many cells a sector.
+    /// Whether any index is marked, in a sector of any world of so many cells a sector.
     pub fn has_any(&self) -> bool
         ensures { (bounds : Sizes) (sector : ℕ) → AreSizes bounds → sector < sector_count bounds
             → 64 * length self.now.words ≡ sector_cells bounds
@@ -94,6 +94,18 @@ impl CellMarks {
         match &self.marks {
             Some(marks) => marks.first_from(0).is_some(),
             None => false,
+        }
+    }
+
+    /// The first marked index from this one on, in the same word of 64.
+    #[inline(always)]
+    pub fn first_in_word(&self, from: u32) -> Option<u32>
+        requires { from < 64 * length self.now.words }
+        ensures { IsFirst (is_marked self.now.words) (64 * (from / 64 + 1)) from result }
+    {
+        match &self.marks {
+            Some(marks) => marks.first_in_word(from),
+            None => None,
         }
     }
 

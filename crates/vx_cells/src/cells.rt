@@ -1,9 +1,10 @@
-ghost use Rattle.std.specs.Prelude.{◌≡◌, ◌<◌, ◌≤◌, nat_lt, length, true, IfOk, OnOk, OnErr, IfSome};
+ghost use Rattle.std.specs.Prelude.{◌≡◌, ◌+◌, ◌*◌, ◌/◌, ◌<◌, ◌≤◌, nat_lt, length, true, IfOk, OnOk, OnErr, IfSome};
 ghost use Rattle.std.specs.List.{All};
-ghost use Rattle.vx_geom.specs.Sizes.{sector_count};
-ghost use Rattle.vx_block.specs.Components.{is_dust};
+ghost use Rattle.vx_geom.specs.Sizes.{span, sector_count};
+ghost use Rattle.vx_block.specs.Components.{is_dust, is_component};
 ghost use Rattle.vx_block.specs.Conductors.{conducts};
-ghost use Rattle.vx_cells.specs.Listed.{components_of, devices_of};
+ghost use Rattle.vx_marks.specs.Marks.{IsFirst};
+ghost use Rattle.vx_cells.specs.Listed.{place, components_of, devices_of};
 
 use crate::stack::{SLOTS, Slot};
 use crate::stored::Stored;
@@ -167,6 +168,17 @@ impl Cells {
         ensures { IfOk result (λ found. found.items ≡ devices_of self.now) }
     {
         self.stored.devices(alloc)
+    }
+
+    /// The first column from that one on, in a row of a layer of this sector, where a component of
+    /// machines stands.
+    #[inline(always)]
+    pub fn component_in_row(&self, x: u32, y: u32, z: u32) -> Option<u32>
+        requires { holds self.now (place x y z) ≡ true }
+        ensures { IsFirst (λ c. is_component (cell_at self.now (place c y z)))
+            (span self.now.bounds * (x / span self.now.bounds + 1)) x result }
+    {
+        self.stored.component_in_row(x, y, z)
     }
 
     /// How many components of machines stand in this sector. No clause tells the number, since

@@ -1,11 +1,12 @@
-ghost use Rattle.std.specs.Prelude.{◌≡◌, ◌<◌, ◌≤◌, nat_lt, length, true, IfOk, OnOk, OnErr, IfSome};
+ghost use Rattle.std.specs.Prelude.{◌≡◌, ◌+◌, ◌*◌, ◌/◌, ◌<◌, ◌≤◌, nat_lt, length, true, IfOk, OnOk, OnErr, IfSome};
 ghost use Rattle.std.specs.Bool.{Decides};
 ghost use Rattle.std.specs.List.{All};
-ghost use Rattle.vx_geom.specs.Sizes.{sector_count};
+ghost use Rattle.vx_geom.specs.Sizes.{span, sector_count};
 ghost use Rattle.vx_block.specs.Components.{is_dust, is_component, is_device};
 ghost use Rattle.vx_block.specs.Conductors.{conducts};
+ghost use Rattle.vx_marks.specs.Marks.{IsFirst};
 ghost use Rattle.vx_cells.specs.Codes.{code_count, cell_of};
-ghost use Rattle.vx_cells.specs.Listed.{components_of, devices_of};
+ghost use Rattle.vx_cells.specs.Listed.{place, components_of, devices_of};
 
 use crate::chests::Chests;
 use crate::code::{AIR, conducts, decode, encode, is_dust};
@@ -207,6 +208,26 @@ impl Stored {
     {
         self.bounds.soundness();
         self.marks.devices.places(alloc, self.bounds, self.sector)
+    }
+
+    /// The first column from that one on, in a row of a layer of this sector, where a component of
+    /// machines stands.
+    pub fn component_in_row(&self, x: u32, y: u32, z: u32) -> Option<u32>
+        requires { holds self.now (place x y z) ≡ true }
+        ensures { IsFirst (λ c. is_component (cell_at self.now (place c y z)))
+            (span self.now.bounds * (x / span self.now.bounds + 1)) x result }
+    {
+        self.bounds.soundness();
+        let p = Pos::new(x as i32, y as i32, z as i32);
+        let index = self.bounds.index_in_sector(p);
+        let found = self.marks.components.first_in_word(index)?;
+        let span = self.bounds.span();
+        let column = x + (found - index);
+        if column / span == x / span {
+            Some(column)
+        } else {
+            None
+        }
     }
 
     /// How many components of machines stand in this sector.

@@ -1,5 +1,5 @@
-ghost use Rattle.std.specs.Prelude.{◌≡◌, ◌*◌, ◌/◌, ◌%◌, ◌<◌, ℕ, false, nat_eq, length, replicate, if◌then◌else◌, IfOk};
-ghost use Rattle.vx_marks.specs.Marks.{is_marked, IsFirstMarked};
+ghost use Rattle.std.specs.Prelude.{◌≡◌, ◌+◌, ◌*◌, ◌/◌, ◌%◌, ◌<◌, ℕ, false, nat_eq, length, replicate, if◌then◌else◌, IfOk};
+ghost use Rattle.vx_marks.specs.Marks.{is_marked, IsFirst, IsFirstMarked};
 
 use crate::bits::Bits;
 use std::alloc::{AllocError, Global};
@@ -88,6 +88,15 @@ impl Marks {
         }
         let word = self.filled.first_from(from / 64 + 1)?;
         Some(self.bits.first_of_word(word))
+    }
+
+    /// The first marked index from this one on, in the same word of 64.
+    #[inline(always)]
+    pub fn first_in_word(&self, from: u32) -> Option<u32>
+        requires { from < 64 * length self.now }
+        ensures { IsFirst (is_marked self.now) (64 * (from / 64 + 1)) from result }
+    {
+        self.bits.first_in_word(from)
     }
 
     /// How many indices are marked: what going over all marks costs. No clause tells the number,

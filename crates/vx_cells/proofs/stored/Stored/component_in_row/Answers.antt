@@ -1,0 +1,95 @@
+use Rattle.std.proofs.Common.{◌≡◌, ◌≢◌, Bool, ◌+◌, ◌-◌, ◌*◌, ◌/◌, ap, subst, sym, ◌∙◌, arith}
+use Rattle.std.proofs.lemmas.Int.{ints}
+use Rattle.std.specs.Arc.{arc_value}
+use Rattle.vx_block.specs.Components.{is_component}
+use Rattle.vx_geom.specs.declared.pos.Pos.{Pos}
+use Rattle.vx_geom.specs.Sizes.{span, is_inside, index_in_sector}
+use Rattle.vx_marks.specs.Marks.{IsFirst}
+use Rattle.vx_cells.specs.Listed.{place}
+use Rattle.vx_cells.specs.SectorCells.{cell_at}
+use Rattle.vx_cells.specs.Stored.{stored}
+use Rattle.vx_cells.proofs.Indices.{inside_from_holds}
+use Rattle.vx_cells.proofs.Rows.{none_in_row, found_in_row, found_past_row, low_inside, place_is}
+use Rattle.vx_cells.proofs.StoredMarks.{marked_at}
+use Rattle.vx_cells.proofs.stored.Stored.component_in_row.Goals as goal
+
+pub overflow_cast-x : goal.overflow_cast-x
+overflow_cast-x c =
+    let held = rw (← c.self.view_is) at c.requires in
+    let low = low_inside _ _ _ _ c.soundness.ensures (inside_from_holds _ (place c.args.x c.args.y c.args.z) held) in
+    omega (arith, ints, low.0)
+
+pub overflow_cast-y : goal.overflow_cast-y
+overflow_cast-y c =
+    let held = rw (← c.self.view_is) at c.requires in
+    let low = low_inside _ _ _ _ c.soundness.ensures (inside_from_holds _ (place c.args.x c.args.y c.args.z) held) in
+    omega (arith, ints, low.1)
+
+pub overflow_cast-z : goal.overflow_cast-z
+overflow_cast-z c =
+    let held = rw (← c.self.view_is) at c.requires in
+    let low = low_inside _ _ _ _ c.soundness.ensures (inside_from_holds _ (place c.args.x c.args.y c.args.z) held) in
+    omega (arith, ints, low.2)
+
+pub index_in_sector-index-requires : goal.index_in_sector-index-requires
+index_in_sector-index-requires c =
+    let held = rw (← c.self.view_is) at c.requires in
+    let inside = inside_from_holds _ (place c.args.x c.args.y c.args.z) held in
+    let low = low_inside _ _ _ _ c.soundness.ensures inside in
+    ap (is_inside c.self.inside.bounds) (place_is _ _ _ _ low.0 low.1 low.2 c.new-p.ensures) ∙ inside
+
+pub overflow_add-column : goal.overflow_add-column
+overflow_add-column c =
+    let held = rw (← c.self.view_is) at c.requires in
+    let low = low_inside _ _ _ _ c.soundness.ensures (inside_from_holds _ (place c.args.x c.args.y c.args.z) held) in
+    omega (arith, low.0, c.in_ok-found.ensures.1)
+
+pub returns-in_err-found : goal.returns-in_err-found
+returns-in_err-found c =
+    let s = c.self.inside in
+    let held = rw (← c.self.view_is) at c.requires in
+    let low = low_inside _ _ _ _ c.soundness.ensures (inside_from_holds _ (place c.args.x c.args.y c.args.z) held) in
+    let at =
+    c.index_in_sector-index.ensures.value
+    ∙ ap (index_in_sector s.bounds) (place_is _ _ _ _ low.0 low.1 low.2 c.new-p.ensures) in
+    let test : Pos → Bool = λ p. is_component (cell_at (stored s.bounds s.sector s.store (arc_value s.chests)) p) in
+    let w = span s.bounds in
+    rw (← c.self.view_is) (subst
+    (IsFirst (λ x. test (place x c.args.y c.args.z)) (w * (c.args.x / w + 1)) c.args.x)
+    (sym c.from_residual.ensures)
+    (none_in_row s.bounds c.soundness.ensures c.args.x c.args.y c.args.z c.index_in_sector-index.result at
+    s.components.words test
+    (marked_at is_component s.bounds s.sector s.store s.components.words (arc_value s.chests) c.self.invariant.components)
+    c.in_err-found.ensures))
+
+pub returns-then-column-span : goal.returns-then-column-span
+returns-then-column-span c =
+    let s = c.self.inside in
+    let held = rw (← c.self.view_is) at c.requires in
+    let low = low_inside _ _ _ _ c.soundness.ensures (inside_from_holds _ (place c.args.x c.args.y c.args.z) held) in
+    let at =
+    c.index_in_sector-index.ensures.value
+    ∙ ap (index_in_sector s.bounds) (place_is _ _ _ _ low.0 low.1 low.2 c.new-p.ensures) in
+    let column = c.args.x + (c.in_ok-found.found - c.index_in_sector-index.result) in
+    rw (← c.self.view_is)
+    (found_in_row s.bounds c.soundness.ensures c.args.x c.args.y c.args.z c.index_in_sector-index.result at
+    s.components.words (λ p. is_component (cell_at (stored s.bounds s.sector s.store (arc_value s.chests)) p))
+    (marked_at is_component s.bounds s.sector s.store s.components.words (arc_value s.chests) c.self.invariant.components)
+    c.in_ok-found.found c.in_ok-found.ensures
+    (subst (λ w. column / w ≡ c.args.x / w) c.span-span.ensures c.if-column-span.true))
+
+pub returns-else-column-span : goal.returns-else-column-span
+returns-else-column-span c =
+    let s = c.self.inside in
+    let held = rw (← c.self.view_is) at c.requires in
+    let low = low_inside _ _ _ _ c.soundness.ensures (inside_from_holds _ (place c.args.x c.args.y c.args.z) held) in
+    let at =
+    c.index_in_sector-index.ensures.value
+    ∙ ap (index_in_sector s.bounds) (place_is _ _ _ _ low.0 low.1 low.2 c.new-p.ensures) in
+    let column = c.args.x + (c.in_ok-found.found - c.index_in_sector-index.result) in
+    rw (← c.self.view_is)
+    (found_past_row s.bounds c.soundness.ensures c.args.x c.args.y c.args.z c.index_in_sector-index.result at
+    s.components.words (λ p. is_component (cell_at (stored s.bounds s.sector s.store (arc_value s.chests)) p))
+    (marked_at is_component s.bounds s.sector s.store s.components.words (arc_value s.chests) c.self.invariant.components)
+    c.in_ok-found.found c.in_ok-found.ensures
+    (subst (λ w. column / w ≢ c.args.x / w) c.span-span.ensures c.if-column-span.false))

@@ -1,13 +1,10 @@
 -- Positions that are added one group after another.
 use Rattle.std.proofs.Common.{◌≡◌, ℕ, ◌+◌, ◌<◌, ◌≤◌, Bool, true, false, ◌&&◌, ◌||◌, nat_eq, nat_lt, inl, inr, refl, ap, sym, ◌∙◌, arith}
-use Rattle.std.proofs.lemmas.Bool.{cases_Bool, cases_order, and_from, and_left, and_right, or_left, or_right, or_from, eq-eqb, ne_eqb, lt-ltb, le-ltb}
+use Rattle.std.proofs.lemmas.Bool.{cases_Bool, cases_lt, cases_order, and_left, and_right, or_left, or_right, or_from, eq-eqb, ne_eqb, lt-ltb, le-ltb}
 use Rattle.vx_geom.specs.declared.pos.Pos.{Pos}
 use Rattle.vx_geom.specs.Sizes.{is_inside}
-use Rattle.vx_block.specs.declared.cell.Cell.{Cell}
-use Rattle.vx_block.specs.Components.{is_component}
-use Rattle.vx_places.specs.Around.{is_component_at, at_number, below_number, Adds}
-use Rattle.vx_places.specs.Places.{PlacesData, is_at, steps_between}
-use Rattle.vx_places.proofs.Steps.{place_is}
+use Rattle.vx_places.specs.Around.{at_number, below_number, Adds}
+use Rattle.vx_places.specs.Places.{PlacesData, is_at}
 
 joined : (o i f g h : Bool) → (i ≡ true → (f || g) ≡ h) → ((o || (i && f)) || (i && g)) ≡ (o || (i && h))
 joined true i f g h both = refl
@@ -50,28 +47,6 @@ adds_none h a none = record {
   marked = λ p. nothing (is_at a p) (is_inside a.sizes p) (h p) (none p);
 }
 
--- a position that is added is added as one where a component stands
-pub component_added : (w : Pos → Cell) (p : Pos) (a b : PlacesData) → is_component (w p) ≡ true
-    → Adds (λ q. nat_eq (steps_between p q) 0) a b → Adds (is_component_at w p) a b
-component_added w p a b stands one =
-    adds_same (λ q. nat_eq (steps_between p q) 0) (is_component_at w p) a b one
-    (λ q _. elim (cases_Bool (nat_eq (steps_between p q) 0)) [
-      | inl is ↦
-          is ∙ sym (and_from _ _ is (ap (λ r. is_component (w r)) (sym (place_is p q is)) ∙ stands))
-      | inr apart ↦ apart ∙ sym (and_left _ (is_component (w q)) apart)
-    ])
-
--- where none stands nothing is added
-pub others_left : (w : Pos → Cell) (p : Pos) (a : PlacesData) → is_component (w p) ≡ false
-    → Adds (is_component_at w p) a a
-others_left w p a none =
-    adds_none (is_component_at w p) a
-    (λ q _. elim (cases_Bool (nat_eq (steps_between p q) 0)) [
-      | inl is ↦
-          and_right _ _ (ap (λ r. is_component (w r)) (sym (place_is p q is)) ∙ none)
-      | inr apart ↦ and_left _ (is_component (w q)) apart
-    ])
-
 one_further : (t : Bool) (m n : ℕ) → ((t && nat_lt m n) || (t && nat_eq m n)) ≡ (t && nat_lt m (n + 1))
 one_further false m n = refl
 one_further true m n = elim (cases_order m n) [
@@ -81,6 +56,17 @@ one_further true m n = elim (cases_order m n) [
     | inr more ↦
         let other : m ≡ n → ⊥ = λ same. omega arith in
         or_from _ _ (le-ltb m n (omega arith)) (ne_eqb m n other) ∙ sym (le-ltb m (n + 1) (omega arith))
+  ]
+]
+
+-- numbers are below both, or below neither, but for those between that do not pass
+same_below : (t : Bool) (k m n : ℕ) → m ≤ n → (m ≤ k → k < n → t ≡ false)
+    → (t && nat_lt k m) ≡ (t && nat_lt k n)
+same_below t k m n above none = elim (cases_lt k m) [
+  | inl less ↦ ap (λ b. t && b) (lt-ltb k m less ∙ sym (lt-ltb k n (omega arith)))
+  | inr least ↦ elim (cases_lt k n) [
+    | inl less ↦ let fails = none least less in and_left t _ fails ∙ sym (and_left t _ fails)
+    | inr past ↦ ap (λ b. t && b) (le-ltb k m least ∙ sym (le-ltb k n past))
   ]
 ]
 
@@ -102,6 +88,14 @@ module _ (number : Pos → ℕ) (test : Pos → Bool) (a : PlacesData) where
   one_number n b c first second =
       adds_more (below_number number test n) (at_number number test n) (below_number number test (n + 1)) a b c
       first second (λ p _. one_further (test p) (number p) n)
+
+  -- where none has a number from one up to below another, those below the other are no more
+  pub none_between : (m n : ℕ) (b : PlacesData) → m ≤ n → Adds (below_number number test m) a b
+      → ((p : Pos) → is_inside a.sizes p ≡ true → m ≤ number p → number p < n → test p ≡ false)
+      → Adds (below_number number test n) a b
+  none_between m n b above first none =
+      adds_same (below_number number test m) (below_number number test n) a b first
+      (λ p inside. same_below (test p) (number p) m n above (none p inside))
 
   -- where all have lesser numbers all are added
   pub all_numbers : (end : ℕ) (b : PlacesData) → Adds (below_number number test end) a b

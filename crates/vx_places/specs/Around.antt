@@ -14,10 +14,6 @@ is_around p steps q = nat_le (steps_between p q) steps
 abbrev pub is_component_around : (Pos → Cell) → Pos → ℕ → Pos → Bool
 is_component_around w p steps q = is_around p steps q && is_component (w q)
 
--- it is this position, and a component stands there
-abbrev pub is_component_at : (Pos → Cell) → Pos → Pos → Bool
-is_component_at w p q = nat_eq (steps_between p q) 0 && is_component (w q)
-
 -- the numbers of a position's layer, row and column
 abbrev pub layer_of : Pos → ℕ
 layer_of p = unsigned_abs p.y

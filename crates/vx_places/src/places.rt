@@ -3,15 +3,13 @@ ghost use Rattle.std.specs.List.{filter, list_any};
 ghost use Rattle.vx_geom.specs.declared.pos.Pos.{Pos};
 ghost use Rattle.vx_geom.specs.Places.{positions};
 ghost use Rattle.vx_geom.specs.Sizes.{AreSizes, height, span, sector_count, sector_cells, is_inside};
-ghost use Rattle.vx_block.specs.Components.{is_component};
 ghost use Rattle.vx_cells.specs.Maps.{cell_on};
-ghost use Rattle.vx_places.specs.Around.{is_component_around, is_component_at, at_number, layer_of, row_of, Adds};
+ghost use Rattle.vx_places.specs.Around.{is_component_around, at_number, layer_of, row_of, Adds};
 ghost use Rattle.vx_places.specs.Places.{marked_in, is_at, steps_between, HasRoom};
 
 use crate::around::{columns, end_within, least_within, rows, steps_along};
 use std::alloc::{AllocError, Global};
 use std::marker::Model;
-use vx_block::Cell;
 use vx_cells::{Frozen, marked_places};
 use vx_geom::{Bounds, Pos};
 use vx_marks::Marks;
@@ -158,7 +156,8 @@ impl Places {
         Ok(())
     }
 
-    // Adds those of one row of a layer alone.
+    // Adds those of one row of a layer alone. It goes from component to component, and besides costs
+    // a look for each sector that the columns within the steps lie in.
     fn mark_row(
         &mut self,
         alloc: Global,
@@ -179,23 +178,13 @@ impl Places {
     {
         let count = columns(self.bounds());
         let left = steps - steps_along(p.y, y) - steps_along(p.z, z);
-        let first = least_within(p.x, left, count);
-        for x in first..end_within(p.x, left, count) {
-            self.mark_component(alloc, map, Pos::new(x as i32, y as i32, z as i32))?;
+        let end = end_within(p.x, left, count);
+        let mut next = least_within(p.x, left, count);
+        while let Some(x) = map.component_in_row(y, z, next, end) {
+            self.mark(alloc, Pos::new(x as i32, y as i32, z as i32))?;
+            next = x + 1;
         }
         Ok(())
-    }
-
-    // Adds a position, if a component of machines stands there.
-    fn mark_component(&mut self, alloc: Global, map: &Frozen<'_>, p: Pos) -> Result<(), AllocError>
-        ensures sizes { self.new.sizes ≡ self.old.sizes }
-        ensures marked { OnOk result
-            (Adds (is_component_at (cell_on map.now) p) self.old self.new) }
-    {
-        if !is_component(&map.cell(p)) {
-            return Ok(());
-        }
-        self.mark(alloc, p)
     }
 
     /// The positions of a sector, in order. A sector without any costs a look.
@@ -238,13 +227,6 @@ impl Places {
             _ => None,
         }
     }
-}
-
-// Whether a cell is a component of machines.
-fn is_component(cell: &Cell) -> bool
-    ensures { result ≡ is_component cell.now }
-{
-    cell.is_dust() || cell.is_device()
 }
 
 // So many sectors in which nothing is marked.

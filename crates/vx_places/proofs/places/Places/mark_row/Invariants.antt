@@ -1,9 +1,15 @@
+use Rattle.std.proofs.Common.{◌-◌, ◌≤◌}
 use Rattle.vx_cells.specs.Maps.{cell_on}
 use Rattle.vx_places.specs.Around.{is_component_around, at_number, below_number, layer_of, row_of, column_of, Adds}
 use Rattle.vx_places.proofs.places.Places.mark_row.Given as goal
 
 -- those of the columns so far are added
 abbrev pub invariant-loop-x : goal.invariant-loop-x
-invariant-loop-x l =
-    Adds (below_number column_of (at_number row_of (at_number layer_of (is_component_around (cell_on l.fn.map) l.fn.p l.steps) l.y) l.z) l.x)
-    l.fn.self l.self
+invariant-loop-x l = record {
+  least : l.initial.next ≤ l.next;
+  added : Adds (below_number column_of (at_number row_of (at_number layer_of (is_component_around (cell_on l.fn.map) l.fn.p l.steps) l.y) l.z) l.next)
+      l.fn.self l.self;
+}
+
+abbrev pub decreases-loop-x : goal.decreases-loop-x
+decreases-loop-x l = l.end - l.next

@@ -156,8 +156,8 @@ impl Places {
         Ok(())
     }
 
-    // Adds those of one row of a layer alone. It goes from component to component, and besides costs
-    // a look for each sector that the columns within the steps lie in.
+    // Adds those of one row of a layer alone. It goes from one component to the next, and does not
+    // look at each column.
     fn mark_row(
         &mut self,
         alloc: Global,

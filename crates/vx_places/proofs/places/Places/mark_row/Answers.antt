@@ -1,11 +1,10 @@
-use Rattle.std.proofs.Common.{ℕ, Bool, nat_eq, true, false, inl, inr, ◌≡◌, ◌+◌, ◌-◌, ◌*◌, ◌<◌, ◌≤◌, FitsSigned, pos, ◌-ℤ◌, unsigned_abs, ap, sym, ◌∙◌, arith, rules}
+use Rattle.std.proofs.Common.{ℕ, Bool, nat_eq, inl, inr, ◌≡◌, ◌+◌, ◌-◌, ◌*◌, ◌<◌, ◌≤◌, FitsSigned, pos, ◌-ℤ◌, unsigned_abs, ap, sym, ◌∙◌, arith, rules}
 use Rattle.std.specs.Int.{w32}
 use Rattle.std.proofs.lemmas.Bool.{cases_lt, true≢false}
 use Rattle.std.proofs.lemmas.Int.{ints, to_z-of_z}
 use Rattle.vx_geom.specs.Sizes.{Sizes, span}
 use Rattle.vx_geom.specs.declared.pos.Pos.{Pos}
 use Rattle.vx_geom.proofs.Positions.{same_pos}
-use Rattle.vx_block.specs.declared.cell.Cell.{Cell}
 use Rattle.vx_cells.specs.Maps.{cell_on}
 use Rattle.vx_places.specs.Around.{is_component_around, at_number, layer_of, row_of, column_of, least_within, end_within}
 use Rattle.vx_places.specs.Places.{steps_between}

@@ -199,7 +199,9 @@ impl Stored {
         ensures { IfOk result (λ found. found.items ≡ components_of self.now) }
     {
         self.bounds.soundness();
-        self.marks.components.places(alloc, self.bounds, self.sector)
+        self.marks
+            .components
+            .places(alloc, self.bounds, self.sector)
     }
 
     /// The positions where a device stands, in order.

@@ -7,11 +7,18 @@ use Rattle.vx_geom.specs.Sizes.{span, is_inside, index_in_sector}
 use Rattle.vx_marks.specs.Marks.{IsFirst}
 use Rattle.vx_cells.specs.Listed.{place}
 use Rattle.vx_cells.specs.SectorCells.{cell_at}
-use Rattle.vx_cells.specs.Stored.{stored}
+use Rattle.vx_cells.specs.Stored.{stored, AreMarks}
+use Rattle.vx_cells.specs.declared.machine_marks.MachineMarks.{MachineMarks}
 use Rattle.vx_cells.proofs.Indices.{inside_from_holds}
 use Rattle.vx_cells.proofs.Rows.{none_in_row, found_in_row, found_past_row, low_inside, place_is}
 use Rattle.vx_cells.proofs.StoredMarks.{marked_at}
 use Rattle.vx_cells.proofs.stored.Stored.component_in_row.Goals as goal
+use Rattle.vx_cells.proofs.stored.Stored.component_in_row.Goals.{After-deref}
+
+-- the marks that are read are those that the sector keeps
+marks_are : (c : After-deref) → AreMarks is_component c.self.inside.store c.deref.result.now.components.words
+marks_are c =
+    subst (λ (m : MachineMarks). AreMarks is_component c.self.inside.store m.components.words) (sym c.deref.ensures) c.self.invariant.marks.components
 
 pub overflow_cast-x : goal.overflow_cast-x
 overflow_cast-x c =
@@ -58,8 +65,8 @@ returns-in_err-found c =
     (IsFirst (λ x. test (place x c.args.y c.args.z)) (w * (c.args.x / w + 1)) c.args.x)
     (sym c.from_residual.ensures)
     (none_in_row s.bounds c.soundness.ensures c.args.x c.args.y c.args.z c.index_in_sector-index.result at
-    s.components.words test
-    (marked_at is_component s.bounds s.sector s.store s.components.words (arc_value s.chests) c.self.invariant.components)
+    c.deref.result.now.components.words test
+    (marked_at is_component s.bounds s.sector s.store c.deref.result.now.components.words (arc_value s.chests) (marks_are (goal.at.returns-in_err-found c).After-deref))
     c.in_err-found.ensures))
 
 pub returns-then-column-span : goal.returns-then-column-span
@@ -73,8 +80,8 @@ returns-then-column-span c =
     let column = c.args.x + (c.in_ok-found.found - c.index_in_sector-index.result) in
     rw (← c.self.view_is)
     (found_in_row s.bounds c.soundness.ensures c.args.x c.args.y c.args.z c.index_in_sector-index.result at
-    s.components.words (λ p. is_component (cell_at (stored s.bounds s.sector s.store (arc_value s.chests)) p))
-    (marked_at is_component s.bounds s.sector s.store s.components.words (arc_value s.chests) c.self.invariant.components)
+    c.deref.result.now.components.words (λ p. is_component (cell_at (stored s.bounds s.sector s.store (arc_value s.chests)) p))
+    (marked_at is_component s.bounds s.sector s.store c.deref.result.now.components.words (arc_value s.chests) (marks_are (goal.at.returns-then-column-span c).After-deref))
     c.in_ok-found.found c.in_ok-found.ensures
     (subst (λ w. column / w ≡ c.args.x / w) c.span-span.ensures c.if-column-span.true))
 
@@ -89,7 +96,7 @@ returns-else-column-span c =
     let column = c.args.x + (c.in_ok-found.found - c.index_in_sector-index.result) in
     rw (← c.self.view_is)
     (found_past_row s.bounds c.soundness.ensures c.args.x c.args.y c.args.z c.index_in_sector-index.result at
-    s.components.words (λ p. is_component (cell_at (stored s.bounds s.sector s.store (arc_value s.chests)) p))
-    (marked_at is_component s.bounds s.sector s.store s.components.words (arc_value s.chests) c.self.invariant.components)
+    c.deref.result.now.components.words (λ p. is_component (cell_at (stored s.bounds s.sector s.store (arc_value s.chests)) p))
+    (marked_at is_component s.bounds s.sector s.store c.deref.result.now.components.words (arc_value s.chests) (marks_are (goal.at.returns-else-column-span c).After-deref))
     c.in_ok-found.found c.in_ok-found.ensures
     (subst (λ w. column / w ≢ c.args.x / w) c.span-span.ensures c.if-column-span.false))

@@ -43,7 +43,7 @@ invariant_of-self c =
     let within = c.index_in_sector-index.ensures.within in
     let near : index < length s.store = omega (arith, within, kept.stored.whole) in
     let told = subst (AreMachineMarks (set s.store index code)) c.deref.ensures
-        (c.tell.ensures c.if-tell.true s.store near (subst (AreMachineMarks s.store) (sym c.deref.ensures) kept.marks)) in
+    (c.tell.ensures c.if-tell.true s.store near (subst (AreMachineMarks s.store) (sym c.deref.ensures) kept.marks)) in
     record {
       sector_low = kept.sector_low;
       stored = by_either c.put_over.result c.put_over.ensures.store c.put_over.ensures.chests c.put_over.ensures.err

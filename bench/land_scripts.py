@@ -112,6 +112,13 @@ def clock(x, z, delay, is_running=True, y=1):
     yield f"set {x} {y} {z + 1} repeater:north:{delay}"
 
 
+def rings_of_five(tiles, running):
+    """A clock on each tile of 4 by 4 columns, with two dust beside it, of which so many run."""
+    for n, (x, y, z) in enumerate(tiles):
+        yield from clock(x, z, 1, n < running, y)
+        yield from (f"set {x + 2} {y} {z + k} dust" for k in (1, 2))
+
+
 def clocked_pistons(r, count, side, layers=(0,)):
     """By tens under dust that a clock drives, every other to the north, with a stone before each. A tile has 16
     by 6 columns, and stands on one of these layers."""
@@ -220,6 +227,13 @@ def idle(r):
     return head + ["tick"], ticks(20_000)
 
 
+def dust(r):
+    """9,600 rings of five dust on three layers, all of which run, and 200 ticks."""
+    tiles = [(4 * k, y, 4 * j) for y in (1, 5, 9) for j in range(64) for k in range(64)]
+    r.shuffle(tiles)
+    return world(8) + list(rings_of_five(tiles[:9600], 9600)) + ["tick"], ticks(200)
+
+
 def no_region(r):
     return world(8), list(commands(r, 400_000, 256))
 
@@ -268,14 +282,10 @@ def sweep_sectors(r, count):
 
 def sweep_awake(r, share):
     """960 rings of five dust, of which so many of a hundred run, and 1,000 ticks."""
-    tiles = [(4 * k, 4 * j) for j in range(30) for k in range(32)]
+    tiles = [(4 * k, 1, 4 * j) for j in range(30) for k in range(32)]
     r.shuffle(tiles)
     running = max(1, round(960 * share / 100))
-    head = world(8)
-    for n, (x, z) in enumerate(tiles):
-        head += clock(x, z, 1, n < running)
-        head += [f"set {x + 2} 1 {z + 1} dust", f"set {x + 2} 1 {z + 2} dust"]
-    return head + ["tick"], ticks(1000)
+    return world(8) + list(rings_of_five(tiles, running)) + ["tick"], ticks(1000)
 
 
 def sweep_loops(r, count):
@@ -301,6 +311,7 @@ SCRIPTS = {
     "works": works,
     "edits": edits,
     "idle": idle,
+    "dust": dust,
     "no_region": no_region,
     "50_regions": fifty_regions,
     "500_regions": five_hundred_regions,

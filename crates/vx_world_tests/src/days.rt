@@ -118,7 +118,7 @@ fn played<A: Places + Send + Sync, B: Seats + Send + Sync, R: Threads + Wait + A
         Day::TwoSectors => gates::two_sectors(rt, world, passes),
         Day::TwoWorkers => gates::two_workers(rt, alloc, world, keeper, passes),
         Day::ThreePlayers => passes::three_players(rt, alloc, world, desk, keeper, passes),
-        Day::Tampered => torn::tampered(rt, alloc, world, keeper),
+        Day::Tampered => torn::tampered(rt, alloc, world, keeper, passes),
         Day::SeenAfterATick => ticks::seen_after_a_tick(rt, alloc, world, keeper, passes),
         Day::EditsCountNext => ticks::edits_count_next(rt, alloc, world, desk, keeper, passes),
         Day::MadeAgain => refused::made_again(rt, alloc, world, keeper, passes),

@@ -10,26 +10,46 @@ use vx_block::Part;
 use vx_geom::Pos;
 use vx_keeper::{Keeper, Places, TickError};
 use vx_record::Fault;
-use vx_sector::Cmd;
+use vx_sector::{Cmd, Refusal};
 use vx_step::NoGate;
 use vx_world::{Lifted, Pass, Seats, SettleError, World};
 
-/// No tick is made of it.
+// A position of the sector that nobody changed past the rules.
+const HERE: Pos = Pos { x: 5, y: 1, z: 5 };
+
+/// No tick is made of it, and what was done in the other sector stands.
 pub fn tampered<A: Places, B: Seats, R: Threads + Wait + Abort + Sync>(
     rt: &R,
     alloc: Global,
     world: &World<A, B>,
     keeper: &mut Keeper<A>,
+    passes: &mut [Pass<A, B>],
 ) -> Result<(), Fail> {
+    let ann = passes.first_mut().ok_or("no pass")?;
     assert!(rt; world.tick(rt, alloc, keeper, 1, &NoGate).is_ok());
+    answers(rt, world, ann, Cmd::Place(HERE, Part::Stone));
     let put = world.tamper(rt, Pos::new(20, 1, 5), Part::Stone);
     assert!(rt; matches!(put, Ok(true)));
     is_torn(rt, alloc, world, keeper);
     is_torn(rt, alloc, world, keeper);
+    // A place that is taken is refused for that, so the stone stands.
+    let again = world.submit(rt, ann, Cmd::Place(HERE, Part::Dirt), &NoGate);
+    assert!(rt; matches!(again, Err(Refusal::Occupied)));
+    answers(rt, world, ann, Cmd::Break(HERE));
     Ok(())
 }
 
-/// The world is not settled with it.
+// The command is carried out.
+fn answers<A: Places, B: Seats, R: Wait + Abort>(
+    rt: &R,
+    world: &World<A, B>,
+    pass: &mut Pass<A, B>,
+    cmd: Cmd,
+) {
+    assert!(rt; world.submit(rt, pass, cmd, &NoGate).is_ok());
+}
+
+/// The world is not settled with it, and all is handed back.
 pub fn is_not_settled<A: Places, B: Seats>(
     rt: &impl Abort,
     alloc: Global,
@@ -39,11 +59,14 @@ pub fn is_not_settled<A: Places, B: Seats>(
 ) -> Result<(), Fail>
     requires ledgers { (A.parts ≡ A.all + B.all) × (B.parts ≡ 2 * B.all) }
 {
+    let count = passes.len();
     let Err(unsettled) = lifted.finish(alloc, keeper, passes) else {
         return Err("settled".into());
     };
     let torn = SettleError::Disagreement(Fault::Torn(1));
     assert!(rt; unsettled.error == torn);
+    assert!(rt; unsettled.passes.len() == count);
+    assert!(rt; unsettled.keeper.archive().ticks().len() == 1);
     Ok(())
 }
 

@@ -101,6 +101,31 @@ fn twins(
     Ok(())
 }
 
+// Each edit is made of the policy that the ones before it left.
+#[test]
+fn an_edit_that_memory_was_refused_to_is_made_again(rt: HostRuntime) -> Result<(), Fail> {
+    let alloc = rt.alloc();
+    let mut policy = read_policy(alloc, PLOT)?;
+    for kind in 0..12 {
+        made_again(&rt, alloc, &mut policy, kind)?;
+    }
+    Ok(())
+}
+
+fn made_again(rt: &impl Abort, alloc: Global, policy: &mut Policy, kind: u8) -> Result<(), Fail> {
+    let (edit, due) = one(alloc, kind)?;
+    let copy = edit.try_clone(alloc)?;
+    let before = policy.try_clone()?;
+    let answer = policy.apply(alloc, edit);
+    if answer == Err(EditError::NoMemory) {
+        compares(rt, policy, &before, true, kind);
+        answers(rt, alloc, policy, copy, Ok(due), kind);
+    } else {
+        same(rt, &answer, &Ok(due));
+    }
+    Ok(())
+}
+
 // An edit of each kind that changes something, and the number that it gives.
 fn one(alloc: Global, kind: u8) -> Result<(Edit, Option<RegionNo>), AllocError> {
     match kind {

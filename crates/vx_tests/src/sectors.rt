@@ -5,7 +5,7 @@ use crate::same::same;
 use std::alloc::{AllocError, Global};
 use std::process::Abort;
 use std::test::Fail;
-use vx_block::Cell;
+use vx_block::{Cell, Part};
 use vx_cells::Cells;
 use vx_decide::Rule;
 use vx_file::read_policy;
@@ -22,6 +22,8 @@ const DONE: Answer = Ok(Reply::Done(Rule::Default));
 const DENIED: Answer = Err(Refusal::Denied(Rule::Member { at: RegionNo(1) }));
 
 const PLACE: Pos = Pos { x: 6, y: 1, z: 5 };
+
+const CHEST: Pos = Pos { x: 1, y: 0, z: 1 };
 
 const HOME: &[u8] = b"version = 1\n[[region]]\nid = 'home'\ncuboid = [6, 0, 5, 6, 63, 5]\n";
 
@@ -99,6 +101,58 @@ fn play(rt: &impl Abort, sector: &mut Sector, calls: &[Entry]) {
 fn answers(rt: &impl Abort, sector: &mut Sector, call: &Entry) {
     let cmd = call.cmd;
     same(rt, &sector.act(call.seat, cmd), &call.answer);
+}
+
+// One chest is placed, filled, opened, emptied and broken, and a denial goes on record.
+#[test]
+fn a_command_that_memory_was_refused_to_is_done_again(rt: HostRuntime) -> Result<(), Fail> {
+    let bob = bob()?;
+    let mut sector = opened(&rt, rt.alloc())?;
+    does_all(&rt, &mut sector, &bob);
+    Ok(())
+}
+
+fn does_all(rt: &impl Abort, sector: &mut Sector, bob: &Seat) {
+    let (at, slot, item, count) = (CHEST, 0, 7, 3);
+    let commands = [
+        Cmd::Place(at, Part::Chest),
+        Cmd::Put {
+            at,
+            slot,
+            item,
+            count,
+        },
+        Cmd::OpenChest(at),
+        Cmd::Take { at, slot, count },
+        Cmd::Break(at),
+        Cmd::Look(at),
+        Cmd::Break(PLACE),
+    ];
+    for cmd in commands {
+        does_again(rt, sector, bob, cmd);
+    }
+    assert!(rt; sector.count() == 7);
+}
+
+// What memory was refused to left no entry.
+fn does_again(rt: &impl Abort, sector: &mut Sector, bob: &Seat, cmd: Cmd) {
+    let before = sector.count();
+    let answer = sector.act(*bob, cmd);
+    if answer != Err(Refusal::NoMemory) {
+        is_due(rt, cmd, &answer);
+        return;
+    }
+    assert!(rt; sector.count() == before);
+    is_due(rt, cmd, &sector.act(*bob, cmd));
+}
+
+fn is_due(rt: &impl Abort, cmd: Cmd, answer: &Answer) {
+    match cmd {
+        Cmd::Look(_) => same(rt, answer, &Ok(Reply::Seen(Cell::Air))),
+        Cmd::OpenChest(_) => assert!(rt; matches!(answer, Ok(Reply::Opened(_, _)))),
+        Cmd::Break(p) if p == PLACE => same(rt, answer, &DENIED),
+        _ => same(rt, answer, &DONE),
+    }
 }
 
 // The second window over these cells, under a policy without regions.

@@ -5,7 +5,7 @@
 # Nothing but a measurement may rest on such a program: what the gate builds is proved first, and is the only one that is released.
 # How: `rt try` compiles a text with checks of its own before it runs it. Here its compiler is a script that keeps what it is given. The checks are
 # then taken out of that, functions marked #[inline(always)] are marked so again, and the kit's clang compiles it as it compiles what is proved.
-# It needs the kit that `rt doc` names, python3 and sed.
+# It needs the kit that `rt doc` names, and python3.
 set -euo pipefail
 if [ "$#" -lt 1 ]; then
   echo "usage: bench/unproved.sh OUT [CHECKOUT]" >&2

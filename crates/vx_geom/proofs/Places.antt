@@ -9,7 +9,7 @@ use Rattle.std.proofs.lemmas.Nat.{mod_below, le-div}
 use Rattle.vx_geom.specs.declared.pos.Pos.{Pos}
 use Rattle.vx_geom.specs.Order.{comes_before}
 use Rattle.vx_geom.specs.Places.{north, position_in_sector, IndicesArePlaces}
-use Rattle.vx_geom.specs.Sizes.{Sizes, AreSizes, span, height, sector_count, sector_cells, sector_of, index_in_sector}
+use Rattle.vx_geom.specs.Sizes.{Sizes, AreSizes, span, sector_count, sector_cells, sector_of, index_in_sector}
 use Rattle.vx_geom.proofs.Divisions.{part_below, number_column, number_below}
 use Rattle.vx_geom.proofs.SectorLemmas.{Inside, held_at, sector_from, same_index}
 
@@ -47,9 +47,9 @@ index_below v p sizes at =
     let x = unsigned_abs p.x in
     let y = unsigned_abs p.y in
     let z = unsigned_abs p.z in
-    let row : z % w + w * y < w * height = number_below w height (z % w) y (mod_below z w wide) at.y_below in
-    let below : x % w + w * (z % w + w * y) < w * (w * height) =
-    number_below w (w * height) (x % w) (z % w + w * y) (mod_below x w wide) row in
+    let row : z % w + w * y < w * v.h = number_below w v.h (z % w) y (mod_below z w wide) at.y_below in
+    let below : x % w + w * (z % w + w * y) < w * (w * v.h) =
+    number_below w (w * v.h) (x % w) (z % w + w * y) (mod_below x w wide) row in
     omega (arith, below)
 
 -- the position of three natural numbers
@@ -89,7 +89,7 @@ module _ (v : Sizes) (k : ℕ) (sizes : AreSizes v) (low : k < sector_count v) w
       let w = span v in
       let x_low = mod_below n w wide in
       let z_low = mod_below (n / w) w wide in
-      let y_low = layer_below w height n wide within in
+      let y_low = layer_below w v.h n wide within in
       sector_from v (position_in_sector v k n) k sizes low (record {
         west = omega (arith, ints);
         east = omega (arith, ints, x_low);

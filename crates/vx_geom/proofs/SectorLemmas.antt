@@ -4,7 +4,7 @@ use Rattle.std.specs.Prelude.{ℤ, int_le, int_lt, ◌≤ℤ◌, ◌<ℤ◌, uns
 use Rattle.std.proofs.lemmas.Int.{ints}
 use Rattle.std.proofs.lemmas.Bool.{and_parts, and_from, ltb-true}
 use Rattle.vx_geom.specs.declared.pos.Pos.{Pos}
-use Rattle.vx_geom.specs.Sizes.{Sizes, AreSizes, span, height, sector_count, is_below, is_inside, sector_number, sector_of, index_in_sector}
+use Rattle.vx_geom.specs.Sizes.{Sizes, AreSizes, span, sector_count, is_below, is_inside, sector_number, sector_of, index_in_sector}
 use Rattle.vx_geom.specs.Sectors.{InSector}
 use Rattle.std.proofs.lemmas.Nat.{mod_below}
 use Rattle.vx_geom.proofs.Divisions.{in_part, part_is, part_below, below_parts, number_column, number_row, number_below, same_number, same_from_part}
@@ -29,16 +29,16 @@ pub record Inside (v : Sizes) (p : Pos) : Type 0 where
   pub y_is : p.y ≡ pos (unsigned_abs p.y)
   pub z_is : p.z ≡ pos (unsigned_abs p.z)
   pub x_below : unsigned_abs p.x < v.sx * span v
-  pub y_below : unsigned_abs p.y < height
+  pub y_below : unsigned_abs p.y < v.h
   pub z_below : unsigned_abs p.z < v.sz * span v
 
 pub inside_at : (v : Sizes) (p : Pos) → is_inside v p ≡ true → Inside v p
 unfolding is_inside
 inside_at v p inside =
-    let parts = and_parts (is_below p.x (v.sx * span v)) (is_below p.y height && is_below p.z (v.sz * span v)) inside in
-    let rest = and_parts (is_below p.y height) (is_below p.z (v.sz * span v)) parts.1 in
+    let parts = and_parts (is_below p.x (v.sx * span v)) (is_below p.y v.h && is_below p.z (v.sz * span v)) inside in
+    let rest = and_parts (is_below p.y v.h) (is_below p.z (v.sz * span v)) parts.1 in
     let x = below_at p.x (v.sx * span v) parts.0 in
-    let y = below_at p.y height rest.0 in
+    let y = below_at p.y v.h rest.0 in
     let z = below_at p.z (v.sz * span v) rest.1 in
     record { x_is = x.0; y_is = y.0; z_is = z.0; x_below = x.1; y_below = y.1; z_below = z.1 }
 
@@ -109,7 +109,7 @@ sector_from v p k sizes low box =
     let z_below = below_parts (span v) v.sz (k / v.sx) (unsigned_abs p.z) (part_below v.sx v.sz k some (omega arith)) z.1 in
     let inside : is_inside v p ≡ true =
     and_from (is_below p.x (v.sx * span v)) _ (below_from p.x _ (omega (arith, ints)) (omega (arith, ints, x_below)))
-    (and_from (is_below p.y height) (is_below p.z (v.sz * span v)) (below_from p.y height box.bottom box.top)
+    (and_from (is_below p.y v.h) (is_below p.z (v.sz * span v)) (below_from p.y v.h box.bottom box.top)
     (below_from p.z _ (omega (arith, ints)) (omega (arith, ints, z_below)))) in
     let column = part_is (span v) (k % v.sx) (unsigned_abs p.x) wide x.0 x.1 in
     let row = part_is (span v) (k / v.sx) (unsigned_abs p.z) wide z.0 z.1 in

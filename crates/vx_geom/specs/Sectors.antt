@@ -1,6 +1,6 @@
 use Rattle.std.specs.Prelude.{ℕ, ◌≡◌, pos, ◌+◌, ◌*◌, ◌/◌, ◌%◌, ◌<◌, ◌≤ℤ◌, ◌<ℤ◌, ◌↔◌, Some}
 use Rattle.vx_geom.specs.declared.pos.Pos.{Pos}
-use Rattle.vx_geom.specs.Sizes.{Sizes, AreSizes, span, height, sector_count, sector_of, index_in_sector}
+use Rattle.vx_geom.specs.Sizes.{Sizes, AreSizes, span, sector_count, sector_of, index_in_sector}
 
 -- the position lies in the box of sector k: the column of sectors k % sx, the row k / sx, and any
 -- height
@@ -10,7 +10,7 @@ pub record InSector (v : Sizes) (k : ℕ) (p : Pos) : Type 0 where
   pub north : pos (span v * (k / v.sx)) ≤ℤ p.z
   pub south : p.z <ℤ pos (span v * (k / v.sx + 1))
   pub bottom : pos 0 ≤ℤ p.y
-  pub top : p.y <ℤ pos height
+  pub top : p.y <ℤ pos v.h
 
 -- a position is of one sector at most, the one in whose box it lies
 abbrev pub SectorsDivide : Type 0

@@ -1,18 +1,25 @@
 ghost use Rattle.std.specs.Prelude.{◌≡◌, ◌+◌, ◌*◌, ◌/◌, ◌%◌, ◌<◌, ◌≤◌, true, SomeIff};
-ghost use Rattle.vx_geom.specs.Sizes.{height, is_below};
+ghost use Rattle.vx_geom.specs.Sizes.{is_below};
+ghost use Rattle.vx_geom.specs.declared.bounds.TheConstants.{HIGH_HEIGHT, MAX_COLUMNS_EACH_WAY};
 ghost use Rattle.vx_geom.specs.declared.pos.Pos.{Pos};
 
 use crate::pos::Pos;
 use std::marker::Model;
 
-/// How high a world is, in cells.
-pub const HEIGHT: u32 = 64;
+/// A world has at most so many sectors from west to east, and as many from north to south.
+pub const MAX_SECTORS_EACH_WAY: u8 = 16;
 
-// A world has at most so many sectors from west to east, and as many from north to south.
-const MAX_SECTORS_EACH_WAY: u8 = 8;
+/// A sector has at most so many chunks each way.
+pub const MAX_CHUNKS_EACH_WAY: u8 = 2;
 
-// A sector has at most so many chunks each way.
-const MAX_CHUNKS_EACH_WAY: u8 = 2;
+/// A low world is so many cells high.
+pub const LOW_HEIGHT: u8 = 64;
+
+/// A high world is so many cells high; no world is higher.
+pub const HIGH_HEIGHT: u8 = 128;
+
+/// The widest world has so many columns from west to east, and as many from north to south.
+pub const MAX_COLUMNS_EACH_WAY: u32 = 16 * MAX_CHUNKS_EACH_WAY as u32 * MAX_SECTORS_EACH_WAY as u32;
 
 /// The box of a world, divided into sectors of whole chunks.
 #[derive(Clone, Copy, Debug, PartialEq, Eq)]
@@ -20,6 +27,7 @@ pub struct Bounds {
     sx: u8,
     sz: u8,
     s: u8,
+    h: u8,
 }
 
 impl Model for Bounds {
@@ -27,20 +35,21 @@ impl Model for Bounds {
 
     ghost Value = { Sizes };
 
-    ghost view = { λ b. record { sx = b.sx; sz = b.sz; s = b.s } };
+    ghost view = { λ b. record { sx = b.sx; sz = b.sz; s = b.s; h = b.h } };
 
-    ghost invariant = { λ b. AreSizes (record { sx = b.sx; sz = b.sz; s = b.s }) };
+    ghost invariant = { λ b. AreSizes (record { sx = b.sx; sz = b.sz; s = b.s; h = b.h }) };
 
-    ghost inverse = { λ v. record { sx = v.sx; sz = v.sz; s = v.s } };
+    ghost inverse = { λ v. record { sx = v.sx; sz = v.sz; s = v.s; h = v.h } };
 }
 
 impl Bounds {
     ghost use Rattle.vx_geom.specs.Places.{west, north, first_near, end_near, position_in_sector};
     ghost use Rattle.vx_geom.specs.Sizes.{Sizes, AreSizes, span, sector_count, is_inside, sector_number, sector_of, sector_cells, index_in_sector};
 
-    /// A world of `sx` by `sz` sectors, 1 to 8 each, of `s` by `s` chunks, `s` being 1 or 2.
-    pub fn new(sx: u8, sz: u8, s: u8) -> Option<Bounds>
-        ensures { let sizes : Sizes = record { sx = sx; sz = sz; s = s } in
+    /// A world of `sx` by `sz` sectors, 1 to 16 each, of `s` by `s` chunks, `s` being 1 or 2, which
+    /// is `h` cells high, 64 or 128.
+    pub fn new(sx: u8, sz: u8, s: u8, h: u8) -> Option<Bounds>
+        ensures { let sizes : Sizes = record { sx = sx; sz = sz; s = s; h = h } in
             SomeIff result (AreSizes sizes) sizes }
     {
         if !(1..=MAX_SECTORS_EACH_WAY).contains(&sx) || !(1..=MAX_SECTORS_EACH_WAY).contains(&sz) {
@@ -49,10 +58,14 @@ impl Bounds {
         if !(1..=MAX_CHUNKS_EACH_WAY).contains(&s) {
             return None;
         }
-        Some(Bounds { sx, sz, s })
+        if h != LOW_HEIGHT && h != HIGH_HEIGHT {
+            return None;
+        }
+        Some(Bounds { sx, sz, s, h })
     }
 
-    /// What holds of all bounds: there are 1 to 8 sectors each way, of 1 or 2 chunks each way.
+    /// What holds of all bounds: there are 1 to 16 sectors each way, of 1 or 2 chunks each way, and
+    /// the world is 64 or 128 cells high.
     pub fn soundness(&self)
         ensures { AreSizes self.now }
     {
@@ -66,7 +79,14 @@ impl Bounds {
         16 * u32::from(self.s)
     }
 
-    /// How many sectors there are: 1 to 64.
+    /// How many cells the world is high: 64 or 128.
+    pub fn height(&self) -> u32
+        ensures { result ≡ self.now.h }
+    {
+        u32::from(self.h)
+    }
+
+    /// How many sectors there are: 1 to 256.
     pub fn sectors(&self) -> u32
         ensures { result ≡ sector_count self.now }
     {
@@ -81,7 +101,7 @@ impl Bounds {
         if !is_below(p.x, u32::from(self.sx) * self.span()) {
             return false;
         }
-        is_below(p.y, HEIGHT) && is_below(p.z, u32::from(self.sz) * self.span())
+        is_below(p.y, self.height()) && is_below(p.z, u32::from(self.sz) * self.span())
     }
 
     /// The position with these coordinates, where the world has a cell there.
@@ -93,7 +113,7 @@ impl Bounds {
         self.soundness();
         Some(Pos {
             x: coordinate(x, u32::from(self.sx) * self.span())?,
-            y: coordinate(y, HEIGHT)?,
+            y: coordinate(y, self.height())?,
             z: coordinate(z, u32::from(self.sz) * self.span())?,
         })
     }
@@ -123,12 +143,12 @@ impl Bounds {
         column + u32::from(self.sx) * row
     }
 
-    /// How many cells a sector has: 16,384 or 65,536.
+    /// How many cells a sector has: 16,384 or 65,536 in a low world, twice as many in a high one.
     pub fn sector_cells(&self) -> u32
         ensures { result ≡ sector_cells self.now }
     {
         self.soundness();
-        self.span() * self.span() * HEIGHT
+        self.span() * self.span() * self.height()
     }
 
     /// The index of a position among the cells of its sector.
@@ -141,14 +161,14 @@ impl Bounds {
         self.soundness();
         let column = self.past_sides(p.x.unsigned_abs());
         let row = self.past_sides(p.z.unsigned_abs());
-        cell_index(self.span(), column, p.y.unsigned_abs(), row)
+        cell_index(self.span(), self.height(), column, p.y.unsigned_abs(), row)
     }
 
     /// The first column of a sector, counted from the west.
     pub fn west(&self, sector: u32) -> u32
         requires { sector < sector_count self.now }
         ensures value { result ≡ west self.now sector }
-        ensures within { result < 256 }
+        ensures within { result < MAX_COLUMNS_EACH_WAY }
     {
         self.soundness();
         self.span() * (sector % u32::from(self.sx))
@@ -158,7 +178,7 @@ impl Bounds {
     pub fn north(&self, sector: u32) -> u32
         requires { sector < sector_count self.now }
         ensures value { result ≡ north self.now sector }
-        ensures within { result < 256 }
+        ensures within { result < MAX_COLUMNS_EACH_WAY }
     {
         self.soundness();
         self.span() * (sector / u32::from(self.sx))
@@ -226,9 +246,10 @@ impl Bounds {
     }
 }
 
-// The index of the cell at `x`, `y`, `z` of a box that is `span` by `span` columns wide.
-fn cell_index(span: u32, x: u32, y: u32, z: u32) -> u32
+// The index of the cell at `x`, `y`, `z` of a box that is `span` by `span` columns wide and so high.
+fn cell_index(span: u32, height: u32, x: u32, y: u32, z: u32) -> u32
     requires narrow { span ≤ 32 }
+    requires flat { height ≤ HIGH_HEIGHT }
     requires column { x < span }
     requires low { y < height }
     requires row { z < span }
@@ -241,7 +262,7 @@ fn cell_index(span: u32, x: u32, y: u32, z: u32) -> u32
 
 // The coordinate c, where 0 <= c < n.
 fn coordinate(c: i64, n: u32) -> Option<i32>
-    requires { n ≤ 256 }
+    requires { n ≤ MAX_COLUMNS_EACH_WAY }
     ensures { SomeIff result (is_below c n ≡ true) c }
 {
     if 0 <= c && c < i64::from(n) {

@@ -12,7 +12,10 @@ mod shape;
 mod shape_spec;
 
 pub use bad_shape::BadShape;
-pub use bounds::Bounds;
+pub use bounds::{
+    Bounds, HIGH_HEIGHT, LOW_HEIGHT, MAX_CHUNKS_EACH_WAY, MAX_COLUMNS_EACH_WAY,
+    MAX_SECTORS_EACH_WAY,
+};
 pub use dir::Dir;
 pub use extent::Extent;
 pub use laws::{

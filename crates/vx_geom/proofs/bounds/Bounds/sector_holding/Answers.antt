@@ -3,6 +3,7 @@ use Rattle.std.specs.Prelude.{unsigned_abs}
 use Rattle.std.proofs.lemmas.Int.{to_z-of_z}
 use Rattle.std.proofs.lemmas.Nat.{mul-le}
 use mir.Val.{to_z, of_z}
+use Rattle.vx_geom.specs.declared.bounds.TheConstants.{MAX_SECTORS_EACH_WAY}
 use Rattle.vx_geom.specs.Sizes.{Sizes, AreSizes, span, sector_number}
 use Rattle.vx_geom.proofs.Divisions.{part_below}
 use Rattle.vx_geom.proofs.SectorLemmas.{inside_at}
@@ -13,14 +14,14 @@ sides_are : (v : Sizes) (z : ℤ) (abs sides : ℕ) → SFits w32 z → abs ≡ 
     → sides ≡ unsigned_abs z / span v
 sides_are v z abs sides fits abs_is is = is ∙ ap (λ n. n / span v) (abs_is ∙ ap unsigned_abs (to_z-of_z w32 z fits))
 
-few : (v : Sizes) (across n sides : ℕ) → AreSizes v → across ≤ 8 → n < across * span v → sides ≡ n / span v → sides < 8
+few : (v : Sizes) (across n sides : ℕ) → AreSizes v → across ≤ MAX_SECTORS_EACH_WAY → n < across * span v → sides ≡ n / span v → sides < MAX_SECTORS_EACH_WAY
 few v across n sides sizes most below is =
     let wide : 0 < span v = omega arith in
     let part = part_below (span v) across n wide below in
     omega arith
 
-row_fits : (sx row : ℕ) → sx ≤ 8 → row < 8 → sx * row ≤ 64
-row_fits sx row sx_most row_few = mul-le sx row 8 8 sx_most (omega arith)
+row_fits : (sx row : ℕ) → sx ≤ MAX_SECTORS_EACH_WAY → row < MAX_SECTORS_EACH_WAY → sx * row ≤ MAX_SECTORS_EACH_WAY * MAX_SECTORS_EACH_WAY
+row_fits sx row sx_most row_few = mul-le sx row MAX_SECTORS_EACH_WAY MAX_SECTORS_EACH_WAY sx_most (omega arith)
 
 same_number : (a b c d sx v_sx : ℕ) → a ≡ b → c ≡ d → sx ≡ v_sx → a + sx * c ≡ b + v_sx * d
 same_number a b c d sx v_sx same_a same_c same_sx = λ i. same_a i + same_sx i * same_c i

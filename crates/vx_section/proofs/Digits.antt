@@ -1,5 +1,5 @@
 -- The digits of an index: of its layer, its row and its column.
-use Rattle.std.proofs.Common.{◌≡◌, ℕ, ◌+◌, ◌*◌, ◌/◌, ◌%◌, ◌<◌, Bool, true, false, refl, ◌∙◌, ap, arith}
+use Rattle.std.proofs.Common.{◌≡◌, ℕ, ◌+◌, ◌*◌, ◌/◌, ◌%◌, ◌<◌, ◌≤◌, Bool, true, false, refl, ◌∙◌, ap, arith}
 use Rattle.vx_section.specs.Indices.{section_of, place_of, section_count, columns_of, index_at, side_of}
 
 -- digits put together and taken apart
@@ -43,10 +43,22 @@ place_is true column layer row =
     ∙ place_apart (layer / 16) (layer % 16) (row / 16 % 2) (row % 16) (column / 16 % 2) (column % 16) (omega arith) (omega arith) (omega arith) (omega arith) (omega arith)
 place_is false column layer row = omega arith
 
-pub index_within : (wide : Bool) (column layer row : ℕ) → layer < 64 → index_at (columns_of wide) column layer row < 4096 * section_count wide
-index_within true column layer row low = omega arith
-index_within false column layer row low = omega arith
+-- a layer of a sector
+pub layer_within : (wide high : Bool) (layer : ℕ) → columns_of wide * columns_of wide * (layer + 1) ≤ 4096 * section_count wide high → layer < 128
+layer_within true true layer low = omega arith
+layer_within true false layer low = omega arith
+layer_within false true layer low = omega arith
+layer_within false false layer low = omega arith
 
-pub side_is : (wide : Bool) → side_of (4096 * section_count wide) ≡ columns_of wide
-side_is true = refl
-side_is false = refl
+pub index_within : (wide high : Bool) (column layer row : ℕ) → columns_of wide * columns_of wide * (layer + 1) ≤ 4096 * section_count wide high
+    → index_at (columns_of wide) column layer row < 4096 * section_count wide high
+index_within true true column layer row low = omega arith
+index_within true false column layer row low = omega arith
+index_within false true column layer row low = omega arith
+index_within false false column layer row low = omega arith
+
+pub side_is : (wide high : Bool) → side_of (4096 * section_count wide high) ≡ columns_of wide
+side_is true true = refl
+side_is true false = refl
+side_is false true = refl
+side_is false false = refl

@@ -1,21 +1,26 @@
 ghost use Rattle.std.specs.Prelude.{◌≡◌, ◌<◌, ◌≤◌, ◌+◌, ◌*◌, ◌%◌, ◌↔◌, ℕ, Bool, length, slice_index_or, slice_set, IsTrue, IfOk, OnOk, OnErr};
 ghost use Rattle.vx_section.specs.Forms.{filled};
 ghost use Rattle.vx_section.specs.Indices.{section_of, place_of, section_count, columns_of, side_of, index_at, nothing, AreSections, AreSame};
+ghost use Rattle.vx_section.specs.declared.sections.TheConstants.{MOST_SECTIONS};
 
 use crate::section::Section;
 use std::alloc::{AllocError, Global};
 use std::array;
 use std::marker::Model;
 
-/// The bytes of a sector of 16 by 64 by 16 or of 32 by 64 by 32 cells, in the order of their
+// The largest sector, of 32 columns a side and 128 cells high, has so many sections.
+const MOST_SECTIONS: usize = 32;
+
+/// The bytes of a sector of 16 or 32 columns a side, 64 or 128 cells high, in the order of their
 /// indices, kept section by section. Copies share each section until one of them changes it.
 #[derive(Drop)]
 pub struct Sections {
     alloc: Global,
     wide: bool,
-    // A sector of sixteen columns a side has the first four. Its other twelve stay as they were
-    // made, which takes no further memory, and nothing reads their bytes.
-    sections: [Section; 16],
+    high: bool,
+    // A sector uses the first of them, as many as `section_count` says. The others stay as they
+    // were made, which takes no further memory, and nothing reads their bytes.
+    sections: [Section; MOST_SECTIONS],
 }
 
 impl Model for Sections {
@@ -24,19 +29,21 @@ impl Model for Sections {
 
     ghost Value = { List ℕ };
 
-    ghost view = { λ s. bytes_of s.wide s.sections };
+    ghost view = { λ s. bytes_of s.wide s.high s.sections };
 
     ghost invariant = { λ s. AreSections s.sections };
 }
 
 impl Sections {
-    /// That byte at each index, in a wide sector or in one of sixteen columns a side.
-    pub fn new(alloc: Global, wide: bool, byte: u8) -> Result<Sections, AllocError>
-        ensures { IfOk result (λ s. s ≡ filled (4096 * section_count wide) byte) }
+    /// That byte at each index. A wide sector has 32 columns a side and another one 16; a high one
+    /// is 128 cells high and another one 64.
+    pub fn new(alloc: Global, wide: bool, high: bool, byte: u8) -> Result<Sections, AllocError>
+        ensures { IfOk result (λ s. s ≡ filled (4096 * section_count wide high) byte) }
     {
         Ok(Sections {
             alloc,
             wide,
+            high,
             sections: blank(byte),
         })
     }
@@ -56,7 +63,8 @@ impl Sections {
     /// beside this one: what counts is what is left over whole sides.
     #[inline(always)]
     pub fn at(&self, column: u32, layer: u32, row: u32) -> u8
-        requires { layer < 64 }
+        requires { let side = side_of (length self.now) in
+            side * side * (layer + 1) ≤ length self.now }
         ensures { let side = side_of (length self.now) in
             result ≡ slice_index_or self.now
             (column % side + side * (row % side + side * layer)) 0 }
@@ -83,10 +91,14 @@ impl Sections {
     pub fn same(&self, other: &Sections) -> bool
         ensures { IsTrue result ↔ self.now ≡ other.now }
     {
-        if self.wide != other.wide {
+        if self.wide != other.wide || self.high != other.high {
             return false;
         }
-        all_same(&self.sections, &other.sections, section_count(self.wide))
+        all_same(
+            &self.sections,
+            &other.sections,
+            section_count(self.wide, self.high),
+        )
     }
 
     /// The form of the section that holds an index: 1, 2 or 3.
@@ -105,7 +117,8 @@ impl Clone for Sections {
         Ok(Sections {
             alloc: self.alloc,
             wide: self.wide,
-            sections: copied(&self.sections)?,
+            high: self.high,
+            sections: copied(&self.sections, section_count(self.wide, self.high))?,
         })
     }
 }
@@ -113,9 +126,9 @@ impl Clone for Sections {
 // The section of an index.
 #[inline(always)]
 fn section_of(wide: bool, index: u32) -> u32
-    requires { index < 4096 * section_count wide }
+    requires { index < 4096 * MOST_SECTIONS }
     ensures value { result ≡ section_of wide index }
-    ensures within { result < section_count wide }
+    ensures within { result < MOST_SECTIONS }
 {
     if wide {
         index / 16384 * 4 + index / 512 % 2 * 2 + index / 16 % 2
@@ -140,9 +153,9 @@ fn place_of(wide: bool, index: u32) -> u32
 // The section of a column, a layer and a row.
 #[inline(always)]
 fn section_at(wide: bool, column: u32, layer: u32, row: u32) -> u32
-    requires { layer < 64 }
+    requires { layer < 128 }
     ensures value { result ≡ section_of wide (index_at (columns_of wide) column layer row) }
-    ensures within { result < section_count wide }
+    ensures within { result < MOST_SECTIONS }
 {
     if wide {
         layer / 16 * 4 + row / 16 % 2 * 2 + column / 16 % 2
@@ -162,27 +175,36 @@ fn place_at(column: u32, layer: u32, row: u32) -> u32
 }
 
 // How many sections a sector has.
-fn section_count(wide: bool) -> usize
-    ensures value { result ≡ section_count wide }
-    ensures within { result ≤ 16 }
+fn section_count(wide: bool, high: bool) -> usize
+    ensures value { result ≡ section_count wide high }
+    ensures within { result ≤ MOST_SECTIONS }
 {
-    if wide { 16 } else { 4 }
+    let side_by_side = if wide { 4 } else { 1 };
+    let stacked = if high { 8 } else { 4 };
+    side_by_side * stacked
 }
 
-// Sixteen sections of that byte.
-fn blank(byte: u8) -> [Section; 16]
-    ensures count { length result ≡ 16 }
-    ensures each { (k : ℕ) → k < 16 → (slice_index_or result k nothing).bytes ≡ filled 4096 byte }
+// Sections of that byte.
+fn blank(byte: u8) -> [Section; MOST_SECTIONS]
+    ensures count { length result ≡ MOST_SECTIONS }
+    ensures each { (k : ℕ) → k < MOST_SECTIONS
+        → (slice_index_or result k nothing).bytes ≡ filled 4096 byte }
 {
     array::from_fn(|_| Section::new(byte))
 }
 
-// Copies of sixteen sections.
-fn copied(sections: &[Section; 16]) -> Result<[Section; 16], AllocError>
-    ensures { IfOk result (λ copies. copies ≡ sections.now) }
+// Copies of the sections that are used, the first so many, and blank ones after them.
+fn copied(
+    sections: &[Section; MOST_SECTIONS],
+    used: usize,
+) -> Result<[Section; MOST_SECTIONS], AllocError>
+    requires sections { AreSections sections.now }
+    requires used { used ≤ MOST_SECTIONS }
+    ensures sections { IfOk result AreSections }
+    ensures same { IfOk result (λ copies. AreSame used copies sections.now) }
 {
     let mut copies = blank(0);
-    for k in 0..16 {
+    for k in 0..used {
         copies[k] = sections[k].clone()?;
     }
     Ok(copies)

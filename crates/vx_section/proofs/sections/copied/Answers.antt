@@ -1,9 +1,12 @@
-use Rattle.std.proofs.Common.{sym, ◌∙◌, arith}
-use Rattle.std.proofs.lemmas.List.{ext_get_or}
-use Rattle.vx_section.specs.Indices.{nothing}
+use Rattle.std.proofs.Common.{length, ◌∙◌, ap, arith}
+use Rattle.vx_section.proofs.Filled.{length-filled}
 use Rattle.vx_section.proofs.sections.copied.Goals as goal
 
-pub returns : goal.returns
-returns c =
-    ext_get_or nothing _ _ (c.loop-k.invariant.count ∙ sym c.type_inv.sections) (λ k low.
-    c.loop-k.invariant.same k (omega (arith, low, c.loop-k.invariant.count, c.loop-k-test.false)))
+pub loop-k-init : goal.loop-k-init
+loop-k-init c = record {
+  sections = record {
+    count = c.blank-copies.ensures.count;
+    long = λ k near. ap length (c.blank-copies.ensures.each k near) ∙ length-filled 4096 0;
+  };
+  same = λ k none. absurd (omega (arith, none));
+}

@@ -1,6 +1,6 @@
-use Rattle.std.proofs.Common.{length, ◌∙◌, ap}
+use Rattle.std.proofs.Common.{length, ◌∙◌, ap, arith}
 use Rattle.vx_section.proofs.Filled.{length-filled}
-use Rattle.vx_section.proofs.Storing.{bytes_blank, section_below}
+use Rattle.vx_section.proofs.Storing.{bytes_blank, count_below}
 use Rattle.vx_section.proofs.sections.Sections.new.Goals as goal
 
 pub invariant_of-result : goal.invariant_of-result
@@ -10,4 +10,4 @@ invariant_of-result c = record {
 }
 
 pub returns : goal.returns
-returns c = bytes_blank c.args.wide c.blank.result c.args.byte (λ k near. c.blank.ensures.each k (section_below c.args.wide k near))
+returns c = bytes_blank c.args.wide c.args.high c.blank.result c.args.byte (λ k near. c.blank.ensures.each k (omega (arith, near, count_below c.args.wide c.args.high)))

@@ -2,6 +2,7 @@
 use Rattle.std.specs.Prelude.{◌≡◌, ℕ, suc, Bool, ◌&&◌, List, [], ◌∷◌, length, slice_get, Option, Some, None}
 use Rattle.vx_block.specs.declared.cell.Cell.{Cell}
 use Rattle.vx_block.specs.declared.cell.Cell.TheVariants.{Air}
+use Rattle.vx_geom.specs.declared.bounds.TheConstants.{MAX_COLUMNS_EACH_WAY}
 use Rattle.vx_geom.specs.declared.pos.Pos.{Pos}
 use Rattle.vx_geom.specs.Sizes.{Sizes, AreSizes, is_below, sector_count, sector_of}
 use Rattle.vx_cells.specs.SectorCells.{SectorCells, cell_at}
@@ -36,9 +37,9 @@ sector_at cs (Some k) = slice_get cs k
 unfoldable pub cell_on : MapData → Pos → Cell
 cell_on m p = cell_in (sector_at m.sectors (sector_of m.sizes p)) p
 
--- no world is as wide or as high
+-- no world is wider or higher
 abbrev pub far : ℕ
-far = 512
+far = MAX_COLUMNS_EACH_WAY
 
 -- the coordinates are such as a position of some world may have
 abbrev pub is_near : Pos → Bool

@@ -1,5 +1,5 @@
 -- The levels and links of a map, added position by position.
-use Rattle.std.proofs.Common.{◌≡◌, ℕ, ◌%◌, inl, inr, true, false, ◌||◌, if◌then◌else◌, List, [], ◌∷◌, ◌++◌, unsigned_abs, get_or, None, zero, suc, refl, sym, ap, ◌∙◌}
+use Rattle.std.proofs.Common.{◌≡◌, ℕ, ◌%◌, inl, inr, true, false, ◌||◌, if◌then◌else◌, List, [], ◌∷◌, ◌++◌, get_or, None, zero, suc, refl, sym, ap, ◌∙◌}
 use Rattle.std.proofs.lemmas.Bool.{cases_Bool, false≢true, or_cases}
 use Rattle.vx_geom.specs.declared.pos.Pos.{Pos}
 use Rattle.vx_block.specs.declared.cell.Cell.{Cell}
@@ -9,7 +9,7 @@ use Rattle.vx_levels.specs.Pending.{IsPut}
 use Rattle.vx_levels.specs.Repairs.{IsRight, IsRightAt}
 use Rattle.vx_power.specs.Dust.{links}
 use Rattle.vx_power.specs.Laws.{dust_level}
-use Rattle.vx_power.specs.Levels.{LevelTable, has, level_in, level_of, same_place}
+use Rattle.vx_power.specs.Levels.{LevelTable, has, sheet_of, level_in, level_of, same_place}
 use Rattle.vx_power.proofs.Having.{place_is, has_joined}
 
 -- the position added last, or one of those before
@@ -64,9 +64,9 @@ dust_added w old middle new done p bits level lies relinked level_stays put link
     kept : (q : Pos) → same_place q p ≡ false → level_at new q ≡ level_at old q
     kept q off = put q ∙ ap (λ b. if b then level else level_at middle q) off ∙ level_stays q
 
--- a table without layers
-abbrev no_layers : LevelTable
-no_layers = []
+-- a table without sheets
+abbrev no_sheets : LevelTable
+no_sheets = []
 
 -- without any position nothing is there
 pub begun_at_none : (w : Pos → Cell) → IsRightAt w [] []
@@ -76,12 +76,12 @@ begun_at_none w = record {
   empty = λ p bare. ap (λ n. n % 16) (nothing_in p);
 }
   where
-    no_layer : (k : ℕ) → get_or no_layers k None ≡ None
-    no_layer zero = refl
-    no_layer (suc k) = refl
+    no_sheet : (k : ℕ) → get_or no_sheets k None ≡ None
+    no_sheet zero = refl
+    no_sheet (suc k) = refl
 
     nothing_in : (p : Pos) → level_in [] p ≡ 0
-    nothing_in p = ap (λ layer. level_of layer p) (no_layer (unsigned_abs p.y))
+    nothing_in p = ap (λ sheet. level_of sheet p) (no_sheet (sheet_of p))
 
 -- and with all positions of dust all is right
 pub all_added : (w : Pos → Cell) (table : LevelTable) (places : List Pos) → ((p : Pos) → is_dust (w p) ≡ true → has places p ≡ true)

@@ -7,7 +7,7 @@ mod links;
 mod mapping;
 mod pending;
 mod repairing;
-mod word_layer;
+mod word_sheet;
 mod words;
 
 pub use laws::levels_agree;

@@ -1,18 +1,19 @@
-ghost use Rattle.std.specs.Prelude.{◌≡◌, ◌<◌, true, [], unsigned_abs, if◌then◌else◌, OnOk};
+ghost use Rattle.std.specs.Prelude.{◌≡◌, ◌<◌, true, [], if◌then◌else◌, OnOk};
 ghost use Rattle.vx_geom.specs.declared.pos.Pos.{Pos};
-ghost use Rattle.vx_power.specs.Levels.{is_place, level_in, level_of, same_place, ReachesLayer};
+ghost use Rattle.vx_power.specs.Levels.{is_place, sheet_of, level_in, level_of, same_place, ReachesSheet};
 
-use crate::word_layer::WordLayer;
+use crate::word_sheet::WordSheet;
 use std::alloc::{AllocError, Global};
 use std::marker::Model;
 use vx_geom::Pos;
-use vx_power::layer_number;
+use vx_power::sheet_number;
 
 /// A word of 16 bits for each position of the widest world, 0 where none was put.
-// They stand by layer, from the bottom up; one in which no word was put takes no memory.
+// They stand by sheet, layer by layer from the bottom up; one in which no word was put takes no
+// memory.
 #[derive(Drop)]
 pub(crate) struct Words {
-    layers: Vec<Option<WordLayer>>,
+    sheets: Vec<Option<WordSheet>>,
 }
 
 impl Model for Words {
@@ -20,7 +21,7 @@ impl Model for Words {
 
     ghost Value = { LevelTable };
 
-    ghost view = { λ a. a.layers.items };
+    ghost view = { λ a. a.sheets.items };
 }
 
 impl Words {
@@ -29,7 +30,7 @@ impl Words {
         ensures { result ≡ [] }
     {
         Words {
-            layers: Vec::new(alloc),
+            sheets: Vec::new(alloc),
         }
     }
 
@@ -39,45 +40,45 @@ impl Words {
         ensures { OnOk result ((q : Pos)
             → level_in self.new q ≡ (if same_place q p then word else level_in self.old q)) }
     {
-        let number = layer_number(p);
-        self.reach_layer(number)?;
-        let alloc = *self.layers.allocator();
-        put_in(alloc, &mut self.layers[number], p, word)
+        let number = sheet_number(p);
+        self.reach_sheet(number)?;
+        let alloc = *self.sheets.allocator();
+        put_in(alloc, &mut self.sheets[number], p, word)
     }
 
     /// The word at a position.
     pub(crate) fn at(&self, p: Pos) -> u16
         ensures { result ≡ level_in self.now p }
     {
-        match self.layers.get(layer_number(p)) {
-            Some(Some(layer)) => layer.at(p),
+        match self.sheets.get(sheet_number(p)) {
+            Some(Some(sheet)) => sheet.at(p),
             _ => 0,
         }
     }
 
-    // Makes entries up to that layer.
-    fn reach_layer(&mut self, number: usize) -> Result<(), AllocError>
-        ensures { OnOk result (ReachesLayer number self.old self.new) }
+    // Makes entries up to that sheet.
+    fn reach_sheet(&mut self, number: usize) -> Result<(), AllocError>
+        ensures { OnOk result (ReachesSheet number self.old self.new) }
     {
-        while self.layers.len() <= number {
-            self.layers.push(None)?;
+        while self.sheets.len() <= number {
+            self.sheets.push(None)?;
         }
         Ok(())
     }
 }
 
-// Another word at a position of a layer.
-fn put_in(alloc: Global, layer: &mut Option<WordLayer>, p: Pos, word: u16) -> Result<(), AllocError>
+// Another word at a position of a sheet.
+fn put_in(alloc: Global, sheet: &mut Option<WordSheet>, p: Pos, word: u16) -> Result<(), AllocError>
     requires { is_place p ≡ true }
-    ensures { OnOk result ((q : Pos) → unsigned_abs q.y ≡ unsigned_abs p.y → level_of layer.new q
-        ≡ (if same_place q p then word else level_of layer.old q)) }
+    ensures { OnOk result ((q : Pos) → sheet_of q ≡ sheet_of p → level_of sheet.new q
+        ≡ (if same_place q p then word else level_of sheet.old q)) }
 {
-    match layer {
-        Some(layer) => layer.put(p, word),
+    match sheet {
+        Some(sheet) => sheet.put(p, word),
         None => {
-            let mut words = WordLayer::new(alloc)?;
+            let mut words = WordSheet::new(alloc)?;
             words.put(p, word);
-            *layer = Some(words);
+            *sheet = Some(words);
         }
     }
     Ok(())

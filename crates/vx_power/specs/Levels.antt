@@ -1,7 +1,8 @@
 -- Levels of dust, as a table has them, near a sector.
-use Rattle.std.specs.Prelude.{◌≡◌, ℕ, ◌+◌, ◌*◌, ◌<◌, ◌≤◌, Bool, true, ◌&&◌, if◌then◌else◌, List, length, slice_index_or, Option, Some, None, pos, ◌-ℤ◌, unsigned_abs, int_le, int_lt}
+use Rattle.std.specs.Prelude.{◌≡◌, ℕ, ◌+◌, ◌*◌, ◌/◌, ◌%◌, ◌<◌, ◌≤◌, Bool, true, ◌&&◌, if◌then◌else◌, List, length, slice_index_or, Option, Some, None, pos, ◌-ℤ◌, unsigned_abs, int_le, int_lt}
 use Rattle.std.specs.List.{list_any}
 use Rattle.std.specs.Ordering.{int_eq}
+use Rattle.vx_geom.specs.declared.bounds.TheConstants.{MAX_COLUMNS_EACH_WAY, HIGH_HEIGHT}
 use Rattle.vx_geom.specs.declared.pos.Pos.{Pos}
 use Rattle.vx_geom.specs.Places.{west, north}
 use Rattle.vx_geom.specs.Sizes.{Sizes, span, is_below}
@@ -9,6 +10,7 @@ use Rattle.vx_block.specs.declared.cell.Cell.{Cell}
 use Rattle.vx_block.specs.declared.cell.Cell.TheVariants.{Dust}
 use Rattle.vx_cells.specs.Maps.{MapData, cell_on, far}
 use Rattle.vx_power.specs.declared.columns.Columns.{Columns}
+use Rattle.vx_power.specs.declared.sheet.TheConstants.{SHEET_SIDE, SHEETS_EACH_WAY}
 use Rattle.vx_power.specs.Laws.{dust_level}
 
 -- they are one position
@@ -21,36 +23,45 @@ has ps p = list_any (same_place p) ps
 
 -- the widest world has a cell there
 abbrev pub is_place : Pos → Bool
-is_place p = is_below p.x 256 && (is_below p.y 64 && is_below p.z 256)
+is_place p =
+    is_below p.x MAX_COLUMNS_EACH_WAY
+    && (is_below p.y HIGH_HEIGHT && is_below p.z MAX_COLUMNS_EACH_WAY)
 
--- how many columns the widest world has
+-- each layer of the widest world is divided into sheets, and so many columns has each
 abbrev pub columns : ℕ
-columns = 65536
+columns = SHEET_SIDE * SHEET_SIDE
 
--- the number of the column of a position there, row by row from the north west
+-- the number of the sheet that holds a position: row by row from the north west, layer by layer
+-- from the bottom
+abbrev pub sheet_of : Pos → ℕ
+sheet_of p =
+    unsigned_abs p.x / SHEET_SIDE
+    + SHEETS_EACH_WAY * (unsigned_abs p.z / SHEET_SIDE + SHEETS_EACH_WAY * unsigned_abs p.y)
+
+-- the number of the column of a position in its sheet, row by row from the north west
 abbrev pub column : Pos → ℕ
-column p = unsigned_abs p.x + 256 * unsigned_abs p.z
+column p = unsigned_abs p.x % SHEET_SIDE + SHEET_SIDE * (unsigned_abs p.z % SHEET_SIDE)
 
--- layers from the bottom up, each with a level for each column, where any was put
+-- sheets by their numbers, each with a level for each of its columns, where any was put
 abbrev pub LevelTable : Type 0
 LevelTable = List (Option (List ℕ))
 
--- the level that a layer has for a position in it; 0 where it has none
+-- the level that a sheet has for a position in it; 0 where it has none
 abbrev pub level_of : Option (List ℕ) → Pos → ℕ
 level_of None p = 0
-level_of (Some layer) p = if is_place p then slice_index_or layer (column p) 0 else 0
+level_of (Some sheet) p = if is_place p then slice_index_or sheet (column p) 0 else 0
 
 -- the level that a table has for a position; 0 where it has none
 abbrev pub level_in : LevelTable → Pos → ℕ
-level_in table p = level_of (slice_index_or table (unsigned_abs p.y) None) p
+level_in table p = level_of (slice_index_or table (sheet_of p) None) p
 
--- a layer has a level for each column, and none is over 15
-pub record IsLayer (layer : List ℕ) : Type 0 where
-  pub whole : length layer ≡ columns
-  pub most : (i : ℕ) → slice_index_or layer i 0 ≤ 15
+-- a sheet has a level for each column, and none is over 15
+pub record IsSheet (sheet : List ℕ) : Type 0 where
+  pub whole : length sheet ≡ columns
+  pub most : (i : ℕ) → slice_index_or sheet i 0 ≤ 15
 
--- a table has more layers, up to that one, and the same levels
-pub record ReachesLayer (number : ℕ) (old new : LevelTable) : Type 0 where
+-- a table has more sheets, up to that one, and the same levels
+pub record ReachesSheet (number : ℕ) (old new : LevelTable) : Type 0 where
   pub there : number < length new
   pub same : (p : Pos) → level_in new p ≡ level_in old p
 

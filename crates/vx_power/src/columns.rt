@@ -3,7 +3,7 @@ ghost use Rattle.vx_geom.specs.Sizes.{sector_count};
 ghost use Rattle.vx_power.specs.Levels.{columns_around, is_in};
 
 use crate::region::Region;
-use vx_geom::{Bounds, Pos};
+use vx_geom::{Bounds, MAX_COLUMNS_EACH_WAY, Pos};
 
 /// Columns of a world and past its borders: those from `west` up to below `east`, and from `north`
 /// up to below `south`.
@@ -19,9 +19,9 @@ impl Columns {
     /// All the columns that a world may have.
     pub const EVERYWHERE: Columns = Columns {
         west: 0,
-        east: 512,
+        east: MAX_COLUMNS_EACH_WAY as i32,
         north: 0,
-        south: 512,
+        south: MAX_COLUMNS_EACH_WAY as i32,
     };
 
     /// The columns of a sector, and those up to so many columns off it.

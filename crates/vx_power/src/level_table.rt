@@ -1,18 +1,19 @@
-ghost use Rattle.std.specs.Prelude.{◌≡◌, ◌<◌, ◌≤◌, true, [], unsigned_abs, if◌then◌else◌, OnOk};
+ghost use Rattle.std.specs.Prelude.{◌≡◌, ◌<◌, ◌≤◌, true, [], if◌then◌else◌, OnOk};
 ghost use Rattle.vx_geom.specs.declared.pos.Pos.{Pos};
-ghost use Rattle.vx_power.specs.Levels.{is_place, level_in, level_of, same_place, ReachesLayer};
+ghost use Rattle.vx_power.specs.Levels.{is_place, sheet_of, level_in, level_of, same_place, ReachesSheet};
 
-use crate::layer::{Layer, layer_number};
 use crate::leveled::Leveled;
+use crate::sheet::{Sheet, sheet_number};
 use std::alloc::{AllocError, Global};
 use std::marker::Model;
 use vx_geom::Pos;
 
 /// The levels of the dust in a sector and near it.
-// They stand by layer, from the bottom up; one in which no level was put takes no memory.
+// They stand by sheet, layer by layer from the bottom up; one in which no level was put takes no
+// memory.
 #[derive(Drop)]
 pub struct Levels {
-    layers: Vec<Option<Layer>>,
+    sheets: Vec<Option<Sheet>>,
 }
 
 impl Model for Levels {
@@ -20,7 +21,7 @@ impl Model for Levels {
 
     ghost Value = { LevelTable };
 
-    ghost view = { λ a. a.layers.items };
+    ghost view = { λ a. a.sheets.items };
 }
 
 impl Levels {
@@ -29,7 +30,7 @@ impl Levels {
         ensures { result ≡ [] }
     {
         Levels {
-            layers: Vec::new(alloc),
+            sheets: Vec::new(alloc),
         }
     }
 
@@ -40,18 +41,18 @@ impl Levels {
         ensures { OnOk result ((q : Pos)
             → level_in self.new q ≡ (if same_place q p then level else level_in self.old q)) }
     {
-        let number = layer_number(p);
-        self.reach_layer(number)?;
-        let alloc = *self.layers.allocator();
-        put_in(alloc, &mut self.layers[number], p, level)
+        let number = sheet_number(p);
+        self.reach_sheet(number)?;
+        let alloc = *self.sheets.allocator();
+        put_in(alloc, &mut self.sheets[number], p, level)
     }
 
-    // Makes entries up to that layer.
-    fn reach_layer(&mut self, number: usize) -> Result<(), AllocError>
-        ensures { OnOk result (ReachesLayer number self.old self.new) }
+    // Makes entries up to that sheet.
+    fn reach_sheet(&mut self, number: usize) -> Result<(), AllocError>
+        ensures { OnOk result (ReachesSheet number self.old self.new) }
     {
-        while self.layers.len() <= number {
-            self.layers.push(None)?;
+        while self.sheets.len() <= number {
+            self.sheets.push(None)?;
         }
         Ok(())
     }
@@ -61,26 +62,26 @@ impl Leveled for Levels {
     ghost level = { level_in };
 
     fn at(&self, p: Pos) -> u8 {
-        match self.layers.get(layer_number(p)) {
-            Some(Some(layer)) => layer.at(p),
+        match self.sheets.get(sheet_number(p)) {
+            Some(Some(sheet)) => sheet.at(p),
             _ => 0,
         }
     }
 }
 
-// Another level at a position of a layer.
-fn put_in(alloc: Global, layer: &mut Option<Layer>, p: Pos, level: u8) -> Result<(), AllocError>
+// Another level at a position of a sheet.
+fn put_in(alloc: Global, sheet: &mut Option<Sheet>, p: Pos, level: u8) -> Result<(), AllocError>
     requires place { is_place p ≡ true }
     requires most { level ≤ 15 }
-    ensures { OnOk result ((q : Pos) → unsigned_abs q.y ≡ unsigned_abs p.y → level_of layer.new q
-        ≡ (if same_place q p then level else level_of layer.old q)) }
+    ensures { OnOk result ((q : Pos) → sheet_of q ≡ sheet_of p → level_of sheet.new q
+        ≡ (if same_place q p then level else level_of sheet.old q)) }
 {
-    match layer {
-        Some(layer) => layer.put(p, level),
+    match sheet {
+        Some(sheet) => sheet.put(p, level),
         None => {
-            let mut levels = Layer::new(alloc)?;
+            let mut levels = Sheet::new(alloc)?;
             levels.put(p, level);
-            *layer = Some(levels);
+            *sheet = Some(levels);
         }
     }
     Ok(())

@@ -4,12 +4,12 @@
 mod columns;
 mod dust;
 mod laws;
-mod layer;
 mod level_table;
 mod leveled;
 mod next_dust;
 mod power;
 mod region;
+mod sheet;
 mod signals;
 mod spread;
 
@@ -17,10 +17,10 @@ pub use laws::{
     dust_points_as_it_joins, levels_are_local, levels_are_walks, links_lead_back,
     signals_see_few_steps, signals_see_what_is_shown,
 };
-pub use layer::{column, is_place, layer_number};
 pub use level_table::Levels;
 pub use leveled::Leveled;
 pub use next_dust::{dust_at, dust_over, dust_under};
 pub use power::{activates, active, powered};
+pub use sheet::{SHEET_SIDE, column, is_place, sheet_number};
 pub use signals::is_fed;
 pub use spread::{FED, all_levels, levels};

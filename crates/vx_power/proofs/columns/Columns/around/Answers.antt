@@ -1,13 +1,14 @@
 use Rattle.std.proofs.Common.{◌≡◌, ℕ, pos, ◌+◌, ◌<◌, ◌≤◌, ◌+ℤ◌, ◌-ℤ◌, rules, arith, w32}
 use Rattle.std.proofs.lemmas.Int.{ints}
 use mir.Val.{to_z, of_z}
+use Rattle.vx_geom.specs.declared.bounds.TheConstants.{MAX_COLUMNS_EACH_WAY}
 use Rattle.vx_geom.specs.Sizes.{Sizes, AreSizes, span}
 use Rattle.vx_power.proofs.columns.Columns.around.Goals as goal
 
-before : (n d m : ℕ) → n < 256 → d ≤ 64 → n ≡ m → to_z w32 (of_z w32 (to_z w32 n -ℤ to_z w32 d)) ≡ pos m -ℤ pos d
+before : (n d m : ℕ) → n < MAX_COLUMNS_EACH_WAY → d ≤ 64 → n ≡ m → to_z w32 (of_z w32 (to_z w32 n -ℤ to_z w32 d)) ≡ pos m -ℤ pos d
 before n d m near few is = omega (arith, ints)
 
-behind : (n s d m k : ℕ) → n < 256 → s ≤ 32 → d ≤ 64 → n ≡ m → s ≡ k
+behind : (n s d m k : ℕ) → n < MAX_COLUMNS_EACH_WAY → s ≤ 32 → d ≤ 64 → n ≡ m → s ≡ k
     → to_z w32 (of_z w32 (to_z w32 n +ℤ to_z w32 (s + d))) ≡ pos (m + k + d)
 behind n s d m k near narrow few is wide = omega (arith, ints)
 

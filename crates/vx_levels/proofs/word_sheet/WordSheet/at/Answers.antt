@@ -1,13 +1,13 @@
 use Rattle.std.proofs.Common.{◌≡◌, true, get_or, if◌then◌else◌, sym, ap, ◌∙◌, arith}
 use Rattle.std.proofs.lemmas.List.{get_or_read}
 use Rattle.vx_power.specs.Levels.{is_place, column}
-use Rattle.vx_levels.proofs.word_layer.WordLayer.at.Goals as goal
+use Rattle.vx_levels.proofs.word_sheet.WordSheet.at.Goals as goal
 
 pub returns-then-is_place : goal.returns-then-is_place
 returns-then-is_place c =
-    let layer = c.self.inside.words.items in
+    let sheet = c.self.inside.words.items in
     let p = c.args.p in
     let place : is_place p ≡ true = sym c.is_place.ensures ∙ c.if-is_place.true in
-    let read = get_or_read layer _ _ (omega (arith, c.column.ensures.within, c.self.invariant)) c.index.ensures 0 in
-    rw (← c.self.view_is) (read ∙ ap (λ k. get_or layer k 0) c.column.ensures.value
-    ∙ sym (ap (λ b. if b then get_or layer (column p) 0 else 0) place))
+    let read = get_or_read sheet _ _ (omega (arith, c.column.ensures.within, c.self.invariant)) c.index.ensures 0 in
+    rw (← c.self.view_is) (read ∙ ap (λ k. get_or sheet k 0) c.column.ensures.value
+    ∙ sym (ap (λ b. if b then get_or sheet (column p) 0 else 0) place))

@@ -6,6 +6,7 @@ use Rattle.std.proofs.lemmas.Int.{ints}
 use Rattle.std.proofs.lemmas.Nat.{mul-le}
 use Rattle.std.proofs.lemmas.Option.{slice_get_past, slice_get_read}
 use Rattle.vx_block.specs.declared.cell.Cell.TheVariants.{Air}
+use Rattle.vx_geom.specs.declared.bounds.TheConstants.{MAX_SECTORS_EACH_WAY, MAX_CHUNKS_EACH_WAY}
 use Rattle.vx_geom.specs.declared.pos.Pos.{Pos}
 use Rattle.vx_geom.specs.Sizes.{Sizes, AreSizes, is_below, is_inside, sector_number, sector_of}
 use Rattle.vx_geom.proofs.SectorLemmas.{below_from, held_at, in_sector, inside_at}
@@ -63,10 +64,10 @@ module _ (m : MapData) (p : Pos) (k : ℕ) (in_sector : sector_of m.sizes p ≡ 
       sym (ap (λ s. cell_in (sector_at m.sectors s) p) in_sector
       ∙ ap (λ c. cell_in c p) (slice_get_past m.sectors k past))
 
--- a world is less wide than that
-pub narrow : (n s : ℕ) → n ≤ 8 → s ≤ 2 → n * (16 * s) ≤ far
+-- a world is no wider than that
+pub narrow : (n s : ℕ) → n ≤ MAX_SECTORS_EACH_WAY → s ≤ MAX_CHUNKS_EACH_WAY → n * (16 * s) ≤ far
 narrow n s few small =
-    let most = mul-le n (16 * s) 8 32 few (omega (arith, small)) in
+    let most = mul-le n (16 * s) MAX_SECTORS_EACH_WAY (16 * MAX_CHUNKS_EACH_WAY) few (omega (arith, small)) in
     omega (arith, most)
 
 is_low : (c : ℤ) (k n : ℕ) → c ≡ pos k → k < n → n ≤ far → is_below c far ≡ true

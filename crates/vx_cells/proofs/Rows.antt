@@ -13,6 +13,7 @@ use Rattle.vx_cells.specs.Listed.{place, is_component_in_column}
 use Rattle.vx_cells.specs.Maps.{MapData, AreSectors}
 use Rattle.vx_cells.specs.SectorCells.{SectorCells, holds, cell_at}
 use Rattle.vx_cells.proofs.Indices.{numbered}
+use Rattle.vx_cells.proofs.Sectioned.{side_is}
 use Rattle.vx_cells.proofs.MapLemmas.{is_held, cell_found, placed_at, narrow, outside_is_air}
 
 -- a later column of one part lies as much later in it
@@ -27,12 +28,6 @@ row_in_word_16 a r low = omega arith
 
 row_in_word_32 : (a r : ℕ) → a < 32 → 32 * r + 32 ≤ 64 * ((a + 32 * r) / 64 + 1)
 row_in_word_32 a r low = omega arith
-
-side_is : (s : ℕ) → 1 ≤ s → s ≤ 2 → (s ≡ 1) ⊎ (s ≡ 2)
-side_is s least most = elim (cases_eq s 1) [
-  | inl one ↦ inl one
-  | inr more ↦ inr (omega (arith, more))
-]
 
 abbrev Fits : ℕ → ℕ → ℕ → Type 0
 Fits w a r = a < w → w * r + w ≤ 64 * ((a + w * r) / 64 + 1)

@@ -5,6 +5,7 @@ use Rattle.std.proofs.lemmas.Bool.{cases_eq}
 use Rattle.std.proofs.lemmas.List.Elements.{All-replicate, All-set}
 use Rattle.std.proofs.lemmas.Map.{update_here, update_apart}
 use Rattle.std.specs.Map.{update}
+use Rattle.vx_cells.specs.declared.stack.TheConstants.{SLOTS}
 use Rattle.vx_block.specs.declared.cell.Cell.{Cell}
 use Rattle.vx_block.specs.declared.cell.Cell.TheVariants.{Air}
 use Rattle.vx_geom.specs.declared.pos.Pos.{Pos}
@@ -19,7 +20,7 @@ use Rattle.vx_cells.specs.Stored.{block_of, blocks_from, stored, IsBeside, IsSto
 use Rattle.vx_cells.proofs.StoredBlocks.{block-at, blocks-changed, stored-set, same-slots, same-blocks}
 
 begun_beside : (code : ℕ) (b : Bool) → b ≡ is_chest (cell_of code) → IsBeside code (begun b)
-begun_beside code true same = (sym same, refl, All-replicate IsSlot 27 None tt)
+begun_beside code true same = (sym same, refl, All-replicate IsSlot SLOTS None tt)
 begun_beside code false same = sym same
 
 begun_placed : (code : ℕ) (b : Bool) → b ≡ is_chest (cell_of code) → unwrap_or (begun b) [] ≡ (placed (cell_of code)).slots
@@ -145,7 +146,7 @@ same-stored bounds rest sector number codes others chests more r held holds size
 )
 
 -- `!=` of two sizes says no where they are the same, and yes where not
-pub same-sizes : (v w : Sizes) → false ≡ not (nat_eq v.sx w.sx && (nat_eq v.sz w.sz && nat_eq v.s w.s)) → v ≡ w
+pub same-sizes : (v w : Sizes) → false ≡ not (nat_eq v.sx w.sx && (nat_eq v.sz w.sz && (nat_eq v.s w.s && nat_eq v.h w.h))) → v ≡ w
 unfolding same_sizes
 same-sizes v w e = (sizes_decided v w).0 (by _ e)
   where
@@ -153,7 +154,7 @@ same-sizes v w e = (sizes_decided v w).0 (by _ e)
     by true e = refl
     by false e = cc
 
-pub other-sizes : (v w : Sizes) → true ≡ not (nat_eq v.sx w.sx && (nat_eq v.sz w.sz && nat_eq v.s w.s)) → v ≢ w
+pub other-sizes : (v w : Sizes) → true ≡ not (nat_eq v.sx w.sx && (nat_eq v.sz w.sz && (nat_eq v.s w.s && nat_eq v.h w.h))) → v ≢ w
 unfolding same_sizes
 other-sizes v w e same = by _ e ((sizes_decided v w).1 same)
   where

@@ -144,10 +144,11 @@ pub sizes_decided : (v w : Sizes) → Decides (same_sizes v w) (v ≡ w)
 unfolding same_sizes
 sizes_decided v w =
     Decides-like _
-    (λ h i. record { sx = h.0 i; sz = h.1.0 i; s = h.1.1 i })
-    (λ e. (ap (λ u. u.sx) e, (ap (λ u. u.sz) e, ap (λ u. u.s) e)))
+    (λ e i. record { sx = e.0 i; sz = e.1.0 i; s = e.1.1.0 i; h = e.1.1.1 i })
+    (λ e. (ap (λ u. u.sx) e, (ap (λ u. u.sz) e, (ap (λ u. u.s) e, ap (λ u. u.h) e))))
     (Decides-and _ _ (Decides-eqb v.sx w.sx)
-    (Decides-and _ _ (Decides-eqb v.sz w.sz) (Decides-eqb v.s w.s)))
+    (Decides-and _ _ (Decides-eqb v.sz w.sz)
+    (Decides-and _ _ (Decides-eqb v.s w.s) (Decides-eqb v.h w.h))))
 
 pub cells_decided : (a b : SectorCells) → Decides (same_cells a b) (a ≡ b)
 unfolding same_cells

@@ -1,6 +1,7 @@
 -- The slots of a sector's chests, by their indices.
 use Rattle.std.specs.Prelude.{◌≡◌, ℕ, nat_eq, Bool, List, Option, None, Some, option_map, replicate, slice_set, if◌then◌else◌}
 use Rattle.std.specs.Map.{lookup, update}
+use Rattle.vx_cells.specs.declared.stack.TheConstants.{SLOTS}
 use Rattle.vx_cells.specs.declared.stack.Stack.{Stack}
 
 -- the slots of one chest
@@ -17,7 +18,7 @@ slots_of_chest chests index = lookup (nat_eq index) chests
 
 -- a chest with nothing in it
 abbrev pub no_content : Slots
-no_content = replicate 27 None
+no_content = replicate SLOTS None
 
 -- what begins with a cell: an empty chest where it is one
 abbrev pub begun : Bool → Option Slots

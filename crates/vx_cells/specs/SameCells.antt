@@ -59,9 +59,10 @@ same_cell a b = false
 unfoldable pub same_block : Block → Block → Bool
 same_block a b = same_cell a.cell b.cell && same_slots a.slots b.slots
 
--- as many sectors each way, and as many chunks
+-- as many sectors each way, as many chunks, and of one height
 unfoldable pub same_sizes : Sizes → Sizes → Bool
-same_sizes v w = nat_eq v.sx w.sx && (nat_eq v.sz w.sz && nat_eq v.s w.s)
+same_sizes v w =
+    nat_eq v.sx w.sx && (nat_eq v.sz w.sz && (nat_eq v.s w.s && nat_eq v.h w.h))
 
 -- the same sector of worlds of one size, with the same at each place, slots too
 unfoldable pub same_cells : SectorCells → SectorCells → Bool

@@ -1,6 +1,7 @@
 use Rattle.std.specs.Prelude.{◌≡◌, ℕ, ◌≤◌, Bool, true, false, nat_eq, List, length, replicate, slice_index_or, slice_set, if◌then◌else◌, Option, Some, None}
 use Rattle.std.specs.List.{All}
 use Rattle.std.specs.Option.{option_map_or}
+use Rattle.vx_cells.specs.declared.stack.TheConstants.{SLOTS, MAX_COUNT}
 use Rattle.vx_block.specs.declared.cell.Cell.{Cell}
 use Rattle.vx_block.specs.declared.cell.Cell.TheVariants.{Air, Chest}
 use Rattle.vx_geom.specs.declared.pos.Pos.{Pos}
@@ -17,9 +18,9 @@ abbrev pub is_chest : Cell → Bool
 is_chest Chest = true
 is_chest _ = false
 
--- how many slots a cell has: a chest 27, another none
+-- how many slots a cell has: a chest 27 of them, another none
 abbrev pub slot_count : Cell → ℕ
-slot_count cell = if is_chest cell then 27 else 0
+slot_count cell = if is_chest cell then SLOTS else 0
 
 -- a cell as it is put down: a chest begins empty
 abbrev pub placed : Cell → Block
@@ -27,7 +28,7 @@ placed cell = record { cell = cell; slots = replicate (slot_count cell) None }
 
 -- how many of one item a slot holds at most
 abbrev pub most_count : ℕ
-most_count = 64
+most_count = MAX_COUNT
 
 -- a slot is empty, or holds 1 to 64 of an item
 abbrev pub IsSlot : Option Stack → Type 0

@@ -1,6 +1,7 @@
 -- How a sector is stored: a byte for each cell, the slots of the chests by their indices, and marks
 -- where components stand.
 use Rattle.std.specs.Prelude.{◌≡◌, ℕ, ◌+◌, ◌*◌, ◌<◌, Bool, true, false, List, [], ◌∷◌, length, slice_index_or, All, Option, Some, None, unwrap_or}
+use Rattle.vx_cells.specs.declared.stack.TheConstants.{SLOTS}
 use Rattle.vx_block.specs.declared.cell.Cell.{Cell}
 use Rattle.vx_block.specs.Components.{is_device, is_component}
 use Rattle.vx_geom.specs.Sizes.{Sizes, sector_count, sector_cells}
@@ -31,11 +32,11 @@ stored bounds sector codes chests = record {
   blocks = blocks_from 0 codes chests;
 }
 
--- a chest's 27 slots stand at its index, and none at another cell's
+-- a chest's slots stand at its index, and none at another cell's
 abbrev pub IsBeside : ℕ → Option Slots → Type 0
 IsBeside code None = is_chest (cell_of code) ≡ false
 IsBeside code (Some slots) =
-    (is_chest (cell_of code) ≡ true) × (length slots ≡ 27) × All IsSlot slots
+    (is_chest (cell_of code) ≡ true) × (length slots ≡ SLOTS) × All IsSlot slots
 
 -- each index has its byte, each chest its slots, and past the last index there are none
 pub record IsStored (bounds : Sizes) (store : List ℕ) (slots : ChestData) : Type 0 where

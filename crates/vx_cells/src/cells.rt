@@ -1,5 +1,6 @@
 ghost use Rattle.std.specs.Prelude.{◌≡◌, ◌+◌, ◌*◌, ◌/◌, ◌<◌, ◌≤◌, nat_lt, length, true, IfOk, OnOk, OnErr, IfSome};
 ghost use Rattle.std.specs.List.{All};
+ghost use Rattle.vx_cells.specs.declared.stack.TheConstants.{SLOTS};
 ghost use Rattle.vx_geom.specs.Sizes.{span, sector_count};
 ghost use Rattle.vx_block.specs.Components.{is_dust, is_component};
 ghost use Rattle.vx_block.specs.Conductors.{conducts};
@@ -129,7 +130,7 @@ impl Cells {
     pub fn set_slot(&mut self, p: Pos, slot: u8, content: Slot) -> Result<(), AllocError>
         requires held { holds self.old p ≡ true }
         requires chest { is_chest (cell_at self.old p) ≡ true }
-        requires slot { slot < 27 }
+        requires slot { slot < SLOTS }
         requires content { IsSlot content }
         ensures ok { OnOk result (self.new ≡ with_slot self.old p slot content) }
         ensures err { OnErr result (self.new ≡ self.old) }

@@ -1,4 +1,5 @@
 ghost use Rattle.std.specs.Prelude.{◌≡◌, ◌<◌, ◌↔◌, ℕ, IsTrue, [], false, if◌then◌else◌, None, Some, IsSome, IsOk, IfOk, OnOk, OnErr};
+ghost use Rattle.vx_cells.specs.declared.stack.TheConstants.{SLOTS};
 
 use crate::stack::{SLOTS, Slot};
 use std::alloc::{AllocError, Global};
@@ -62,7 +63,7 @@ impl Chests {
     /// Puts something else into a slot of the chest at that index.
     pub fn set(&mut self, index: u32, slot: u8, content: Slot)
         requires there { IsSome (slots_of_chest self.old index) }
-        requires slot { slot < 27 }
+        requires slot { slot < SLOTS }
         ensures { Changes self.old self.new index
             (refilled slot content (slots_of_chest self.old index)) }
     {

@@ -3,6 +3,7 @@ ghost use Rattle.std.specs.Prelude.{◌≡◌, ◌+◌, ◌*◌, ◌/◌, ◌<�
 ghost use Rattle.vx_block.specs.Components.{is_dust};
 ghost use Rattle.vx_block.specs.Conductors.{conducts};
 ghost use Rattle.vx_block.specs.declared.cell.Cell.TheVariants.{Air};
+ghost use Rattle.vx_geom.specs.declared.bounds.TheConstants.{HIGH_HEIGHT, MAX_COLUMNS_EACH_WAY};
 ghost use Rattle.vx_geom.specs.Neighbor.{neighbor};
 ghost use Rattle.vx_geom.specs.Sizes.{span, is_inside, sector_count};
 ghost use Rattle.vx_geom.specs.declared.dir.Dir.TheVariants.{Up, Down};
@@ -182,9 +183,9 @@ impl<'a> Frozen<'a> {
     /// The first of the columns from one up to below another, in a row of a layer, where a
     /// component of machines stands. It costs a look for each sector that the columns lie in.
     pub fn component_in_row(&self, y: u32, z: u32, first: u32, end: u32) -> Option<u32>
-        requires layer { y < 64 }
-        requires row { z < 256 }
-        requires columns { end ≤ 256 }
+        requires layer { y < HIGH_HEIGHT }
+        requires row { z < MAX_COLUMNS_EACH_WAY }
+        requires columns { end ≤ MAX_COLUMNS_EACH_WAY }
         ensures { IsFirst (is_component_in_column self.now y z) end first result }
     {
         self.soundness();
@@ -236,9 +237,9 @@ impl<'a> Frozen<'a> {
     // component of machines stands.
     #[inline(always)]
     fn component_in_sector(&self, x: u32, y: u32, z: u32) -> Option<u32>
-        requires layer { y < 64 }
-        requires row { z < 256 }
-        requires column { x < 256 }
+        requires layer { y < HIGH_HEIGHT }
+        requires row { z < MAX_COLUMNS_EACH_WAY }
+        requires column { x < MAX_COLUMNS_EACH_WAY }
         requires inside { is_inside self.now.sizes (place x y z) ≡ true }
         ensures { IsFirst (is_component_in_column self.now y z)
             (span self.now.sizes * (x / span self.now.sizes + 1)) x result }

@@ -1,6 +1,7 @@
 ghost use Rattle.std.specs.Prelude.{◌≡◌, ◌+◌, ◌*◌, ◌/◌, ◌<◌, ◌≤◌, nat_lt, length, true, IfOk, OnOk, OnErr, IfSome};
 ghost use Rattle.std.specs.Bool.{Decides};
 ghost use Rattle.std.specs.List.{All};
+ghost use Rattle.vx_cells.specs.declared.stack.TheConstants.{SLOTS};
 ghost use Rattle.vx_geom.specs.Sizes.{span, sector_count};
 ghost use Rattle.vx_block.specs.Components.{is_dust, is_component, is_device};
 ghost use Rattle.vx_block.specs.Conductors.{conducts};
@@ -17,7 +18,7 @@ use std::alloc::{AllocError, Global};
 use std::marker::Model;
 use std::sync::Arc;
 use vx_block::Cell;
-use vx_geom::{Bounds, Pos};
+use vx_geom::{Bounds, LOW_HEIGHT, Pos};
 use vx_section::Sections;
 
 /// What a sector holds, as copies of it share it: the cells as bytes, section by section, and the
@@ -58,7 +59,9 @@ impl Stored {
     {
         bounds.soundness();
         let count = bounds.sector_cells();
-        let store = Sections::new(alloc, count > NARROW, AIR)?;
+        let wide = bounds.span() > NARROW;
+        let high = bounds.height() > u32::from(LOW_HEIGHT);
+        let store = Sections::new(alloc, wide, high, AIR)?;
         Ok(Stored {
             alloc,
             bounds,
@@ -176,7 +179,7 @@ impl Stored {
     pub fn set_slot(&mut self, p: Pos, slot: u8, content: Slot) -> Result<(), AllocError>
         requires held { holds self.old p ≡ true }
         requires chest { is_chest (cell_at self.old p) ≡ true }
-        requires slot { slot < 27 }
+        requires slot { slot < SLOTS }
         requires content { IsSlot content }
         ensures ok { OnOk result (self.new ≡ with_slot self.old p slot content) }
         ensures err { OnErr result (self.new ≡ self.old) }
@@ -271,5 +274,5 @@ impl Clone for Stored {
     }
 }
 
-// How many cells a sector of one chunk has.
-const NARROW: u32 = 16_384;
+// How many columns a side a sector of one chunk has.
+const NARROW: u32 = 16;

@@ -6,7 +6,7 @@ use std::test::Fail;
 use vx_block::Part;
 use vx_cells::Cells;
 use vx_decide::Rule;
-use vx_geom::{Bounds, Pos};
+use vx_geom::{Bounds, LOW_HEIGHT, Pos};
 use vx_policy::{Policy, Version};
 use vx_record::{
     Archive, Call, Caller, Fault, Lists, Opening, Place, are_seated, began_with, disagreement,
@@ -191,7 +191,7 @@ fn first(lists: &Lists) -> &[Call] {
 
 // One sector of air, for bob.
 fn opening(alloc: Global) -> Result<Opening, Fail> {
-    let bounds = Bounds::new(1, 1, 1).ok_or("no bounds")?;
+    let bounds = Bounds::new(1, 1, 1, LOW_HEIGHT).ok_or("no bounds")?;
     let mut names = Vec::new(alloc);
     names.push(Name::read("bob")?)?;
     let policy = Policy::new(alloc)?;

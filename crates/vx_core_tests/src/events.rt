@@ -6,7 +6,7 @@ use std::test::Fail;
 use vx_block::{Cell, Part};
 use vx_core::{Core, Event, Opening, OpeningError, Stage, Tick, run_core};
 use vx_decide::Rule;
-use vx_geom::{Bounds, Pos, ShapeSpec};
+use vx_geom::{Bounds, LOW_HEIGHT, Pos, ShapeSpec};
 use vx_policy::{Edit, Policy};
 use vx_region::{Name, RegionNo};
 use vx_sector::{Cmd, Entry, Refusal, Reply, Seat};
@@ -140,7 +140,7 @@ fn opening(alloc: Global, players: usize) -> Result<Opening, Fail> {
 }
 
 fn new(alloc: Global, players: usize) -> Result<Result<Opening, OpeningError>, Fail> {
-    let bounds = Bounds::new(2, 1, 1).ok_or("no bounds")?;
+    let bounds = Bounds::new(2, 1, 1, LOW_HEIGHT).ok_or("no bounds")?;
     let names = names(alloc, players)?;
     Ok(Opening::new(alloc, bounds, names, Policy::new(alloc)?))
 }

@@ -1,5 +1,6 @@
 //! Maps by the texts of their cells, and their ticks on several threads.
 ghost use Rattle.std.specs.Prelude.{◌<◌, ◌≤◌};
+ghost use Rattle.vx_step.specs.declared.workers.TheConstants.{MAX_WORKERS};
 
 use crate::same::same;
 use std::alloc::{AllocError, Global};
@@ -8,16 +9,16 @@ use std::test::Fail;
 use std::thread::Threads;
 use vx_block::Cell;
 use vx_cells::Whole;
-use vx_geom::{Bounds, Pos};
+use vx_geom::{Bounds, LOW_HEIGHT, Pos};
 use vx_policy::Version;
-use vx_step::{Fate, Gate, NoGate, step_parts};
+use vx_step::{Fate, Gate, MAX_WORKERS, NoGate, step_parts};
 
 // Cells, by their texts, at x, y and z.
 pub type Placed<'a> = &'a [(i32, i32, i32, &'a str)];
 
 // A world of four sectors of 16 by 16 columns.
 pub fn world(rt: &impl Abort, alloc: Global, placed: Placed) -> Result<Whole, Fail> {
-    let bounds = Bounds::new(2, 2, 1).ok_or("no bounds")?;
+    let bounds = Bounds::new(2, 2, 1, LOW_HEIGHT).ok_or("no bounds")?;
     let mut map = Whole::new(alloc, bounds)?;
     put(rt, &mut map, placed)?;
     Ok(map)
@@ -25,7 +26,7 @@ pub fn world(rt: &impl Abort, alloc: Global, placed: Placed) -> Result<Whole, Fa
 
 // A world of so many sectors of 16 by 16 columns side by side.
 pub fn row(rt: &impl Abort, alloc: Global, sectors: u8, placed: Placed) -> Result<Whole, Fail> {
-    let bounds = Bounds::new(sectors, 1, 1).ok_or("no bounds")?;
+    let bounds = Bounds::new(sectors, 1, 1, LOW_HEIGHT).ok_or("no bounds")?;
     let mut map = Whole::new(alloc, bounds)?;
     put(rt, &mut map, placed)?;
     Ok(map)
@@ -64,7 +65,7 @@ fn agrees<R: Threads + Abort + Sync>(
     next: &Whole,
     fates: &[(Pos, Fate)],
 ) -> Result<(), AllocError> {
-    assert!(rt; 0 < workers && workers <= 8);
+    assert!(rt; 0 < workers && workers <= MAX_WORKERS);
     let (parted, told) = parted(rt, alloc, map, version, workers, &NoGate)?;
     is_tick(rt, &parted, told.as_slice(), next, fates);
     Ok(())
@@ -89,7 +90,7 @@ pub fn parted<R: Threads + Sync, G: Gate + Sync>(
     workers: usize,
     gate: &G,
 ) -> Result<(Whole, Vec<(Pos, Fate)>), AllocError>
-    requires { (0 < workers) × (workers ≤ 8) }
+    requires { (0 < workers) × (workers ≤ MAX_WORKERS) }
 {
     map.soundness();
     let bounds = map.frozen().bounds();

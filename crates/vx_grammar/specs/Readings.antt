@@ -3,6 +3,7 @@ use Rattle.vx_block.specs.declared.part.Part.{Part}
 use Rattle.vx_block.specs.Part.{part_of}
 use Rattle.vx_flag.specs.declared.action.Action.{Action}
 use Rattle.vx_flag.specs.declared.action.Action.TheVariants.{Placing, Breaking, Turning, Reaching}
+use Rattle.vx_geom.specs.declared.bounds.TheConstants.{LOW_HEIGHT}
 use Rattle.vx_geom.specs.declared.pos.Pos.{Pos}
 use Rattle.vx_region.specs.Words.{read_name}
 use Rattle.vx_base.specs.Then.{◌>>=◌}
@@ -34,6 +35,11 @@ byte_at words = do
   word ← next_of words
   n ← u8_of word.0
   Some (n, word.1)
+
+-- the height of a world, by its number; that of a low one, where no word is left
+unfoldable pub height_at : Rest → Option (ℕ × Rest)
+height_at [] = Some (LOW_HEIGHT, [])
+height_at (word ∷ words) = byte_at (word ∷ words)
 
 -- the number of an item, of 16 bits
 unfoldable pub item_at : Rest → Option (ℕ × Rest)

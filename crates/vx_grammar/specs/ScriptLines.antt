@@ -1,7 +1,8 @@
-use Rattle.std.specs.Prelude.{ℕ, Bool, false, ◌&&◌, ◌==◌, not, bytes_eq, codes, if◌then◌else◌, List, [], ◌∷◌, Option, Some, None}
+use Rattle.std.specs.Prelude.{ℕ, Bool, false, ◌&&◌, ◌||◌, ◌==◌, not, bytes_eq, codes, if◌then◌else◌, List, [], ◌∷◌, Option, Some, None}
 use Rattle.std.specs.List.{list_all}
 use Rattle.vx_block.specs.declared.part.Part.{Part}
 use Rattle.vx_flag.specs.declared.action.Action.{Action}
+use Rattle.vx_geom.specs.declared.bounds.TheConstants.{MAX_SECTORS_EACH_WAY, MAX_CHUNKS_EACH_WAY, LOW_HEIGHT, HIGH_HEIGHT}
 use Rattle.vx_geom.specs.declared.pos.Pos.{Pos}
 use Rattle.vx_geom.specs.Sizes.{Sizes}
 use Rattle.vx_region.specs.Words.{is_amid}
@@ -10,7 +11,7 @@ use Rattle.vx_sector.specs.declared.cmd.Cmd.{Cmd}
 use Rattle.vx_sector.specs.declared.cmd.Cmd.TheVariants.{Look, Place, Break, Turn, OpenChest, Put, Take}
 use Rattle.vx_grammar.specs.EditLines.{edit_of}
 use Rattle.vx_grammar.specs.Words.{words_of}
-use Rattle.vx_grammar.specs.Readings.{Rest, next_of, action_at, at_end, byte_at, item_at, position_at, part_at, name_at}
+use Rattle.vx_grammar.specs.Readings.{Rest, next_of, action_at, at_end, byte_at, height_at, item_at, position_at, part_at, name_at}
 use Rattle.vx_base.specs.Then.{◌>>=◌}
 use Rattle.vx_grammar.specs.declared.line.Line.{Line}
 use Rattle.vx_grammar.specs.declared.line.Line.TheVariants as line
@@ -43,21 +44,27 @@ said (line.Explain name action p) = Explain name.text.bytes action p
 said line.Together = Together
 said line.End = End
 
--- the sizes of a world: 1 to 8 sectors each way, of 1 or 2 chunks each way
-abbrev pub sizes_of : ℕ → ℕ → ℕ → Option Sizes
-sizes_of sx sz s =
-    if (is_amid 1 sx 8 && is_amid 1 sz 8) && is_amid 1 s 2
-    then Some (record { sx = sx; sz = sz; s = s })
+-- a world has one height or the other
+abbrev pub is_height : ℕ → Bool
+is_height h = h == LOW_HEIGHT || h == HIGH_HEIGHT
+
+-- the sizes of a world: 1 to 16 sectors each way, of 1 or 2 chunks each way, 64 or 128 cells high
+abbrev pub sizes_of : ℕ → ℕ → ℕ → ℕ → Option Sizes
+sizes_of sx sz s h =
+    if (is_amid 1 sx MAX_SECTORS_EACH_WAY && is_amid 1 sz MAX_SECTORS_EACH_WAY)
+    && (is_amid 1 s MAX_CHUNKS_EACH_WAY && is_height h)
+    then Some (record { sx = sx; sz = sz; s = s; h = h })
     else None
 
--- `world SX SZ S`
+-- `world SX SZ S`, of a low world, or `world SX SZ S H`
 unfoldable pub world_line : Rest → Option Said
 world_line words = do
   sx ← byte_at words
   sz ← byte_at sx.1
   s ← byte_at sz.1
-  sizes ← sizes_of sx.0 sz.0 s.0
-  at_end s.1 (World sizes)
+  h ← height_at s.1
+  sizes ← sizes_of sx.0 sz.0 s.0 h.0
+  at_end h.1 (World sizes)
 
 -- `player NAME`
 unfoldable pub player_line : Rest → Option Said

@@ -1,11 +1,11 @@
 ghost use Rattle.std.specs.Prelude.{◌≡◌, option_map};
-ghost use Rattle.vx_grammar.specs.Readings.{Reads, action_at, action_of, at_end, byte_at, item_at, coordinate_at, position_at, part_at, name_at};
+ghost use Rattle.vx_grammar.specs.Readings.{Reads, action_at, action_of, at_end, byte_at, height_at, item_at, coordinate_at, position_at, part_at, name_at};
 
 use crate::number::{read_i32, read_u8, read_u16};
 use crate::words::Words;
 use vx_block::Part;
 use vx_flag::Action;
-use vx_geom::Pos;
+use vx_geom::{LOW_HEIGHT, Pos};
 use vx_region::Name;
 
 /// Reads a number from 0 to 255.
@@ -14,6 +14,18 @@ pub fn byte(words: &mut Words) -> Option<u8>
     ensures { Reads result words.new (byte_at words.old) }
 {
     read_u8(words.next()?)
+}
+
+/// Reads the height of a world, a number from 0 to 255; where no word is left, it is that of a low
+/// one.
+#[tactic(auto, unfolding(crate::specs::Readings::height_at, crate::specs::Readings::byte_at))]
+pub fn height(words: &mut Words) -> Option<u8>
+    ensures { Reads result words.new (height_at words.old) }
+{
+    match words.next() {
+        None => Some(LOW_HEIGHT),
+        Some(word) => read_u8(word),
+    }
 }
 
 /// Reads the number of an item, from 0 to 65535.

@@ -3,7 +3,7 @@ ghost use Rattle.std.specs.List.{list_all};
 ghost use Rattle.vx_grammar.specs.ScriptLines.{said, is_printable, is_comment, world_line, player_line, set_line, placed_part, look_command, place_command, break_command, turn_command, open_command, put_command, take_command, command_of, as_line, region_line, tick_line, explain_line, together_line, end_line, line_by, line_in, line_of, sizes_of};
 ghost use Rattle.vx_base.specs.Unread.{Gives};
 
-use crate::arguments::{action, at_end, byte, item, name, part, position};
+use crate::arguments::{action, at_end, byte, height, item, name, part, position};
 use crate::edit_reading::read_edit;
 use crate::line::Line;
 use crate::words::Words;
@@ -120,7 +120,8 @@ fn world_line(words: &mut Words) -> Option<Line>
     let sx = byte(words)?;
     let sz = byte(words)?;
     let s = byte(words)?;
-    let bounds = bounds_of(sx, sz, s)?;
+    let h = height(words)?;
+    let bounds = bounds_of(sx, sz, s, h)?;
     at_end(words, Line::World(bounds))
 }
 
@@ -245,8 +246,8 @@ fn take_command(words: &mut Words) -> Option<Cmd>
     at_end(words, Cmd::Take { at, slot, count })
 }
 
-fn bounds_of(sx: u8, sz: u8, s: u8) -> Option<Bounds>
-    ensures { result ≡ sizes_of sx sz s }
+fn bounds_of(sx: u8, sz: u8, s: u8, h: u8) -> Option<Bounds>
+    ensures { result ≡ sizes_of sx sz s h }
 {
-    Bounds::new(sx, sz, s)
+    Bounds::new(sx, sz, s, h)
 }

@@ -2,6 +2,7 @@ ghost use Rattle.std.specs.Bool.{Decides};
 ghost use Rattle.std.specs.List.{All};
 ghost use mathlib.Core.List.{IsPrefix};
 ghost use Rattle.std.specs.Prelude.{◌≡◌, ℕ, ◌<◌, ◌≤◌, ◌+◌, ◌↔◌, ◌⊎◌, true, [], length, map, replicate, Some, Err, IfOk, IfErr, IfSome, MatchOption, OnOk};
+ghost use Rattle.vx_step.specs.declared.workers.TheConstants.{MAX_WORKERS};
 ghost use Rattle.vx_windows.specs.Sectors.{cells_of, all_renewed, opened_by, opened_with, first_version};
 ghost use Rattle.vx_windows.specs.Limits.{most_ticks};
 ghost use Rattle.vx_still.specs.Watching.{IsWatch};
@@ -189,7 +190,7 @@ impl<A: Places> Keeper<A> {
     ) -> Result<Work, TickError>
         requires each { length sectors.now ≡ A.all }
         requires parts { AreParts self.old.world are_parts.now sectors.now }
-        requires workers { (0 < workers) × (workers ≤ 8) }
+        requires workers { (0 < workers) × (workers ≤ MAX_WORKERS) }
         ensures same { self.new ≡ self.old }
         ensures full { (result ≡ Err HistoryFull)
             ↔ (most_ticks ≤ length self.old.chronicle.ticks) }
@@ -422,7 +423,7 @@ impl<A: Places> Keeper<A> {
         requires watch { IfSome watch (IsWatch self.now.world.map) }
         requires known { AreKnown (known self.now) (map Some sectors.now) }
         requires each { length sectors.now ≡ A.all }
-        requires workers { (0 < workers) × (workers ≤ 8) }
+        requires workers { (0 < workers) × (workers ≤ MAX_WORKERS) }
         ensures { IfOk result (λ work. IsPlanned self.now.world.version.policy
             (map_now self.now sectors.now) (work.plan, work.watch)) }
     {

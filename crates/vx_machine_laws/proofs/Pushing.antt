@@ -2,6 +2,7 @@
 use Rattle.std.proofs.Common.{◌≡◌, ℕ, zero, suc, ◌<◌, ◌≤◌, Bool, true, false, not, ◌⊎◌, inl, inr, List, [], ◌∷◌, ◌++◌, Option, Some, None, option_map, if◌then◌else◌, refl, sym, ap, ◌∙◌, subst, arith}
 use Rattle.std.specs.Option.{IfSome}
 use Rattle.std.proofs.lemmas.Bool.{cases_Bool, not-true, false≢true}
+use Rattle.vx_piston.specs.declared.moves.TheConstants.{MAX_ROW}
 use Rattle.vx_block.specs.declared.cell.Cell.{Cell}
 use Rattle.vx_block.specs.declared.cell.Cell.TheVariants.{Air, Piston}
 use Rattle.vx_block.specs.declared.mobility.Mobility.{Mobility}
@@ -97,7 +98,7 @@ module _ (m : MapData) where
         ap (move_of m level p) is.stands ∙ ap (λ b. if b then None else Some (drawing m front sticky p)) is.powered
 
     -- a push by its row
-    push_of : (o : Option (List Pos)) → row m front 13 (neighbor p front) ≡ o
+    push_of : (o : Option (List Pos)) → row m front MAX_ROW (neighbor p front) ≡ o
         → pushing m front p
         ≡ option_map (λ ps. record { at = p; facing = front; push = true; cells = p ∷ ps }) o
     unfolding pushing
@@ -107,17 +108,17 @@ pub open_rows_are_pushed : OpenRowsArePushed
 open_rows_are_pushed m level p front sticky n is few each end =
     in_by m level p front sticky true is
     ∙ push_of m level p front sticky (Some (in_line front (suc n) (neighbor p front)))
-    (open_row m front n 13 (neighbor p front) (omega (arith, few)) each end)
+    (open_row m front n MAX_ROW (neighbor p front) (omega (arith, few)) each end)
 
 pub shut_rows_stay : ShutRowsStay
 shut_rows_stay m level p front sticky n is few each end =
     in_by m level p front sticky true is
-    ∙ push_of m level p front sticky None (shut_row m front n 13 (neighbor p front) each end)
+    ∙ push_of m level p front sticky None (shut_row m front n MAX_ROW (neighbor p front) each end)
 
 pub long_rows_stay : LongRowsStay
 long_rows_stay m level p front sticky n is many each =
     in_by m level p front sticky true is
-    ∙ push_of m level p front sticky None (long_row m front n 13 (neighbor p front) (omega (arith, many)) each)
+    ∙ push_of m level p front sticky None (long_row m front n MAX_ROW (neighbor p front) (omega (arith, many)) each)
 
 -- what a draw takes
 module _ (m : MapData) (p : Pos) (front : Dir) where
@@ -212,8 +213,8 @@ module _ (m : MapData) (level : Pos → ℕ) (p : Pos) where
   a_push : (front : Dir) (sticky : Bool) → IsPiston m level p front sticky false true
       → IfSome (pushing m front p) OfPiston
   a_push front sticky is =
-      subst (λ o. IfSome o OfPiston) (sym (push_of m level p front sticky (row m front 13 (neighbor p front)) refl))
-      (pushed_by front sticky is (row m front 13 (neighbor p front)))
+      subst (λ o. IfSome o OfPiston) (sym (push_of m level p front sticky (row m front MAX_ROW (neighbor p front)) refl))
+      (pushed_by front sticky is (row m front MAX_ROW (neighbor p front)))
 
   a_draw : (front : Dir) (sticky : Bool) → IsPiston m level p front sticky true false
       → OfPiston (drawing m front sticky p)

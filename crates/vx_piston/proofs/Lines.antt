@@ -2,6 +2,7 @@
 use Rattle.std.proofs.Common.{◌≡◌, ℕ, zero, suc, ◌≤◌, Bool, true, false, inl, inr, List, [], ◌∷◌, ◌++◌, length, Option, Some, None, option_map, if◌then◌else◌, refl, sym, ap, ◌∙◌, subst, arith}
 use Rattle.std.specs.Option.{IfSome}
 use Rattle.std.proofs.lemmas.Bool.{cases_Bool, false≢true}
+use Rattle.vx_piston.specs.declared.moves.TheConstants.{MAX_ROW}
 use Rattle.vx_block.specs.declared.mobility.Mobility.{Mobility}
 use Rattle.vx_block.specs.declared.mobility.Mobility.TheVariants.{Empty, Moves, Breaks, Stays}
 use Rattle.vx_block.specs.Mobilities.{mobility_of}
@@ -25,13 +26,13 @@ pub record IsShort (m : MapData) (d : Dir) (p : Pos) (n : ℕ) (qs : List Pos) :
   pub line : IsLine m d p qs
   pub few : length qs ≤ n
 
--- a move takes its piston's cell, and at most 13 that follow it
+-- a move takes its piston's cell, and at most so many cells that follow it
 pub record IsMove (m : MapData) (p : Pos) (move : Moving) : Type 0 where
   pub at : move.at ≡ p
   pub inside : is_inside m.sizes p ≡ true
   pub rest : List Pos
   pub cells : move.cells ≡ p ∷ rest
-  pub short : IsShort m move.facing (neighbor p move.facing) 13 rest
+  pub short : IsShort m move.facing (neighbor p move.facing) MAX_ROW rest
 
 module _ (m : MapData) (d : Dir) where
   -- one position alone
@@ -78,7 +79,7 @@ module _ (m : MapData) (d : Dir) where
 
   module _ (p : Pos) (inside : is_inside m.sizes p ≡ true) where
     -- the piston's cell, and a row
-    pushed_row : (o : Option (List Pos)) → IfSome o (IsShort m d (neighbor p d) 13)
+    pushed_row : (o : Option (List Pos)) → IfSome o (IsShort m d (neighbor p d) MAX_ROW)
         → IfSome (option_map (λ ps. record { at = p; facing = d; push = true; cells = p ∷ ps }) o)
         (IsMove m p)
     pushed_row None short = tt
@@ -87,7 +88,7 @@ module _ (m : MapData) (d : Dir) where
     -- a push takes a line
     pushing_is_line : IfSome (pushing m d p) (IsMove m p)
     unfolding pushing
-    pushing_is_line = pushed_row (row m d 13 (neighbor p d)) (row_is_line 13 (neighbor p d))
+    pushing_is_line = pushed_row (row m d MAX_ROW (neighbor p d)) (row_is_line MAX_ROW (neighbor p d))
 
     -- and so does a piston that draws back
     drawing_is_line : (sticky : Bool) → IsMove m p (drawing m d sticky p)
@@ -108,7 +109,7 @@ module _ (m : MapData) (d : Dir) where
         inside = inside;
         rest = [];
         cells = sym (drawn_alone m d sticky p inside (λ head. false≢true (sym outside ∙ head)));
-        short = nothing (neighbor p d) 13;
+        short = nothing (neighbor p d) MAX_ROW;
       }
     ]
 

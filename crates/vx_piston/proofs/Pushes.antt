@@ -2,6 +2,7 @@
 use Rattle.std.proofs.Common.{◌≡◌, ℕ, zero, suc, ◌<◌, true, ◌⊎◌, inl, inr, List, [], ◌∷◌, ◌++◌, length, Bool, Option, Some, None, option_map, refl, sym, ap, ◌∙◌, subst, arith}
 use Rattle.std.specs.Option.{IfSome}
 use Rattle.std.proofs.lemmas.Bool.{cases_Bool, false≢true}
+use Rattle.vx_piston.specs.declared.moves.TheConstants.{MAX_ROW}
 use Rattle.vx_block.specs.declared.mobility.Mobility.{Mobility}
 use Rattle.vx_block.specs.declared.mobility.Mobility.TheVariants.{Empty, Moves, Breaks, Stays}
 use Rattle.vx_block.specs.Mobilities.{mobility_of}
@@ -73,7 +74,7 @@ module _ (m : MapData) where
 
   module _ (d : Dir) (p : Pos) where
     -- the piston's cell, and a row
-    pushed_row : (o : Option (List Pos)) → IfSome o (IsRow m 13)
+    pushed_row : (o : Option (List Pos)) → IfSome o (IsRow m MAX_ROW)
         → IfSome (option_map (λ ps. record { at = p; facing = d; push = true; cells = p ∷ ps }) o)
         (PushesFewCells m p)
     pushed_row None row = tt
@@ -89,7 +90,7 @@ module _ (m : MapData) where
     -- a piston that pushes
     pushing_takes : IfSome (pushing m d p) (PushesFewCells m p)
     unfolding pushing
-    pushing_takes = pushed_row (row m d 13 (neighbor p d)) (row_ends d 13 (neighbor p d))
+    pushing_takes = pushed_row (row m d MAX_ROW (neighbor p d)) (row_ends d MAX_ROW (neighbor p d))
 
     -- a piston that draws back pushes nothing
     drawing_takes : (sticky : Bool) → PushesFewCells m p (drawing m d sticky p)

@@ -1,5 +1,6 @@
 -- What a piston would move.
 use Rattle.std.specs.Prelude.{ℕ, zero, suc, ◌+◌, Bool, true, false, not, List, [], ◌∷◌, ◌++◌, if◌then◌else◌, Option, Some, None, option_map}
+use Rattle.vx_piston.specs.declared.moves.TheConstants.{MAX_PUSHED, MAX_CELLS}
 use Rattle.vx_geom.specs.declared.dir.Dir.{Dir}
 use Rattle.vx_geom.specs.declared.pos.Pos.{Pos}
 use Rattle.vx_geom.specs.Neighbor.{neighbor}
@@ -22,11 +23,11 @@ pub record Moving : Type 0 where
 
 -- how many cells a push moves at most
 abbrev pub most_pushed : ℕ
-most_pushed = 12
+most_pushed = MAX_PUSHED
 
 -- how many cells a move takes at most: the piston, what it pushes, and the end of the row
 abbrev pub most_cells : ℕ
-most_cells = 14
+most_cells = MAX_CELLS
 
 -- a row goes on behind a cell that is pushed; one that is empty or breaks ends it; one that stays
 -- stops it

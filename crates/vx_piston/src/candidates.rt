@@ -9,15 +9,12 @@ ghost use Rattle.vx_power.specs.Laws.{dust_level};
 ghost use Rattle.vx_power.specs.Local.{AreLevelsNear};
 ghost use Rattle.vx_piston.specs.Moves.{most_pushed, row, if_inside, pulled, pushing, drawing, candidate, is_restless};
 
-use crate::moves::{MAX_CELLS, Move};
+use crate::moves::{MAX_CELLS, MAX_ROW, Move};
 use arrayvec::ArrayVec;
 use vx_block::{Cell, Mobility};
 use vx_cells::Frozen;
 use vx_geom::{Dir, Pos};
 use vx_power::{Leveled, active};
-
-// What stands before a piston that pushes is at most so many cells, the end of the row among them.
-const MAX_ROW: u8 = 13;
 
 /// The move of the piston at a position, if it would make one. It is as the rules say where the
 /// levels near are those of the map, and takes no memory.

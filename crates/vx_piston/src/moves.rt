@@ -4,9 +4,14 @@ use arrayvec::ArrayVec;
 use std::marker::Model;
 use vx_geom::{Dir, Pos};
 
-/// A move takes at most so many cells: the piston's, the twelve that it pushes, and the one at the
-/// end of the row.
-pub const MAX_CELLS: usize = 14;
+/// A push moves at most so many cells.
+pub const MAX_PUSHED: usize = 12;
+
+/// What stands before a piston that pushes is at most so many cells, the end of the row among them.
+pub const MAX_ROW: usize = MAX_PUSHED + 1;
+
+/// A move takes at most so many cells: the piston's, and those before it.
+pub const MAX_CELLS: usize = MAX_ROW + 1;
 
 /// What a piston would move.
 #[derive(Drop)]

@@ -4,7 +4,7 @@ use Rattle.std.specs.Prelude.{ℤ, int_lt}
 use Rattle.std.proofs.lemmas.Bool.{cases_Bool, and_parts, and_from, leb-true, le-leb, eqb-true, eq-eqb, false_from_ne_true, true≢false}
 use Rattle.std.proofs.lemmas.Int.{ints}
 use Rattle.vx_geom.specs.declared.pos.Pos.{Pos}
-use Rattle.vx_geom.specs.Sizes.{Sizes, height, span, is_inside}
+use Rattle.vx_geom.specs.Sizes.{Sizes, span, is_inside}
 use Rattle.vx_geom.proofs.Positions.{same_pos}
 use Rattle.vx_geom.proofs.SectorLemmas.{inside_at}
 use Rattle.vx_block.specs.declared.cell.Cell.{Cell}
@@ -51,15 +51,16 @@ module _ (c : ℤ) (steps count n : ℕ) where
 -- the components of a world around a position
 module _ (w : Pos → Cell) (v : Sizes) (p : Pos) (steps : ℕ) (q : Pos) (inside : is_inside v q ≡ true) where
   -- lie in layers within so many steps
-  pub near_layer : is_component_around w p steps q ≡ true
-      → (least_within p.y steps height ≤ layer_of q) × (layer_of q < end_within p.y steps height)
-  near_layer around =
+  pub near_layer : (count : ℕ) → count ≡ v.h → is_component_around w p steps q ≡ true
+      → (least_within p.y steps count ≤ layer_of q) × (layer_of q < end_within p.y steps count)
+  near_layer count many around =
       let at = inside_at v q inside in
       let all = leb-true (steps_between p q) steps (and_parts (is_around p steps q) _ around).0 in
       let in_y = ap (λ n. unsigned_abs (p.y -ℤ n)) at.y_is in
-      let near : unsigned_abs (p.y -ℤ pos (layer_of q)) ≤ steps = omega (arith, all, in_y) in (
-        least_near p.y steps height (layer_of q) at.y_below near,
-        end_near p.y steps height (layer_of q) at.y_below near,
+      let near : unsigned_abs (p.y -ℤ pos (layer_of q)) ≤ steps = omega (arith, all, in_y) in
+      let low : layer_of q < count = omega (arith, at.y_below, many) in (
+        least_near p.y steps count (layer_of q) low near,
+        end_near p.y steps count (layer_of q) low near,
       )
 
   module _ (y : ℕ) where

@@ -1,6 +1,7 @@
 //! What of each coordinate lies within so many steps.
 ghost use Rattle.std.specs.Prelude.{◌≡◌, ◌*◌, ◌<◌, ◌≤◌, pos, ◌-ℤ◌, unsigned_abs};
 ghost use Rattle.vx_geom.specs.Sizes.{span};
+ghost use Rattle.vx_geom.specs.declared.bounds.TheConstants.{HIGH_HEIGHT, MAX_COLUMNS_EACH_WAY};
 ghost use Rattle.vx_places.specs.Around.{least_within, end_within};
 
 use vx_geom::Bounds;
@@ -33,16 +34,25 @@ pub fn end_within(c: i32, steps: u32, count: u32) -> u32
 
 /// How many steps lead from a coordinate to a number.
 pub fn steps_along(c: i32, n: u32) -> u32
-    requires { n < 512 }
+    requires { n ≤ MAX_COLUMNS_EACH_WAY }
     ensures { result ≡ unsigned_abs (c -ℤ pos n) }
 {
     c.abs_diff(n as i32)
 }
 
+/// How many layers a world has.
+pub fn layers(bounds: Bounds) -> u32
+    ensures value { result ≡ bounds.h }
+    ensures most { result ≤ HIGH_HEIGHT }
+{
+    bounds.soundness();
+    bounds.height()
+}
+
 /// How many columns a world has from west to east.
 pub fn columns(bounds: Bounds) -> u32
     ensures value { result ≡ bounds.sx * span bounds }
-    ensures most { result ≤ 256 }
+    ensures most { result ≤ MAX_COLUMNS_EACH_WAY }
 {
     bounds.soundness();
     bounds.west(bounds.sectors() - 1) + bounds.span()
@@ -51,7 +61,7 @@ pub fn columns(bounds: Bounds) -> u32
 /// How many rows it has from north to south.
 pub fn rows(bounds: Bounds) -> u32
     ensures value { result ≡ bounds.sz * span bounds }
-    ensures most { result ≤ 256 }
+    ensures most { result ≤ MAX_COLUMNS_EACH_WAY }
 {
     bounds.soundness();
     bounds.north(bounds.sectors() - 1) + bounds.span()

@@ -1,21 +1,19 @@
 ghost use Rattle.std.specs.Prelude.{◌≡◌, ◌+◌, ◌*◌, ◌%◌, ◌<◌, ◌≤◌, ◌&&◌, ◌||◌, ℕ, pos, ◌-ℤ◌, unsigned_abs, false, true, nat_eq, nat_le, length, replicate, slice_index_or, if◌then◌else◌, None, Some, IfOk, OnOk, IfSome};
 ghost use Rattle.std.specs.List.{filter, list_any};
+ghost use Rattle.vx_geom.specs.declared.bounds.TheConstants.{HIGH_HEIGHT, MAX_COLUMNS_EACH_WAY};
 ghost use Rattle.vx_geom.specs.declared.pos.Pos.{Pos};
 ghost use Rattle.vx_geom.specs.Places.{positions};
-ghost use Rattle.vx_geom.specs.Sizes.{AreSizes, height, span, sector_count, sector_cells, is_inside};
+ghost use Rattle.vx_geom.specs.Sizes.{AreSizes, span, sector_count, sector_cells, is_inside};
 ghost use Rattle.vx_cells.specs.Maps.{cell_on};
 ghost use Rattle.vx_places.specs.Around.{is_component_around, at_number, layer_of, row_of, Adds};
 ghost use Rattle.vx_places.specs.Places.{marked_in, is_at, steps_between, HasRoom};
 
-use crate::around::{columns, end_within, least_within, rows, steps_along};
+use crate::around::{columns, end_within, layers, least_within, rows, steps_along};
 use std::alloc::{AllocError, Global};
 use std::marker::Model;
 use vx_cells::{Frozen, marked_places};
 use vx_geom::{Bounds, Pos};
 use vx_marks::Marks;
-
-// A world is so high.
-const HEIGHT: u32 = 64;
 
 /// A set of positions of a world, kept by sector. A sector where nothing was marked takes no memory
 /// beside its entry.
@@ -123,8 +121,9 @@ impl Places {
             && is_component_around (cell_on map.now) p steps q))) }
     {
         let steps = u32::from(steps);
-        let first = least_within(p.y, steps, HEIGHT);
-        for y in first..end_within(p.y, steps, HEIGHT) {
+        let count = layers(self.bounds());
+        let first = least_within(p.y, steps, count);
+        for y in first..end_within(p.y, steps, count) {
             self.mark_layer(alloc, map, p, steps, y)?;
         }
         Ok(())
@@ -140,7 +139,7 @@ impl Places {
         y: u32,
     ) -> Result<(), AllocError>
         requires few { steps ≤ 8 }
-        requires low { y < height }
+        requires low { y < HIGH_HEIGHT }
         requires near { unsigned_abs (p.y -ℤ pos y) ≤ steps }
         ensures sizes { self.new.sizes ≡ self.old.sizes }
         ensures marked { OnOk result (Adds
@@ -168,8 +167,8 @@ impl Places {
         z: u32,
     ) -> Result<(), AllocError>
         requires few { steps ≤ 8 }
-        requires low { y < height }
-        requires north { z < 256 }
+        requires low { y < HIGH_HEIGHT }
+        requires north { z < MAX_COLUMNS_EACH_WAY }
         requires near { unsigned_abs (p.y -ℤ pos y) + unsigned_abs (p.z -ℤ pos z) ≤ steps }
         ensures sizes { self.new.sizes ≡ self.old.sizes }
         ensures marked { OnOk result (Adds (at_number row_of

@@ -9,10 +9,7 @@ use crate::call::Call;
 use crate::spare::{copy_of, spare_for};
 use std::alloc::{AllocError, Global};
 use std::marker::Model;
-use vx_sector::{Cmd, Refusal, Reply, Seat, Sector};
-
-/// How many commands a sector records at most, in all its windows.
-const MAX_ENTRIES: u64 = 1_099_511_627_776;
+use vx_sector::{Cmd, MAX_ENTRIES, Refusal, Reply, Seat, Sector};
 
 /// The recorded calls of a player: a list for each sector, oldest first.
 #[derive(Drop)]

@@ -1,9 +1,10 @@
 -- What a header says keeps each sector of its world in its place.
-use Rattle.std.proofs.Common.{◌≡◌, ℕ, Bool, true, false, [], ◌∷◌, ◌++◌, Option, Some, None, option_map, if◌then◌else◌, not, ◌&&◌, ◌≤◌, is_some, refl, subst}
+use Rattle.std.proofs.Common.{◌≡◌, ℕ, Bool, true, false, [], ◌∷◌, ◌++◌, Option, Some, None, option_map, if◌then◌else◌, not, ◌&&◌, ◌≤◌, ◌%◌, ◌⊎◌, inl, inr, is_some, refl, subst, arith}
 use Rattle.std.specs.Option.{option_and_then, MatchOption}
-use Rattle.std.proofs.lemmas.Bool.{and_parts, leb-true}
+use Rattle.std.proofs.lemmas.Bool.{and_parts, or_cases, eqb-true, leb-true}
+use Rattle.vx_geom.specs.declared.bounds.TheConstants.{MAX_SECTORS_EACH_WAY, MAX_CHUNKS_EACH_WAY, LOW_HEIGHT, HIGH_HEIGHT}
 use Rattle.vx_geom.specs.Sizes.{AreSizes}
-use Rattle.vx_grammar.specs.ScriptLines.{Nothing, World, Player, Set, Act, Region, Tick, Explain, Together, End}
+use Rattle.vx_grammar.specs.ScriptLines.{is_height, Nothing, World, Player, Set, Act, Region, Tick, Explain, Together, End}
 use Rattle.vx_block.specs.Part.{part_cell}
 use Rattle.vx_cells.specs.Maps.{MapData}
 use Rattle.vx_cells.specs.Wholes.{bare, with_cell_on, IsMap}
@@ -13,22 +14,36 @@ use Rattle.vx_region.specs.Words.{is_amid}
 use Rattle.vx_script.specs.Headers.{with_size, with_cell_set, header_after}
 use Rattle.vx_script.specs.Openings.{IsOpening, SizesAreSound, HeadersKeepTerrain}
 
+-- a height that a line can say is that of a low world, or of a high one
+height_is : (h : ℕ) → is_height h ≡ true → (LOW_HEIGHT ≤ h) × (h ≤ HIGH_HEIGHT) × (h % LOW_HEIGHT ≡ 0)
+height_is h said = elim (or_cases _ _ said) [
+  | inl low ↦ let is = eqb-true h LOW_HEIGHT low in (omega (arith, is), omega (arith, is), omega (arith, is))
+  | inr high ↦ let is = eqb-true h HIGH_HEIGHT high in (omega (arith, is), omega (arith, is), omega (arith, is))
+]
+
 -- the sizes that a line can say
 pub sizes_are_sound : SizesAreSound
-sizes_are_sound sx sz s v said = by (is_amid 1 sx 8) (is_amid 1 sz 8) (is_amid 1 s 2) refl refl refl said
+sizes_are_sound sx sz s h v said =
+    by (is_amid 1 sx MAX_SECTORS_EACH_WAY) (is_amid 1 sz MAX_SECTORS_EACH_WAY) (is_amid 1 s MAX_CHUNKS_EACH_WAY) (is_height h)
+    refl refl refl refl said
   where
-    by : (a b c : Bool) → is_amid 1 sx 8 ≡ a → is_amid 1 sz 8 ≡ b → is_amid 1 s 2 ≡ c
-        → (if (a && b) && c then Some (record { sx = sx; sz = sz; s = s }) else None) ≡ Some v → AreSizes v
-    by true true true one two three said =
-        let x = amid sx one in let z = amid sz two in let t = amid s three in
-        let same : record { sx = sx; sz = sz; s = s } ≡ v = cc in
-        subst AreSizes same (record { sx_least = x.0; sx_most = x.1; sz_least = z.0; sz_most = z.1; s_least = t.0; s_most = t.1 })
+    by : (a b c d : Bool) → is_amid 1 sx MAX_SECTORS_EACH_WAY ≡ a → is_amid 1 sz MAX_SECTORS_EACH_WAY ≡ b
+        → is_amid 1 s MAX_CHUNKS_EACH_WAY ≡ c → is_height h ≡ d
+        → (if (a && b) && (c && d) then Some (record { sx = sx; sz = sz; s = s; h = h }) else None) ≡ Some v → AreSizes v
+    by true true true true one two three four said =
+        let x = amid sx one in let z = amid sz two in let t = amid s three in let tall = height_is h four in
+        let same : record { sx = sx; sz = sz; s = s; h = h } ≡ v = cc in
+        subst AreSizes same (record {
+          sx_least = x.0; sx_most = x.1; sz_least = z.0; sz_most = z.1; s_least = t.0; s_most = t.1;
+          h_least = tall.0; h_most = tall.1.0; h_whole = tall.1.1;
+        })
       where
         amid : {most : ℕ} (n : ℕ) → is_amid 1 n most ≡ true → (1 ≤ n) × (n ≤ most)
         amid n inside = let parts = and_parts _ _ inside in (leb-true _ _ parts.0, leb-true _ _ parts.1)
-    by true true false one two three said = cc
-    by true false c one two three said = cc
-    by false b c one two three said = cc
+    by true true true false one two three four said = cc
+    by true true false d one two three four said = cc
+    by true false c d one two three four said = cc
+    by false b c d one two three four said = cc
 
 pub headers_keep_terrain : HeadersKeepTerrain
 unfolding header_after with_cell_set

@@ -11,7 +11,7 @@ IsOpening o = MatchOption o.terrain (Unit {0}) IsMap
 
 -- the sizes that a `world` line can say are those of a world
 abbrev pub SizesAreSound : Type 0
-SizesAreSound = (sx sz s : ℕ) (v : Sizes) → sizes_of sx sz s ≡ Some v → AreSizes v
+SizesAreSound = (sx sz s h : ℕ) (v : Sizes) → sizes_of sx sz s h ≡ Some v → AreSizes v
 
 -- if a line says a size, it is that of a world
 abbrev pub HasSizes : Said → Type 0

@@ -1,6 +1,7 @@
 //! A script whose world is made: the lines of its body, played in a session.
 ghost use Rattle.std.specs.Prelude.{◌≡◌, ℕ, ◌+◌, true, false, ◌*◌, ◌<◌, ◌≤◌, ◌∷◌, [], length, map, Ok, Err, None, Some, IfSome, IfOk, IfErr, OnOk, option_map};
 ghost use Rattle.std.specs.Io.KnownBytes.{prepend_known};
+ghost use Rattle.vx_step.specs.declared.workers.TheConstants.{MAX_WORKERS};
 ghost use Rattle.vx_grammar.specs.ScriptLines.{said};
 ghost use Rattle.vx_lines.specs.Reading.{pending};
 ghost use Rattle.vx_audit.specs.Audits.{record_in};
@@ -62,7 +63,7 @@ pub fn play<
     requires names { (length opening.names ≡ B.all) × (B.parts ≡ 2 * B.all) }
     requires first { opening.policy ≡ A.first }
     requires edits { edits ≡ A.edits }
-    requires workers { (0 < workers) × (workers ≤ 8) }
+    requires workers { (0 < workers) × (workers ≤ MAX_WORKERS) }
     requires number { IfSome first (λ _. number ≡ lines.old.number) }
     ensures ok { OnOk result (IfSome (prepend_known (pending lines.old) (R.remaining reader.old))
         (λ rest. WroteBody opening json number (body_lines (option_map said first) rest)

@@ -1,5 +1,6 @@
 ghost use Rattle.std.specs.Prelude.{◌≡◌, ◌≢◌, ◌+◌, ◌<◌, ◌≤◌, length, Ok, Err, None, Some, IfSome, IfOk, IfErr, OnOk, option_map};
 ghost use Rattle.std.specs.Io.KnownBytes.{Keeps, prepend_known};
+ghost use Rattle.vx_step.specs.declared.workers.TheConstants.{MAX_WORKERS};
 ghost use Rattle.vx_grammar.specs.ScriptLines.{said};
 ghost use Rattle.vx_lines.specs.Reading.{pending};
 ghost use Rattle.vx_lines.specs.declared.input.TheConstants.{MAX_SCRIPT_BYTES};
@@ -39,7 +40,7 @@ pub fn run<T: Threads + Wait + Sync, R: Read, W: Write>(
     workers: usize,
     json: bool,
 ) -> Result<(), Fault>
-    requires workers { (0 < workers) × (workers ≤ 8) }
+    requires workers { (0 < workers) × (workers ≤ MAX_WORKERS) }
     ensures ok { OnOk result (IfSome (R.remaining reader.old) (λ script.
         Wrote policy json script None (W.contents writer.old) (W.contents writer.new))) }
     ensures err { (fault : Fault) → result ≡ Err fault → IsOwn fault
@@ -65,7 +66,7 @@ fn run_script<T: Threads + Wait + Sync, R: Read, W: Write>(
     workers: usize,
     json: bool,
 ) -> Result<(), Fault>
-    requires workers { (0 < workers) × (workers ≤ 8) }
+    requires workers { (0 < workers) × (workers ≤ MAX_WORKERS) }
     ensures ok { OnOk result (IfSome (R.remaining reader.old) (λ script.
         Wrote policy json script None (W.contents writer.old) (W.contents writer.new))) }
     ensures err { (fault : Fault) → result ≡ Err fault → IsOwn fault
@@ -112,7 +113,7 @@ fn end_header<T: Threads + Wait + Sync, R: Read, W: Write>(
     workers: usize,
     json: bool,
 ) -> Result<(), Fault>
-    requires workers { (0 < workers) × (workers ≤ 8) }
+    requires workers { (0 < workers) × (workers ≤ MAX_WORKERS) }
     ensures ok { OnOk result (IfSome (prepend_known (pending lines.old) (R.remaining reader.old))
         (λ rest. WroteBare policy json header (lines.old.number + 1) None
         (W.contents writer.old) (W.contents writer.new))) }
@@ -145,7 +146,7 @@ fn begin<T: Threads + Wait + Sync, R: Read, W: Write>(
     workers: usize,
     json: bool,
 ) -> Result<(), Fault>
-    requires workers { (0 < workers) × (workers ≤ 8) }
+    requires workers { (0 < workers) × (workers ≤ MAX_WORKERS) }
     requires number { IfSome first (λ _. number ≡ lines.old.number) }
     ensures ok { OnOk result (IfSome (prepend_known (pending lines.old) (R.remaining reader.old))
         (λ rest. WroteWorld policy json header number (body_lines (option_map said first) rest) None

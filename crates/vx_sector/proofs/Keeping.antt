@@ -30,7 +30,7 @@ use Rattle.vx_sector.specs.declared.refusal.Refusal.TheVariants.{Occupied, Nothi
 use Rattle.vx_sector.proofs.ActingLemmas.{refusal_leaves_cells}
 use Rattle.vx_cells.proofs.Copying.{is_block_at}
 use Rattle.vx_sector.proofs.Outside.{elsewhere_is_refused, full_is_refused, answered_by_the_rules}
-use Rattle.vx_sector.proofs.Transfers.{none_first, not_so, not_hindered, yes, neither, a_lever, below_27, more_in, fewer_in, of_item, was_slot}
+use Rattle.vx_sector.proofs.Transfers.{none_first, not_so, not_hindered, yes, neither, a_lever, is_slot_number, more_in, fewer_in, of_item, was_slot}
 
 -- a command leaves the cells, or nothing stands in its way and it does what it does
 module _ (P : SectorCells → Type 0) (s : SectorData) (seat : SeatData) (cmd : Cmd) (before : P s.cells) (done : holds s.cells (place_of cmd) ≡ true → hindrance s.cells cmd ≡ None → P (applied s.cells (place_of cmd) (effect_of s.cells cmd))) where
@@ -87,7 +87,7 @@ module _ (c : SectorCells) (p : Pos) (slot : ℕ) (whole : IsWhole c) where
       let other = none_first _ _ number.1 in
       let bad = neither _ _ (not_so _ _ (none_first _ _ other.1).0) in
       let there = yes _ (not_so _ _ chest.0) in
-      let near = below_27 slot (not_so _ _ number.0) in
+      let near = is_slot_number slot (not_so _ _ number.0) in
       let low = slot_at c p slot in
       (more_in item count low (was_slot c p slot whole there near) (of_item item low (not_so _ _ other.0)) bad.0 bad.1).high_slot
 
@@ -97,7 +97,7 @@ module _ (c : SectorCells) (p : Pos) (slot : ℕ) (whole : IsWhole c) where
       let number = none_first _ _ chest.1 in
       let bad = neither _ _ (not_so _ _ (none_first _ _ number.1).0) in
       let there = yes _ (not_so _ _ chest.0) in
-      let near = below_27 slot (not_so _ _ number.0) in
+      let near = is_slot_number slot (not_so _ _ number.0) in
       let high = slot_at c p slot in
       (fewer_in count high (was_slot c p slot whole there near) bad.0 bad.1).1.low_slot
 

@@ -1,7 +1,8 @@
 -- What commands that the rules allow do to the cell and the slots at their position.
-use Rattle.std.proofs.Common.{◌≡◌, ◌≢◌, ℕ, ◌+◌, ◌-◌, ◌<◌, ◌≤◌, Bool, true, false, not, ◌||◌, nat_eq, nat_lt, List, ◌∷◌, length, get_or, Option, Some, None, Ok, Err, if◌then◌else◌, refl, ap, sym, ◌∙◌, subst, rules, arith}
-use Rattle.std.proofs.lemmas.Bool.{eqb-true, eqb-false, ltb-false}
+use Rattle.std.proofs.Common.{◌≡◌, ◌≢◌, ℕ, ◌+◌, ◌-◌, ◌<◌, ◌≤◌, Bool, true, false, not, ◌||◌, nat_eq, nat_le, nat_lt, List, ◌∷◌, length, get_or, Option, Some, None, Ok, Err, if◌then◌else◌, refl, ap, sym, ◌∙◌, subst, rules, arith}
+use Rattle.std.proofs.lemmas.Bool.{eqb-true, eqb-false, leb-false, ltb-false}
 use Rattle.std.proofs.lemmas.List.{get_or-set_same, get_or-set_other}
+use Rattle.vx_cells.specs.declared.stack.TheConstants.{SLOTS}
 use Rattle.vx_geom.specs.declared.dir.Dir.{Dir}
 use Rattle.vx_geom.specs.declared.pos.Pos.{Pos}
 use Rattle.vx_geom.specs.Sizes.{AreSizes}
@@ -74,15 +75,15 @@ of_item item None other = tt
 of_item item (Some stack) other = eqb-true _ _ (yes _ other)
 
 -- a slot of a chest, and what it holds
-module _ (c : SectorCells) (p : Pos) (slot : ℕ) (whole : IsWhole c) (chest : is_chest (cell_at c p) ≡ true) (near : slot < 27) where
+module _ (c : SectorCells) (p : Pos) (slot : ℕ) (whole : IsWhole c) (chest : is_chest (cell_at c p) ≡ true) (near : slot < SLOTS) where
   within : slot < length (slots_at c p)
-  within = let count : length (slots_at c p) ≡ 27 = rw chest at (is_block_at c p whole).slots in omega (arith, near, count)
+  within = let count : length (slots_at c p) ≡ SLOTS = rw chest at (is_block_at c p whole).slots in omega (arith, near, count)
 
   pub was_slot : IsSlot (slot_at c p slot)
   was_slot = (is_block_at c p whole).each slot None within
 
 -- a slot of the chest at a position has something else
-module _ (c : SectorCells) (p : Pos) (slot : ℕ) (content : Option Stack) (sizes : AreSizes c.bounds) (whole : IsWhole c) (held : holds c p ≡ true) (chest : is_chest (cell_at c p) ≡ true) (near : slot < 27) where
+module _ (c : SectorCells) (p : Pos) (slot : ℕ) (content : Option Stack) (sizes : AreSizes c.bounds) (whole : IsWhole c) (held : holds c p ≡ true) (chest : is_chest (cell_at c p) ≡ true) (near : slot < SLOTS) where
   block_there : block_at (with_slot c p slot content) p ≡ with_content (block_at c p) slot content
   block_there = set_block_is_read c p (with_content (block_at c p) slot content) sizes whole held
 
@@ -96,8 +97,8 @@ module _ (c : SectorCells) (p : Pos) (slot : ℕ) (content : Option Stack) (size
     others = λ k other. ap (λ b. get_or b.slots k None) block_there ∙ get_or-set_other (slots_at c p) slot k content None other;
   }
 
-pub below_27 : (slot : ℕ) → nat_lt 26 slot ≡ false → slot < 27
-below_27 slot h = let most = ltb-false 26 slot h in omega (arith, most)
+pub is_slot_number : (slot : ℕ) → nat_le SLOTS slot ≡ false → slot < SLOTS
+is_slot_number slot h = leb-false SLOTS slot h
 
 -- what is put into a slot
 pub more_in : (item count : ℕ) (low : Option Stack) → IsSlot low → IsOf item low → nat_eq count 0 ≡ false → nat_lt most_count (count_in low + count) ≡ false
@@ -136,7 +137,7 @@ putting_adds_so_many regions before seat p slot item count reply asked =
     let other = none_first _ _ number.1 in
     let bad = neither _ _ (not_so _ _ (none_first _ _ other.1).0) in
     let there = yes _ (not_so _ _ chest.0) in
-    let near = below_27 slot (not_so _ _ number.0) in
+    let near = is_slot_number slot (not_so _ _ number.0) in
     let low = slot_at before p slot in
     let content = with_more item count low in
     let held = more_in item count low (was_slot before p slot asked.whole there near) (of_item item low (not_so _ _ other.0)) bad.0 bad.1 in (
@@ -150,7 +151,7 @@ taking_leaves_so_many_fewer regions before seat p slot count reply asked =
     let number = none_first _ _ chest.1 in
     let bad = neither _ _ (not_so _ _ (none_first _ _ number.1).0) in
     let there = yes _ (not_so _ _ chest.0) in
-    let near = below_27 slot (not_so _ _ number.0) in
+    let near = is_slot_number slot (not_so _ _ number.0) in
     let high = slot_at before p slot in
     let content = with_fewer count high in
     let held = fewer_in count high (was_slot before p slot asked.whole there near) bad.0 bad.1 in (

@@ -1,6 +1,7 @@
-use Rattle.std.specs.Prelude.{◌≡◌, ℕ, ◌+◌, ◌<◌, Bool, true, false, not, ◌||◌, nat_lt, nat_eq, if◌then◌else◌, slice_index_or, List, [], ◌∷◌, Option, Some, None, Result, Ok, Err}
+use Rattle.std.specs.Prelude.{◌≡◌, ℕ, ◌+◌, ◌<◌, Bool, true, false, not, ◌||◌, nat_le, nat_lt, nat_eq, if◌then◌else◌, slice_index_or, List, [], ◌∷◌, Option, Some, None, Result, Ok, Err}
 use Rattle.std.specs.List.{list_any}
 use Rattle.std.specs.Option.{option_and_then}
+use Rattle.vx_cells.specs.declared.stack.TheConstants.{SLOTS}
 use Rattle.vx_geom.specs.declared.pos.Pos.{Pos}
 use Rattle.vx_flag.specs.declared.action.Action.{Action}
 use Rattle.vx_flag.specs.declared.action.Action.TheVariants.{Placing, Breaking, Turning, Reaching}
@@ -99,13 +100,13 @@ hindrances c (Turn p) = refuse_if (not (is_lever (cell_at c p))) NotLever ∷ []
 hindrances c (OpenChest p) = refuse_if (not (is_chest (cell_at c p))) NotChest ∷ []
 hindrances c (Put p slot item count) =
     refuse_if (not (is_chest (cell_at c p))) NotChest
-    ∷ refuse_if (nat_lt 26 slot) NoSlot
+    ∷ refuse_if (nat_le SLOTS slot) NoSlot
     ∷ refuse_if (holds_other item (slot_at c p slot)) OtherItem
     ∷ refuse_if (nat_eq count 0 || nat_lt most_count (count_in (slot_at c p slot) + count)) BadCount
     ∷ []
 hindrances c (Take p slot count) =
     refuse_if (not (is_chest (cell_at c p))) NotChest
-    ∷ refuse_if (nat_lt 26 slot) NoSlot
+    ∷ refuse_if (nat_le SLOTS slot) NoSlot
     ∷ refuse_if (nat_eq count 0 || nat_lt (count_in (slot_at c p slot)) count) BadCount
     ∷ []
 
@@ -168,7 +169,7 @@ permitted_effect c cmd = ok_unless (hindrance c cmd) (effect_of c cmd)
 -- what is done fits what stands at the position: a slot is one of a chest there, and may hold what
 -- it is to hold
 abbrev pub Fits : SectorCells → Pos → Effect → Type 0
-Fits c p (NewSlot slot content) = (is_chest (cell_at c p) ≡ true) × (slot < 27) × IsSlot content
+Fits c p (NewSlot slot content) = (is_chest (cell_at c p) ≡ true) × (slot < SLOTS) × IsSlot content
 Fits c p _ = Unit {0}
 
 -- the answer that the rules give to a command of a seat: a denial first, then what stands in its

@@ -1,4 +1,5 @@
-use Rattle.std.specs.Prelude.{◌≡◌, ℕ, ◌+◌, ◌≤◌, ◌^◌, Bool, true, false, not, nat_le, if◌then◌else◌, List, [], ◌∷◌, ◌++◌, length, Result, Ok, Err}
+use Rattle.std.specs.Prelude.{◌≡◌, ℕ, ◌+◌, ◌≤◌, Bool, true, false, not, nat_le, if◌then◌else◌, List, [], ◌∷◌, ◌++◌, length, Result, Ok, Err}
+use Rattle.vx_sector.specs.declared.sector.TheConstants.{MAX_ENTRIES}
 use Rattle.vx_block.specs.declared.cell.Cell.{Cell}
 use Rattle.vx_cells.specs.SectorCells.{SectorCells, holds, with_cell}
 use Rattle.vx_geom.specs.declared.pos.Pos.{Pos}
@@ -32,7 +33,7 @@ HoldsPlaces c (entry ∷ entries) = (holds c (place_of entry.cmd) ≡ true) × H
 
 -- how many entries a sector records
 abbrev pub most_entries : ℕ
-most_entries = 2 ^ 40
+most_entries = MAX_ENTRIES
 
 -- how many entries were recorded, in closed windows too
 abbrev pub count_of : SectorData → ℕ

@@ -1,6 +1,7 @@
 //! What is shown of a chest, put into it and taken out of it.
-ghost use Rattle.std.specs.Prelude.{◌≡◌, ◌<◌, true, not, nat_lt, [], ◌∷◌, IfOk, MatchResult, Some};
+ghost use Rattle.std.specs.Prelude.{◌≡◌, ◌<◌, true, not, nat_le, [], ◌∷◌, IfOk, MatchResult, Some};
 ghost use Rattle.std.specs.List.{All, list_any};
+ghost use Rattle.vx_cells.specs.declared.stack.TheConstants.{SLOTS};
 ghost use Rattle.vx_cells.specs.SectorCells.{IsWhole, IsSlot, is_chest, holds, cell_at};
 ghost use Rattle.vx_sector.specs.Slots.{count_in, is_filled, holds_other};
 ghost use Rattle.vx_sector.specs.Acting.{refuse_if, ok_unless, first_some, hindrance, permitted_effect, Fits, slots_at, slot_at};
@@ -85,10 +86,10 @@ pub fn any_filled(slots: &[Slot]) -> bool
 fn content_of(cells: &Cells, p: Pos, slot: u8) -> Result<Slot, Refusal>
     requires { holds cells.now p ≡ true }
     ensures { MatchResult result
-        (λ content. (is_chest (cell_at cells.now p) ≡ true) × (slot < 27)
+        (λ content. (is_chest (cell_at cells.now p) ≡ true) × (slot < SLOTS)
         × (content ≡ slot_at cells.now p slot) × IsSlot content)
         (λ refusal. first_some (refuse_if (not (is_chest (cell_at cells.now p))) Refusal.NotChest
-        ∷ refuse_if (nat_lt 26 slot) Refusal.NoSlot ∷ []) ≡ Some refusal) }
+        ∷ refuse_if (nat_le SLOTS slot) Refusal.NoSlot ∷ []) ≡ Some refusal) }
 {
     let slots = opening(cells, p)?;
     let index = usize::from(slot);

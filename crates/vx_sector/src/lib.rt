@@ -28,4 +28,4 @@ pub use laws::{
 pub use refusal::Refusal;
 pub use reply::Reply;
 pub use seat::Seat;
-pub use sector::Sector;
+pub use sector::{MAX_ENTRIES, Sector};

@@ -1,4 +1,5 @@
 ghost use Rattle.std.specs.Prelude.{◌≡◌, ◌≢◌, ◌≤◌, ◌<◌, ◌⊎◌, ◌↔◌, true, false, map, Ok, Err, IfOk, IfErr, OnOk, OnErr};
+ghost use Rattle.vx_cells.specs.declared.stack.TheConstants.{SLOTS};
 ghost use Rattle.vx_block.specs.Part.{part_cell};
 ghost use Rattle.vx_cells.specs.SectorCells.{IsSlot, holds, is_chest, cell_at, with_cell, with_slot};
 ghost use Rattle.vx_sector.specs.Acting.{rules_answer, effect_by, Fits};
@@ -25,7 +26,7 @@ use vx_geom::Pos;
 use vx_policy::Version;
 
 /// How many commands a sector records at most, in all its windows.
-const MAX_ENTRIES: u64 = 1_099_511_627_776;
+pub const MAX_ENTRIES: u64 = 1_099_511_627_776;
 
 /// One sector of the world: its cells, the version of the policy that judges the commands of its
 /// window, and their record.
@@ -293,7 +294,7 @@ fn put_down(cells: &mut Cells, p: Pos, cell: Cell) -> Result<(), Refusal>
 fn put_slot(cells: &mut Cells, p: Pos, slot: u8, content: Slot) -> Result<(), Refusal>
     requires held { holds cells.old p ≡ true }
     requires chest { is_chest (cell_at cells.old p) ≡ true }
-    requires slot { slot < 27 }
+    requires slot { slot < SLOTS }
     requires content { IsSlot content }
     ensures ok { OnOk result (cells.new ≡ with_slot cells.old p slot content) }
     ensures err { OnErr result (cells.new ≡ cells.old) }

@@ -5,9 +5,11 @@
 mod options;
 
 ghost use Rattle.std.specs.Prelude.{◌<◌, ◌≤◌};
+ghost use Rattle.vx_step.specs.declared.workers.TheConstants.{MAX_WORKERS};
 
 use clap::error::ErrorKind;
-use options::{JSON, MAX_WORKERS, REGIONS, WORKERS, command};
+use options::{JSON, REGIONS, WORKERS, command};
+use vx_step::MAX_WORKERS;
 use std::io::BufWriter;
 use std::process::ExitCode;
 use std::sync::Wait;
@@ -51,7 +53,7 @@ fn serve<T: Threads + Wait + Sync>(rt: &HostRuntime, threads: &T) -> Result<u8, 
                 rt,
                 threads,
                 policy,
-                workers.clamp(1, MAX_WORKERS),
+                workers.clamp(1, MAX_WORKERS as u8),
                 matches.get_flag(JSON),
             )?;
             Ok(0)
@@ -112,7 +114,7 @@ fn play<T: Threads + Wait + Sync>(
     workers: u8,
     json: bool,
 ) -> Result<(), Fault>
-    requires { (0 < workers) × (workers ≤ 8) }
+    requires { (0 < workers) × (workers ≤ MAX_WORKERS) }
 {
     let mut input = rt.stdin();
     let mut output = BufWriter::with_capacity(rt.alloc(), OUTPUT_BYTES, io::writer(rt)).map_err(

@@ -1,6 +1,7 @@
 //! The command line of the server.
 use clap::{Arg, ArgAction, Command, value_parser};
 use std::alloc::{AllocError, Global};
+use vx_step::MAX_WORKERS;
 
 /// The option whose value is the path of a regions file.
 pub const REGIONS: &str = "regions";
@@ -10,9 +11,6 @@ pub const WORKERS: &str = "workers";
 
 /// The option that asks for the record of all calls.
 pub const JSON: &str = "json";
-
-/// So many threads may work a tick at most.
-pub const MAX_WORKERS: u8 = 8;
 
 const ABOUT: &str = "\
 Plays the script that comes on standard input, in a world of blocks whose land is protected by
@@ -51,7 +49,7 @@ pub fn command<'a>(alloc: Global) -> Result<Command<'a>, AllocError> {
     let workers = Arg::new(alloc, WORKERS)
         .long(WORKERS)
         .value_name("N")
-        .value_parser(value_parser!(u8).range(1..=i64::from(MAX_WORKERS)))
+        .value_parser(value_parser!(u8).range(1..=MAX_WORKERS as i64))
         .help(WORKERS_HELP);
     let json = Arg::new(alloc, JSON)
         .long(JSON)

@@ -1,5 +1,6 @@
 //! How a session begins.
 ghost use Rattle.std.specs.Prelude.{◌≡◌, ◌+◌, ◌*◌, ◌<◌, ◌≤◌, [], length, IfOk};
+ghost use Rattle.vx_step.specs.declared.workers.TheConstants.{MAX_WORKERS};
 ghost use Rattle.vx_session.specs.Sessions.{IsOf, opening_of, ticks_of};
 
 use crate::player::players_of;
@@ -27,7 +28,7 @@ impl<A: Places, B: Seats> Session<A, B> {
         requires names { (length opening.names ≡ B.all) × (B.parts ≡ 2 * B.all) }
         requires first { opening.policy ≡ A.first }
         requires view { view ≡ [] }
-        requires workers { (0 < workers) × (workers ≤ 8) }
+        requires workers { (0 < workers) × (workers ≤ MAX_WORKERS) }
         ensures nothing { IfOk result (IsOf []) }
         ensures opening { IfOk result (λ session. opening_of session ≡ opening) }
         ensures ticks { IfOk result (λ session. ticks_of session ≡ 0) }

@@ -45,6 +45,7 @@ pub struct Session<A: Places, B: Seats> {
 impl<A: Places, B: Seats> Model for Session<A, B> {
     ghost use Rattle.std.specs.Prelude.{◌≡◌, ◌+◌, ◌*◌, ◌<◌, ◌≤◌, map};
     ghost use Rattle.vx_session.specs.Sessions.{SessionData, IsSession, edits_to, player_in, session_data};
+    ghost use Rattle.vx_step.specs.declared.workers.TheConstants.{MAX_WORKERS};
 
     ghost Value = { SessionData };
 
@@ -54,7 +55,7 @@ impl<A: Places, B: Seats> Model for Session<A, B> {
     ghost invariant = { λ s. IsSession (session_data s.bounds s.keeper
         (map player_in s.players.items) (edits_to s.last) s.marks.items)
         × (s.world.bounds ≡ s.bounds)
-        × (0 < s.workers) × (s.workers ≤ 8)
+        × (0 < s.workers) × (s.workers ≤ MAX_WORKERS)
         × (A.parts ≡ A.all + B.all) × (B.parts ≡ 2 * B.all) };
 }
 

@@ -16,10 +16,8 @@ use crate::session_error::SessionError;
 use std::alloc::Global;
 use vx_audit::follow;
 use vx_keeper::Places;
+use vx_sector::MAX_ENTRIES;
 use vx_world::{Report, Seats};
-
-/// So many calls may be on record at most.
-const MOST_CALLS: u64 = 1_099_511_627_776;
 
 impl<A: Places, B: Seats> Session<A, B> {
     /// Ends the session, and hands out the record of its world. Whatever deeds it was, they are a
@@ -44,7 +42,7 @@ impl<A: Places, B: Seats> Session<A, B> {
             Ok(report) => report,
             Err(unsettled) => return Err(SessionError::from(unsettled.error)),
         };
-        if MOST_CALLS < report.calls() || count_of(&last) < report.version.edits {
+        if MAX_ENTRIES < report.calls() || count_of(&last) < report.version.edits {
             return Err(SessionError::elsewhere());
         }
         match follow(

@@ -25,3 +25,4 @@ pub use point::Point;
 pub use shares::{each_share, in_parts, sectors_of};
 pub use vx_tick::{Fate, Phase, Plan, fates, plan, step_owned, step_plain};
 pub use work::Work;
+pub use workers::MAX_WORKERS;

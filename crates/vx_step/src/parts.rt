@@ -1,6 +1,7 @@
 //! A tick over the whole map, on several threads.
 ghost use Rattle.std.specs.Prelude.{◌≡◌, ◌<◌, ◌≤◌, map, IfOk};
 ghost use Rattle.std.specs.List.{flat_map};
+ghost use Rattle.vx_step.specs.declared.workers.TheConstants.{MAX_WORKERS};
 ghost use Rattle.vx_geom.specs.Sizes.{sector_count};
 ghost use Rattle.vx_cells.specs.Maps.{AreSectors};
 ghost use Rattle.vx_step.specs.Shares.{AreFromTo};
@@ -36,7 +37,7 @@ pub fn step_parts<R: Threads + Sync, G: Gate + Sync>(
     gate: &G,
 ) -> Result<(Whole, Vec<(Pos, Fate)>), AllocError>
     requires map { AreSectors bounds cells.now }
-    requires workers { (0 < workers) × (workers ≤ 8) }
+    requires workers { (0 < workers) × (workers ≤ MAX_WORKERS) }
     ensures map { IfOk result (λ after. after.0
         ≡ stepped version.now.policy (record { sizes = bounds; sectors = cells.now })) }
     ensures fates { IfOk result (λ after. after.1.items

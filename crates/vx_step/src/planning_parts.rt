@@ -1,6 +1,7 @@
 //! A tick of a map that is only read, on several threads.
 ghost use Rattle.std.specs.Prelude.{◌≡◌, ◌<◌, ◌≤◌, false, IfOk, IfSome};
 ghost use Rattle.std.specs.List.{All};
+ghost use Rattle.vx_step.specs.declared.workers.TheConstants.{MAX_WORKERS};
 ghost use Rattle.vx_cells.specs.SectorCells.{is_chest};
 ghost use Rattle.vx_cells.specs.Wholes.{with_cells_on};
 ghost use Rattle.vx_geom.specs.Sizes.{sector_count};
@@ -45,7 +46,7 @@ pub fn plan_parts<R: Threads + Sync, G: Gate + Sync>(
     gate: &G,
 ) -> Result<(Plan, Watch), AllocError>
     requires watch { IfSome watch (λ watch. IsWatch map.now (with_written watch written.now)) }
-    requires workers { (0 < workers) × (workers ≤ 8) }
+    requires workers { (0 < workers) × (workers ≤ MAX_WORKERS) }
     ensures puts { IfOk result (λ done.
         stepped version.now.policy map.now ≡ with_cells_on map.now done.0.puts.items) }
     ensures fates { IfOk result (λ done.

@@ -1,6 +1,7 @@
 //! Work shared among threads.
 ghost use Rattle.std.specs.Prelude.{◌≡◌, ◌<◌, ◌≤◌, ◌+◌, ◌*◌, ◌/◌, ℕ, length, slice_index_or, IfOk};
 ghost use Rattle.std.specs.List.{between};
+ghost use Rattle.vx_step.specs.declared.workers.TheConstants.{MAX_WORKERS};
 ghost use Rattle.vx_step.specs.Shares.{first_of, AreFromTo, IsShare};
 
 use crate::gate::Gate;
@@ -21,7 +22,7 @@ pub fn in_parts<R: Threads + Sync, W: Work + Sync, G: Gate + Sync>(
 ) -> Result<Vec<W::Out>, AllocError>
 where
     W::Out: Send + Drop,
-    requires workers { (0 < workers) × (workers ≤ 8) }
+    requires workers { (0 < workers) × (workers ≤ MAX_WORKERS) }
     ensures { IfOk result (λ outs.
         AreFromTo (W.gives work.now) 0 (W.count work.now) outs.items) }
 {
@@ -43,7 +44,7 @@ pub fn each_share<R: Threads + Sync, W: Work + Sync, G: Gate + Sync>(
 ) -> Result<Vec<Result<Vec<W::Out>, AllocError>>, AllocError>
 where
     W::Out: Send + Drop,
-    requires workers { (0 < workers) × (workers ≤ 8) }
+    requires workers { (0 < workers) × (workers ≤ MAX_WORKERS) }
     ensures all { IfOk result (λ shares. length shares.items ≡ workers) }
     ensures each { IfOk result (λ shares. (i : ℕ) (d : _) → i < workers
         → IfOk (slice_index_or shares.items i d) (λ outs.
@@ -67,7 +68,7 @@ fn share<W: Work, G: Gate>(
 ) -> Result<Vec<W::Out>, AllocError>
 where
     W::Out: Drop,
-    requires workers { (worker < workers) × (workers ≤ 8) }
+    requires workers { (worker < workers) × (workers ≤ MAX_WORKERS) }
     ensures { IfOk result (λ outs.
         IsShare (W.gives work.now) (W.count work.now) workers worker outs.items) }
 {

@@ -1,4 +1,5 @@
 ghost use Rattle.std.specs.Prelude.{◌<◌, ◌≤◌, IfOk};
+ghost use Rattle.vx_step.specs.declared.workers.TheConstants.{MAX_WORKERS};
 ghost use Rattle.vx_step.specs.Shares.{AreFromTo};
 
 use crate::gate::Gate;
@@ -7,6 +8,9 @@ use crate::work::Work;
 use std::alloc::{AllocError, Global};
 use std::thread::Threads;
 
+/// A tick is worked by at most so many threads.
+pub const MAX_WORKERS: usize = 8;
+
 /// 1 to 8 threads that share out the sectors of a tick, with a gate that is called as each piece of
 /// a phase begins.
 #[derive(Drop)]
@@ -14,13 +18,13 @@ pub struct Workers<'a, R, G> {
     rt: &'a R,
     count: usize,
     gate: &'a G,
-    ghost few: { (0 < count) × (count ≤ 8) },
+    ghost few: { (0 < count) × (count ≤ MAX_WORKERS) },
 }
 
 impl<'a, R: Threads + Sync, G: Gate + Sync> Workers<'a, R, G> {
     /// So many threads.
     pub fn new(rt: &'a R, count: usize, gate: &'a G) -> Workers<'a, R, G>
-        requires { (0 < count) × (count ≤ 8) }
+        requires { (0 < count) × (count ≤ MAX_WORKERS) }
     {
         Workers { rt, count, gate }
     }

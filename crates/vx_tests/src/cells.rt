@@ -8,11 +8,11 @@ use std::process::Abort;
 use std::test::Fail;
 use vx_block::{Cell, Level};
 use vx_cells::{Cells, Slot, Stack};
-use vx_geom::{Bounds, Pos};
+use vx_geom::{Bounds, LOW_HEIGHT, Pos};
 
 // A sector of a world that is so many sectors wide, each of one chunk.
 fn sector(alloc: Global, sectors: u8, number: u32) -> Result<Cells, Fail> {
-    let bounds = Bounds::new(sectors, 1, 1).ok_or("no bounds")?;
+    let bounds = Bounds::new(sectors, 1, 1, LOW_HEIGHT).ok_or("no bounds")?;
     if number < bounds.sectors() {
         Ok(Cells::new(alloc, bounds, number)?)
     } else {

@@ -6,7 +6,7 @@ use std::test::Fail;
 use vx_decide::{Decide, Plain, Rule, Verdict};
 use vx_file::read_policy;
 use vx_flag::{Action, Flag};
-use vx_geom::{Bounds, Pos};
+use vx_geom::{Bounds, LOW_HEIGHT, Pos};
 use vx_index::{Cached, Indexed};
 use vx_region::{Name, RegionNo, RegionSet, Subject};
 
@@ -113,6 +113,6 @@ fn ann() -> Result<Subject, Fail> {
 }
 
 fn bounds() -> Result<Bounds, Fail> {
-    let bounds = Bounds::new(1, 1, 1).ok_or("no bounds")?;
+    let bounds = Bounds::new(1, 1, 1, LOW_HEIGHT).ok_or("no bounds")?;
     Ok(bounds)
 }

@@ -9,7 +9,7 @@ use vx_block::{Cell, Part};
 use vx_cells::Cells;
 use vx_decide::Rule;
 use vx_file::read_policy;
-use vx_geom::{Bounds, Pos};
+use vx_geom::{Bounds, LOW_HEIGHT, Pos};
 use vx_policy::{Policy, Version};
 use vx_region::{Name, RegionNo};
 use vx_sector::{Cmd, Entry, Fresh, Refusal, Reply, Seat, Sector};
@@ -171,7 +171,7 @@ fn opened(rt: &impl Abort, alloc: Global) -> Result<Sector, Fail> {
 }
 
 fn air(alloc: Global) -> Result<Cells, Fail> {
-    let bounds = Bounds::new(1, 1, 1).ok_or("no bounds")?;
+    let bounds = Bounds::new(1, 1, 1, LOW_HEIGHT).ok_or("no bounds")?;
     Ok(Cells::new(alloc, bounds, 0)?)
 }
 

@@ -3,7 +3,7 @@ use crate::same::same;
 use std::alloc::{AllocError, Global};
 use std::process::Abort;
 use std::test::Fail;
-use vx_geom::{Bounds, Dir, Pos, Shape, ShapeSpec};
+use vx_geom::{Bounds, Dir, LOW_HEIGHT, Pos, Shape, ShapeSpec};
 
 #[test]
 fn steps_lead_to_the_neighbor_and_not_past_the_ends(rt: HostRuntime) {
@@ -29,7 +29,7 @@ fn steps(rt: &impl Abort, dir: Dir, due: Pos, is_up: bool) {
 
 #[test]
 fn sectors_count_from_the_north_west(rt: HostRuntime) -> Result<(), Fail> {
-    let bounds = Bounds::new(3, 2, 2).ok_or("no bounds")?;
+    let bounds = Bounds::new(3, 2, 2, LOW_HEIGHT).ok_or("no bounds")?;
     same(
         &rt,
         &[bounds.sectors(), bounds.span(), bounds.sector_cells()],

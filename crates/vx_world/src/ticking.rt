@@ -1,6 +1,7 @@
 //! A tick of a world that threads share.
 ghost use Rattle.std.specs.List.{All};
 ghost use Rattle.std.specs.Prelude.{◌≡◌, ℕ, ◌↔◌, ◌<◌, ◌≤◌, [], true, length, map, vec_len, Err, IfOk, OnOk, OnErr};
+ghost use Rattle.vx_step.specs.declared.workers.TheConstants.{MAX_WORKERS};
 ghost use Rattle.vx_windows.specs.Limits.{most_ticks};
 ghost use Rattle.vx_sector.specs.Windows.{count_of};
 ghost use Rattle.vx_keeper.specs.Marks.{AreParts, IsPartOf};
@@ -34,7 +35,7 @@ impl<A: Places, B: Seats> World<A, B> {
         workers: usize,
         gate: &G,
     ) -> Result<Vec<(Pos, Fate)>, TickError>
-        requires workers { (0 < workers) × (workers ≤ 8) }
+        requires workers { (0 < workers) × (workers ≤ MAX_WORKERS) }
         ensures ok { IfOk result (λ fates.
             HasTicked A.first A.all keeper.old fates.items keeper.new) }
         ensures err { OnErr result (KnowsAsBefore keeper.old keeper.new) }
@@ -111,7 +112,7 @@ fn make<A: Places, R: Threads + Wait + Sync, G: Gate + Sync>(
     workers: usize,
     gate: &G,
 ) -> Result<Vec<(Pos, Fate)>, TickError>
-    requires workers { (0 < workers) × (workers ≤ 8) }
+    requires workers { (0 < workers) × (workers ≤ MAX_WORKERS) }
     requires all { vec_len taken.old.sectors ≡ A.all }
     requires parts { AreParts keeper.old.world taken.old.are_parts.items
         taken.old.sectors.items }
@@ -145,7 +146,7 @@ fn tick_of<A: Places, R: Threads + Wait + Sync, G: Gate + Sync>(
     workers: usize,
     gate: &G,
 ) -> Result<Vec<(Pos, Fate)>, TickError>
-    requires workers { (0 < workers) × (workers ≤ 8) }
+    requires workers { (0 < workers) × (workers ≤ MAX_WORKERS) }
     requires all { length sectors.old ≡ A.all }
     requires parts { AreParts keeper.old.world are_parts.now sectors.old }
     ensures ok { IfOk result (λ fates.

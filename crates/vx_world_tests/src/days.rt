@@ -10,7 +10,7 @@ use std::sync::Wait;
 use std::test::Fail;
 use std::thread::Threads;
 use vx_board::{Desk, Opened};
-use vx_geom::{Bounds, Pos};
+use vx_geom::{Bounds, LOW_HEIGHT, Pos};
 use vx_keeper::{Keeper, Places};
 use vx_policy::Policy;
 use vx_record::Opening;
@@ -65,7 +65,7 @@ fn opening(alloc: Global, day: Day) -> Result<Opening, Fail> {
 
 // Two sectors of air, without regions.
 fn empty(alloc: Global) -> Result<Opening, Fail> {
-    let bounds = Bounds::new(2, 1, 1).ok_or("no bounds")?;
+    let bounds = Bounds::new(2, 1, 1, LOW_HEIGHT).ok_or("no bounds")?;
     Ok(Opening::new(alloc, bounds, players(alloc)?, Policy::new(alloc)?)?)
 }
 

@@ -10,12 +10,12 @@ use std::thread::Threads;
 use vx_block::{Cell, Part};
 use vx_decide::Rule;
 use vx_file::read_policy;
-use vx_geom::{Bounds, Pos};
+use vx_geom::{Bounds, LOW_HEIGHT, Pos};
 use vx_keeper::{Keeper, Places};
 use vx_record::Opening;
 use vx_region::{Name, RegionNo};
 use vx_sector::{Cmd, Reply};
-use vx_step::NoGate;
+use vx_step::{MAX_WORKERS, NoGate};
 use vx_tick::Fate;
 use vx_world::{Pass, Seats, World};
 
@@ -37,7 +37,7 @@ const TOO_MUCH: i32 = 12;
 
 /// Three sectors, with these rows and regions.
 pub fn opening(alloc: Global, players: Vec<Name>) -> Result<Opening, Fail> {
-    let bounds = Bounds::new(3, 1, 1).ok_or("no bounds")?;
+    let bounds = Bounds::new(3, 1, 1, LOW_HEIGHT).ok_or("no bounds")?;
     let policy = read_policy(alloc, PLOTS.as_bytes())?;
     let mut opening = Opening::new(alloc, bounds, players, policy)?;
     build(&mut opening)?;
@@ -175,7 +175,7 @@ fn ticks<A: Places, B: Seats, R: Threads + Wait + Abort + Sync>(
     due: &[(Pos, Fate)],
 ) {
     let gate = Noting::new();
-    assert!(rt; 0 < workers && workers <= 8);
+    assert!(rt; 0 < workers && workers <= MAX_WORKERS);
     let Ok(fates) = world.tick(rt, alloc, keeper, workers, &gate) else {
         panic!(rt; "no tick");
     };

@@ -5,15 +5,17 @@ use Rattle.vx_geom.proofs.SectorLemmas.{inside_at}
 use Rattle.vx_cells.specs.Codes.{code_count, cell_of}
 use Rattle.std.specs.Arc.{arc_value}
 use Rattle.vx_cells.proofs.Indices.{inside_from_holds, index_below}
-use Rattle.vx_cells.proofs.Sectioned.{index_by_sides}
+use Rattle.vx_cells.proofs.Sectioned.{index_by_sides, layer_within}
 use Rattle.vx_cells.proofs.StoredCells.{cell-stored}
 use Rattle.vx_cells.proofs.stored.Stored.code.Goals as goal
 
 pub at-requires : goal.at-requires
 at-requires c =
+    let s = c.self.inside in
     let held = rw (← c.self.view_is) at c.requires in
-    let inside = inside_at c.self.inside.bounds c.args.p (inside_from_holds _ c.args.p held) in
-    omega (arith, ints, inside.y_is, inside.y_below, c.unsigned_abs-layer.ensures.value)
+    let inside = inside_at s.bounds c.args.p (inside_from_holds _ c.args.p held) in
+    let low = omega (arith, ints, inside.y_is, inside.y_below, c.unsigned_abs-layer.ensures.value) in
+    layer_within s.bounds (length s.store) _ c.soundness.ensures c.self.invariant.stored.whole low
 
 pub returns-clause-cell : goal.returns-clause-cell
 returns-clause-cell c =

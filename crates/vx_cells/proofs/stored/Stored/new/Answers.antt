@@ -13,7 +13,8 @@ invariant_of-result c =
     let n = sector_cells v in
     let store = c.in_ok-store.store in
     let count = c.sector_cells-count.ensures in
-    let codes = all_alike v c.soundness.ensures _ count store 0 c.in_ok-store.ensures in
+    let codes =
+    all_alike v c.soundness.ensures _ _ c.span.ensures c.height.ensures store 0 c.in_ok-store.ensures in
     let whole = whole_words v c.soundness.ensures in
     record {
       sector_low = c.requires;
@@ -29,5 +30,6 @@ invariant_of-result c =
 pub returns : goal.returns
 returns c =
     let v = c.args.bounds in
-    let codes = all_alike v c.soundness.ensures _ c.sector_cells-count.ensures c.in_ok-store.store 0 c.in_ok-store.ensures in
+    let codes =
+    all_alike v c.soundness.ensures _ _ c.span.ensures c.height.ensures c.in_ok-store.store 0 c.in_ok-store.ensures in
     fresh-stored v c.args.sector (sector_cells v) c.in_ok-store.store _ codes (c.in_ok-new.ensures.ok ∙ c.new-2.ensures) refl

@@ -3,6 +3,7 @@ use Rattle.std.specs.Int.{w32}
 use Rattle.std.proofs.lemmas.Bool.{cases_lt, true≢false}
 use Rattle.std.proofs.lemmas.Int.{ints, to_z-of_z}
 use Rattle.vx_geom.specs.Sizes.{Sizes, span}
+use Rattle.vx_geom.specs.declared.bounds.TheConstants.{MAX_COLUMNS_EACH_WAY}
 use Rattle.vx_geom.specs.declared.pos.Pos.{Pos}
 use Rattle.vx_geom.proofs.Positions.{same_pos}
 use Rattle.vx_cells.specs.Maps.{cell_on}
@@ -45,7 +46,7 @@ end c =
     ∙ ap (λ n. end_within n (left c) c.columns-count.result) (to_z-of_z w32 c.args.p.x in_x)
 
 -- no column ends past the last of a world
-within : (c : After-least_within-next) → c.end_within-end.result ≤ 256
+within : (c : After-least_within-next) → c.end_within-end.result ≤ MAX_COLUMNS_EACH_WAY
 within c = omega (
   arith,
   end c,

@@ -53,11 +53,11 @@ pub whole_words : (v : Sizes) → AreSizes v → sector_cells v % 64 ≡ 0
 whole_words v sizes = omega (arith, all_sections v sizes)
 
 -- a byte at each of these places
-pub all_alike : (v : Sizes) → AreSizes v → (wide high : ℕ) → wide ≡ span v → high ≡ v.h → (codes : List ℕ) (byte : ℕ)
-    → codes ≡ filled (4096 * section_count (nat_lt 16 wide) (nat_lt LOW_HEIGHT high)) byte → codes ≡ replicate (sector_cells v) byte
-all_alike v sizes wide high span_is height_is codes byte are =
-    are ∙ sym (filled_is (4096 * section_count (nat_lt 16 wide) (nat_lt LOW_HEIGHT high)) byte)
-    ∙ (λ i. replicate (4096 * section_count (nat_lt 16 (span_is i)) (nat_lt LOW_HEIGHT (height_is i))) byte)
+pub all_alike : (v : Sizes) → AreSizes v → (wide low high : ℕ) → wide ≡ span v → low ≡ LOW_HEIGHT → high ≡ v.h → (codes : List ℕ) (byte : ℕ)
+    → codes ≡ filled (4096 * section_count (nat_lt 16 wide) (nat_lt low high)) byte → codes ≡ replicate (sector_cells v) byte
+all_alike v sizes wide low high span_is low_is height_is codes byte are =
+    are ∙ sym (filled_is (4096 * section_count (nat_lt 16 wide) (nat_lt low high)) byte)
+    ∙ (λ i. replicate (4096 * section_count (nat_lt 16 (span_is i)) (nat_lt (low_is i) (height_is i))) byte)
     ∙ ap (λ n. replicate n byte) (all_sections v sizes)
 
 -- a side of a sector has as many columns as its sections say

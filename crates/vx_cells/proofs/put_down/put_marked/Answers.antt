@@ -1,1 +1,0 @@
-use Rattle.vx_cells.proofs.put_down.put_marked.Goals as goal

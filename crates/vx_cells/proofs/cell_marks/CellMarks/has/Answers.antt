@@ -1,7 +1,7 @@
-use Rattle.std.proofs.Common.{◌≡◌, ◌/◌, false, sym, subst}
+use Rattle.std.proofs.Common.{◌≡◌, ◌/◌, false, sym}
 use Rattle.vx_marks.specs.Marks.{is_marked}
 use Rattle.vx_marks.proofs.Marking.{none_marked}
-use Rattle.vx_cells.specs.CellMarks.{CellMarksData, marks_data}
+use Rattle.vx_cells.specs.CellMarks.{marks_data}
 use Rattle.vx_cells.proofs.cell_marks.CellMarks.has.Goals as goal
 
 pub returns-in-None : goal.returns-in-None

@@ -1,8 +1,8 @@
-use Rattle.std.proofs.Common.{◌≡◌, ◌<◌, length, get_or, unsigned_abs, refl, ap, ◌∙◌, subst, sym, arith}
+use Rattle.std.proofs.Common.{◌≡◌, ◌<◌, length, get_or, unsigned_abs, refl, ap, ◌∙◌, arith}
 use Rattle.std.proofs.lemmas.Int.{ints}
 use Rattle.vx_geom.specs.Sizes.{index_in_sector}
 use Rattle.vx_geom.proofs.SectorLemmas.{inside_at}
-use Rattle.vx_cells.specs.Codes.{code_count, cell_of}
+use Rattle.vx_cells.specs.Codes.{cell_of}
 use Rattle.std.specs.Arc.{arc_value}
 use Rattle.vx_cells.proofs.Indices.{inside_from_holds, index_below}
 use Rattle.vx_cells.proofs.Sectioned.{index_by_sides, layer_within}
@@ -14,7 +14,7 @@ at-requires c =
     let s = c.self.inside in
     let held = rw (← c.self.view_is) at c.requires in
     let inside = inside_at s.bounds c.args.p (inside_from_holds _ c.args.p held) in
-    let low = omega (arith, ints, inside.y_is, inside.y_below, c.unsigned_abs-layer.ensures.value) in
+    let low : c.unsigned_abs-layer.result < s.bounds.h = omega (arith, ints, inside.y_is, inside.y_below, c.unsigned_abs-layer.ensures.value) in
     layer_within s.bounds (length s.store) _ c.soundness.ensures c.self.invariant.stored.whole low
 
 pub returns-clause-cell : goal.returns-clause-cell

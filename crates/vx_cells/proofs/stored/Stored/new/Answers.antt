@@ -14,7 +14,7 @@ invariant_of-result c =
     let store = c.in_ok-store.store in
     let count = c.sector_cells-count.ensures in
     let codes =
-    all_alike v c.soundness.ensures _ _ c.span.ensures c.height.ensures store 0 c.in_ok-store.ensures in
+    all_alike v c.soundness.ensures _ _ _ c.span-wide.ensures c.from.ensures c.height.ensures store 0 c.in_ok-store.ensures in
     let whole = whole_words v c.soundness.ensures in
     record {
       sector_low = c.requires;
@@ -31,5 +31,5 @@ pub returns : goal.returns
 returns c =
     let v = c.args.bounds in
     let codes =
-    all_alike v c.soundness.ensures _ _ c.span.ensures c.height.ensures c.in_ok-store.store 0 c.in_ok-store.ensures in
+    all_alike v c.soundness.ensures _ _ _ c.span-wide.ensures c.from.ensures c.height.ensures c.in_ok-store.store 0 c.in_ok-store.ensures in
     fresh-stored v c.args.sector (sector_cells v) c.in_ok-store.store _ codes (c.in_ok-new.ensures.ok ∙ c.new-2.ensures) refl

@@ -1,10 +1,10 @@
 use Rattle.std.proofs.Common.{◌≡◌, ℕ, ◌<◌, List, length, get_or, set, Result, Ok, Err, OnOk, OnErr, refl, sym, ap, subst, ◌∙◌, arith}
 use Rattle.std.specs.Arc.{arc_value}
 use Rattle.vx_geom.specs.Sizes.{Sizes}
-use Rattle.vx_cells.specs.Chests.{ChestData, slots_of_chest, SameSlots}
+use Rattle.vx_cells.specs.Chests.{ChestData, SameSlots}
 use Rattle.vx_cells.specs.Stored.{stored, AreMachineMarks, IsBeside, IsStored}
 use Rattle.vx_cells.proofs.Indices.{inside_from_holds}
-use Rattle.vx_cells.proofs.StoredCells.{put-held, put-stored, stored-still, no-slots, some-slots}
+use Rattle.vx_cells.proofs.StoredCells.{put-held, put-stored, stored-still}
 use Rattle.vx_cells.proofs.stored.Stored.set.Goals as goal
 
 pub index_in_sector-index-requires : goal.index_in_sector-index-requires

@@ -11,7 +11,7 @@ use Rattle.vx_geom.specs.declared.dir.Dir.{Dir}
 use Rattle.vx_geom.specs.declared.dir.Dir.TheVariants.{East, West, Up, Down, South, North}
 use Rattle.vx_geom.specs.declared.pos.Pos.{Pos}
 use Rattle.vx_geom.specs.Neighbor.{neighbor}
-use Rattle.vx_geom.specs.Sizes.{Sizes, span, height, is_below, is_inside}
+use Rattle.vx_geom.specs.Sizes.{Sizes, span, is_below, is_inside}
 use Rattle.vx_geom.proofs.SectorLemmas.{below_at, below_from}
 use Rattle.vx_piston.specs.Moves.{if_inside, pulled}
 
@@ -34,7 +34,7 @@ before_it c n here further =
 -- a position of the world has each coordinate in it
 record InWorld (v : Sizes) (p : Pos) : Type 0 where
   x : is_below p.x (v.sx * span v) ≡ true
-  y : is_below p.y height ≡ true
+  y : is_below p.y v.h ≡ true
   z : is_below p.z (v.sz * span v) ≡ true
 
 -- what is inside is in the world
@@ -55,8 +55,8 @@ lies_between : (v : Sizes) (p : Pos) (d : Dir) → InWorld v p → InWorld v (ne
     → InWorld v (neighbor p d)
 lies_between v p East a b = record { x = after_it p.x (v.sx * span v) a.x b.x; y = a.y; z = a.z }
 lies_between v p West a b = record { x = before_it p.x (v.sx * span v) a.x b.x; y = a.y; z = a.z }
-lies_between v p Up a b = record { x = a.x; y = after_it p.y height a.y b.y; z = a.z }
-lies_between v p Down a b = record { x = a.x; y = before_it p.y height a.y b.y; z = a.z }
+lies_between v p Up a b = record { x = a.x; y = after_it p.y v.h a.y b.y; z = a.z }
+lies_between v p Down a b = record { x = a.x; y = before_it p.y v.h a.y b.y; z = a.z }
 lies_between v p South a b = record { x = a.x; y = a.y; z = after_it p.z (v.sz * span v) a.z b.z }
 lies_between v p North a b = record { x = a.x; y = a.y; z = before_it p.z (v.sz * span v) a.z b.z }
 

@@ -35,6 +35,27 @@ module _ (old new : LevelTable) (p : Pos) (links level word : ℕ) (is : word �
     | inr off ↦ ap (λ n. n % 16) (put q ∙ ap (λ b. if b then word else level_in old q) off)
   ]
 
+  -- the word has its level and its links where it was put
+  pub level_put : (q : Pos) → level_at new q ≡ (if same_place q p then level else level_at old q)
+  level_put q = elim (cases_Bool (same_place q p)) [
+    | inl here ↦
+        ap (λ n. n % 16) (put q ∙ ap (λ b. if b then word else level_in old q) here ∙ is)
+        ∙ word_level links level most ∙ sym (ap (λ b. if b then level else level_at old q) here)
+    | inr off ↦
+        ap (λ n. n % 16) (put q ∙ ap (λ b. if b then word else level_in old q) off)
+        ∙ sym (ap (λ b. if b then level else level_at old q) off)
+  ]
+
+  pub links_put : (q : Pos) → links_at new q ≡ (if same_place q p then links else links_at old q)
+  links_put q = elim (cases_Bool (same_place q p)) [
+    | inl here ↦
+        ap (λ n. n / 16) (put q ∙ ap (λ b. if b then word else level_in old q) here ∙ is)
+        ∙ word_links links level most ∙ sym (ap (λ b. if b then links else links_at old q) here)
+    | inr off ↦
+        ap (λ n. n / 16) (put q ∙ ap (λ b. if b then word else level_in old q) off)
+        ∙ sym (ap (λ b. if b then links else links_at old q) off)
+  ]
+
 -- the links of four sides are those of each
 pub linked_sides : (east west south north : ℕ) (p : Pos) → east < 8 → west < 8 → south < 8 → north < 8
     → linked (east + 8 * west + 64 * south + 512 * north) p

@@ -1,8 +1,20 @@
-use Rattle.std.proofs.Common.{ap, sym, ◌+◌, ◌*◌, ◌∙◌, arith}
+use Rattle.std.proofs.Common.{ap, sym, ◌+◌, ◌*◌, if◌then◌else◌, ◌∙◌, arith}
 use Rattle.std.proofs.lemmas.Result.{on_ok_weaker}
-use Rattle.vx_levels.specs.Linked.{level_at}
-use Rattle.vx_levels.proofs.Packing.{levels_stay}
+use Rattle.vx_levels.specs.Linked.{level_at, links_at}
+use Rattle.vx_levels.proofs.Packing.{links_put, levels_stay}
+use Rattle.vx_power.specs.Levels.{same_place}
 use Rattle.vx_levels.proofs.linked_levels.LinkedLevels.put_links.Goals as goal
+
+pub returns-clause-links : goal.returns-clause-links
+returns-clause-links c =
+    let p = c.args.p in
+    let links = c.args.links in
+    let word = 16 * links + c.from.result in
+    on_ok_weaker c.put.result
+    (λ put q. links_put c.self.inside.words c.put.new.self p links c.from.result word (λ i. word)
+    (omega (arith, c.from.ensures, c.at.ensures.most)) put q
+    ∙ ap (λ t. if same_place q p then links else links_at t q) c.self.view_is)
+    c.put.ensures
 
 pub returns-clause-level : goal.returns-clause-level
 returns-clause-level c =

@@ -7,6 +7,7 @@ use Rattle.lru.specs.LruCache.{LruCache, lru_cache, promoted, put_entries}
 use Rattle.vx_decide.specs.declared.verdict.Verdict.{Verdict}
 use Rattle.vx_index.specs.Verdicts.{KeepsFew, Verdicts}
 use Rattle.vx_index.specs.declared.asked.Asked.{Asked}
+use Rattle.vx_index.specs.declared.kept.TheConstants.{MAX_KEPT}
 
 -- without an entry that is there a list has one less
 one_less : (test : Asked → Bool) (es : Verdicts) (e : Asked × Verdict) → lookup_entry test es ≡ Some e → length (remove_entry test es) + 1 ≡ length es
@@ -20,20 +21,20 @@ one_less test (f ∷ es) e found = by (test f.0) found (one_less test es e)
     by false found rest = omega (arith, rest found)
 
 -- so as many are kept where one of them goes first
-few_promoted : (test : Asked → Bool) (es : Verdicts) → length es ≤ 256 → length (promoted test es) ≤ 256
+few_promoted : (test : Asked → Bool) (es : Verdicts) → length es ≤ MAX_KEPT → length (promoted test es) ≤ MAX_KEPT
 few_promoted test es few = by (lookup_entry test es) refl
   where
-    by : (o : Option (Asked × Verdict)) → lookup_entry test es ≡ o → length (option_map_or (λ e. e ∷ remove_entry test es) o es) ≤ 256
+    by : (o : Option (Asked × Verdict)) → lookup_entry test es ≡ o → length (option_map_or (λ e. e ∷ remove_entry test es) o es) ≤ MAX_KEPT
     by None is = few
     by (Some e) is = omega (arith, one_less test es e is, few)
 
 -- and no more than there is room for where one is put
 few_put : (eq : Asked → Asked → Bool) (cache : LruCache Asked Verdict) (asked : Asked) (v : Verdict) → KeepsFew cache
-    → length (put_entries eq cache asked v) ≤ 256
+    → length (put_entries eq cache asked v) ≤ MAX_KEPT
 few_put eq cache asked v keeps = by (lookup_entry (eq asked) cache.entries) refl
   where
     by : (o : Option (Asked × Verdict)) → lookup_entry (eq asked) cache.entries ≡ o
-        → length (option_map_or (λ e. (e.0, v) ∷ remove_entry (eq asked) cache.entries) o ((asked, v) ∷ take (cache.cap - 1) cache.entries)) ≤ 256
+        → length (option_map_or (λ e. (e.0, v) ∷ remove_entry (eq asked) cache.entries) o ((asked, v) ∷ take (cache.cap - 1) cache.entries)) ≤ MAX_KEPT
     by None is = omega (arith, length-take (cache.cap - 1) cache.entries, keeps.room)
     by (Some e) is = omega (arith, one_less (eq asked) cache.entries e is, keeps.few)
 

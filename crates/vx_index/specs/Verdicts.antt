@@ -6,6 +6,7 @@ use Rattle.vx_region.specs.Subjects.{Named}
 use Rattle.vx_decide.specs.declared.verdict.Verdict.{Verdict}
 use Rattle.vx_decide.specs.Verdict.{verdict}
 use Rattle.vx_index.specs.declared.asked.Asked.{Asked}
+use Rattle.vx_index.specs.declared.kept.TheConstants.{MAX_KEPT}
 use Rattle.lru.specs.LruCache.{LruCache}
 
 -- questions with their verdicts
@@ -16,10 +17,10 @@ Verdicts = List (Asked × Verdict)
 abbrev pub kept_verdicts : Option (LruCache Asked Verdict) → Verdicts
 kept_verdicts kept = option_map_or (λ cache. cache.entries) kept []
 
--- there is room for 256 verdicts, and there are no more
+-- there is room for MAX_KEPT verdicts, and there are no more
 pub record KeepsFew (cache : LruCache Asked Verdict) : Type 0 where
-  pub room : cache.cap ≡ 256
-  pub few : length cache.entries ≤ 256
+  pub room : cache.cap ≡ MAX_KEPT
+  pub few : length cache.entries ≤ MAX_KEPT
 
 -- what the policy says to the player who asked
 abbrev pub verdict_on : Regions → Asked → Verdict

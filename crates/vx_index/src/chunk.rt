@@ -1,6 +1,7 @@
 ghost use Rattle.std.specs.Prelude.{◌≡◌, ◌≤◌, [], ◌++◌, true, nat_lt, filter, option_copied, unsigned_abs, IfOk, IfSome, OnOk};
 ghost use Rattle.std.specs.List.{All};
 ghost use Rattle.vx_geom.specs.Extent.{is_within};
+ghost use Rattle.vx_geom.specs.declared.bounds.TheConstants.{MAX_COLUMNS_EACH_WAY};
 ghost use Rattle.vx_region.specs.Subjects.{actor_of};
 ghost use Rattle.vx_decide.specs.Unset.{IsUnset};
 ghost use Rattle.vx_decide.specs.Verdict.{verdict};
@@ -43,8 +44,8 @@ impl Chunk {
         west: u32,
         north: u32,
     ) -> Result<Chunk, AllocError>
-        requires west { west ≤ 256 }
-        requires north { north ≤ 256 }
+        requires west { west ≤ MAX_COLUMNS_EACH_WAY }
+        requires north { north ≤ MAX_COLUMNS_EACH_WAY }
         ensures of { IfOk result (IsChunk regions.now) }
         ensures columns { IfOk result (λ chunk. chunk.columns ≡ square west north) }
     {

@@ -1,7 +1,9 @@
-//! The patches of a region in a chunk: all columns of a cuboid, and for each row those of a polygon from the first to the last.
+//! The patches of a region in a chunk: all columns of a cuboid, and for each row those of a polygon
+//! from the first to the last.
 ghost use Rattle.std.specs.Prelude.{◌≡◌, ◌+◌, ◌-◌, ◌<◌, ◌≤◌, ℕ, pos, true, false, option_copied, MatchOption, OnOk};
 ghost use Rattle.vx_geom.specs.Extent.{extent_of, meets};
 ghost use Rattle.vx_geom.specs.Outline.{has_column};
+ghost use Rattle.vx_geom.specs.declared.bounds.TheConstants.{MAX_COLUMNS_EACH_WAY};
 ghost use Rattle.vx_index.specs.Patches.{square, row_of_square, HoldsRow, Adds, AddsAny};
 
 use crate::patch::Patch;
@@ -13,8 +15,8 @@ pub(crate) const SIDE: u32 = 16;
 
 /// The columns of the chunk that begins at `west` and `north`.
 pub(crate) fn square(west: u32, north: u32) -> Extent
-    requires west { west ≤ 256 }
-    requires north { north ≤ 256 }
+    requires west { west ≤ MAX_COLUMNS_EACH_WAY }
+    requires north { north ≤ MAX_COLUMNS_EACH_WAY }
     ensures { result ≡ square west north }
 {
     Extent {
@@ -33,8 +35,8 @@ pub(crate) fn add_any(
     west: u32,
     north: u32,
 ) -> Result<(), AllocError>
-    requires west { west ≤ 256 }
-    requires north { north ≤ 256 }
+    requires west { west ≤ MAX_COLUMNS_EACH_WAY }
+    requires north { north ≤ MAX_COLUMNS_EACH_WAY }
     ensures { OnOk result (AddsAny number (option_copied shape.entry) (square west north)
         patches.old.items patches.new.items) }
 {
@@ -53,8 +55,8 @@ pub(crate) fn add_patches(
     west: u32,
     north: u32,
 ) -> Result<(), AllocError>
-    requires west { west ≤ 256 }
-    requires north { north ≤ 256 }
+    requires west { west ≤ MAX_COLUMNS_EACH_WAY }
+    requires north { north ≤ MAX_COLUMNS_EACH_WAY }
     ensures adds { OnOk result
         (Adds number shape.now (square west north) patches.old.items patches.new.items) }
     ensures apart { meets (extent_of shape.now) (square west north) ≡ false
@@ -79,8 +81,8 @@ fn add_rows(
     west: u32,
     north: u32,
 ) -> Result<(), AllocError>
-    requires west { west ≤ 256 }
-    requires north { north ≤ 256 }
+    requires west { west ≤ MAX_COLUMNS_EACH_WAY }
+    requires north { north ≤ MAX_COLUMNS_EACH_WAY }
     ensures { OnOk result
         (Adds number shape.now (square west north) patches.old.items patches.new.items) }
 {
@@ -94,8 +96,8 @@ fn add_rows(
 
 // The columns of the row z of a chunk from the first that the shape has to the last.
 fn row_of(shape: &Shape, west: u32, z: u32) -> Option<Extent>
-    requires west { west ≤ 256 }
-    requires row { z < 272 }
+    requires west { west ≤ MAX_COLUMNS_EACH_WAY }
+    requires row { z < MAX_COLUMNS_EACH_WAY + 16 }
     ensures { HoldsRow shape.now (row_of_square west z) result }
 {
     let first = first_column(shape, west, z)?;
@@ -110,11 +112,11 @@ fn row_of(shape: &Shape, west: u32, z: u32) -> Option<Extent>
 
 // The first column of the row that the shape has.
 fn first_column(shape: &Shape, west: u32, z: u32) -> Option<u32>
-    requires west { west ≤ 256 }
-    requires row { z < 272 }
+    requires west { west ≤ MAX_COLUMNS_EACH_WAY }
+    requires row { z < MAX_COLUMNS_EACH_WAY + 16 }
     ensures first { (x : ℕ) → west ≤ x → x < west + 16 → has_column shape.now (pos x) (pos z) ≡ true
         → MatchOption result ⊥ (λ first. first ≤ x) }
-    ensures within { MatchOption result (Unit {0}) (λ first. first < 272) }
+    ensures within { MatchOption result (Unit {0}) (λ first. first < MAX_COLUMNS_EACH_WAY + 16) }
 {
     for x in west..west + SIDE {
         if has_column(shape, x, z) {
@@ -126,11 +128,11 @@ fn first_column(shape: &Shape, west: u32, z: u32) -> Option<u32>
 
 // The last one.
 fn last_column(shape: &Shape, west: u32, z: u32) -> Option<u32>
-    requires west { west ≤ 256 }
-    requires row { z < 272 }
+    requires west { west ≤ MAX_COLUMNS_EACH_WAY }
+    requires row { z < MAX_COLUMNS_EACH_WAY + 16 }
     ensures last { (x : ℕ) → west ≤ x → x < west + 16 → has_column shape.now (pos x) (pos z) ≡ true
         → MatchOption result ⊥ (λ last. x ≤ last) }
-    ensures within { MatchOption result (Unit {0}) (λ last. last < 272) }
+    ensures within { MatchOption result (Unit {0}) (λ last. last < MAX_COLUMNS_EACH_WAY + 16) }
 {
     for x in (west..west + SIDE).rev() {
         if has_column(shape, x, z) {
@@ -141,8 +143,8 @@ fn last_column(shape: &Shape, west: u32, z: u32) -> Option<u32>
 }
 
 fn has_column(shape: &Shape, x: u32, z: u32) -> bool
-    requires column { x < 272 }
-    requires row { z < 272 }
+    requires column { x < MAX_COLUMNS_EACH_WAY + 16 }
+    requires row { z < MAX_COLUMNS_EACH_WAY + 16 }
     ensures { result ≡ has_column shape.now (pos x) (pos z) }
 {
     shape.has_column(x as i32, z as i32)

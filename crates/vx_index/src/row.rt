@@ -1,5 +1,6 @@
 ghost use Rattle.std.specs.Prelude.{◌≡◌, ◌≤◌, option_copied, Contains, IfOk, IfSome};
 ghost use Rattle.std.specs.List.{All};
+ghost use Rattle.vx_geom.specs.declared.bounds.TheConstants.{MAX_COLUMNS_EACH_WAY};
 ghost use Rattle.vx_index.specs.Chunks.{IsChunk, TellsOf};
 ghost use Rattle.vx_index.specs.Plots.{LiesAlong};
 ghost use Rattle.vx_index.specs.Shapes.{Shapes, renewed_at};
@@ -12,11 +13,11 @@ use crate::touched::Touched;
 use std::alloc::{AllocError, Global};
 use std::marker::Model;
 use std::sync::Arc;
-use vx_geom::{Extent, Shape};
+use vx_geom::{Extent, MAX_COLUMNS_EACH_WAY, Shape};
 use vx_region::RegionSet;
 
 /// The widest world has so many chunks from west to east, and from north to south.
-pub(crate) const ACROSS: u32 = 16;
+pub(crate) const ACROSS: u32 = MAX_COLUMNS_EACH_WAY / SIDE;
 
 /// The chunks of a land from the west to the east, at one distance from the north. Copies share
 /// them. Contracts see it as its chunks.
@@ -45,7 +46,7 @@ impl Row {
     /// The row of these regions that begins so far from the north. It costs a look at each region
     /// for each chunk.
     pub(crate) fn of(alloc: Global, regions: &RegionSet, north: u32) -> Result<Row, AllocError>
-        requires north { north ≤ 256 }
+        requires north { north ≤ MAX_COLUMNS_EACH_WAY }
         ensures { IfOk result (All (IsChunk regions.now)) }
     {
         let columns = square(0, north);

@@ -32,8 +32,12 @@ loop-y-init c =
     let b = (goal.at.loop-y-init c).After-end_within-y-end in
     none_below layer_of (is_component_around (cell_on c.args.map.now) c.args.p c.args.steps) c.args.self.now c.least_within-first.result
     (λ q inside near.
-    omega (arith, first b, (near_layer (cell_on c.args.map.now) c.args.self.now.sizes c.args.p c.args.steps q inside
-    c.layers-count.result (many b) near).0))
+    omega (
+      arith,
+      first b,
+      (near_layer (cell_on c.args.map.now) c.args.self.now.sizes c.args.p c.args.steps q inside
+          c.layers-count.result (many b) near).0,
+    ))
 
 pub mark_layer-requires-clause-low : goal.mark_layer-requires-clause-low
 mark_layer-requires-clause-low c =

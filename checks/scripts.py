@@ -1,7 +1,8 @@
 """What the checks read of a script and its replies, by docs/FORMATS.md: the steps of its body, the replies to each, and the record that has to follow them."""
 import json, os
 
-CHUNK = 16
+# How many columns a chunk has on a side, and how many cells a world is high whose line doesn't say it.
+CHUNK, HEIGHT = 16, 64
 # How many words of a command, behind the first, are numbers.
 NUMBERS = {"look": 3, "place": 3, "break": 3, "turn": 3, "open": 3, "put": 6, "take": 5}
 FATES = ("moved", "denied", "beaten")
@@ -45,11 +46,12 @@ class Script:
     """A script without faults. A step of its body is its kind and its calls: a command has one, a block those of its lines, and any other line none."""
 
     def __init__(self, lines):
-        self.size, self.players, self.opening, self.steps = None, [], [], []
+        self.size, self.height, self.players, self.opening, self.steps = None, HEIGHT, [], [], []
         block = None
         for words in filter(None, map(words_of, lines)):
             if words[0] == "world":
-                self.size = tuple(map(int, words[1:]))
+                self.size = tuple(map(int, words[1:4]))
+                self.height = int(words[4]) if len(words) > 4 else HEIGHT
             elif words[0] == "player":
                 self.players.append(words[1].lower())
             elif words[0] == "set":
@@ -68,7 +70,7 @@ class Script:
         """The number of the sector that has a place of the world, and none where there is none."""
         across, along, size = self.size[0], self.size[1], CHUNK * self.size[2]
         (x, y, z) = place
-        is_inside = 0 <= x < across * size and 0 <= y < 64 and 0 <= z < along * size
+        is_inside = 0 <= x < across * size and 0 <= y < self.height and 0 <= z < along * size
         return z // size * across + x // size if is_inside else None
 
     def answered(self, replies):

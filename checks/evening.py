@@ -1,13 +1,17 @@
-"""An evening of tools/live: sixteen players who send 2,000 lines each at once, strangers, and then one who sends garbage, one who floods it, and one who leaves and comes
-back. Every reply is the one that the script, which was written as it went, gives when it is played again."""
-import os, random, re, socket, subprocess, sys, tempfile, threading
+"""An evening of tools/live: as many players as there may be, who send 500 lines each at once, strangers, and then one who sends garbage, one who floods it, and one who
+leaves and comes back. Every reply is the one that the script, which was written as it went, gives when it is played again."""
+import math, os, random, re, socket, subprocess, sys, tempfile, threading
 
 sys.dont_write_bytecode = True
 ROOT = os.path.dirname(os.path.dirname(os.path.abspath(__file__)))
 sys.path.insert(0, os.path.join(ROOT, "tools"))
 import vx
 
-PLAYERS, LINES, LATE = 16, 2000, 900
+# The players, a square of them; how many lines each sends, and how many he sends who leaves and comes back.
+SIDE, LINES, LATE = math.isqrt(vx.MOST_PLAYERS), 500, 450
+PLAYERS = SIDE * SIDE
+# They build on both sides of this level, where a high world has its middle.
+LEVEL = vx.HEIGHTS[0]
 PARTS = ["stone", "dirt", "planks", "dust", "chest", "lever:down", "lamp", "piston:east", "torch:down"]
 
 
@@ -15,9 +19,9 @@ def lines_of(player):
     """A player's lines: most about his own corner, and some about places that all want."""
     chance = random.Random(player)
     for _ in range(LINES):
-        x, y, z = chance.randrange(4), chance.randrange(2), chance.randrange(4)
+        x, y, z = chance.randrange(4), chance.randrange(LEVEL - 1, LEVEL + 1), chance.randrange(4)
         if chance.random() < 0.8:
-            x, z = x + 16 * (player % 4), z + 16 * (player // 4)
+            x, z = x + vx.CHUNK * (player % SIDE), z + vx.CHUNK * (player // SIDE)
         verb = chance.choice(["place", "place", "break", "look", "turn", "put", "take", "open", "explain"])
         behind = {"place": f" {chance.choice(PARTS)}", "put": f" {chance.randrange(4)} 7 9", "take": f" {chance.randrange(4)} 5"}.get(verb, "")
         yield f"explain block-place {x} {y} {z}" if verb == "explain" else f"{verb} {x} {y} {z}{behind}"
@@ -65,7 +69,7 @@ class Host:
     def __init__(self, program, folder):
         world, self.script = os.path.join(folder, "world.vx"), os.path.join(folder, "evening.vx")
         with open(world, "w") as text:
-            text.write("world 4 4 1\n" + "".join(f"player p{player}\n" for player in range(PLAYERS)) + "set 1 0 1 obsidian\n")
+            text.write(f"world {SIDE} {SIDE} 1 {vx.HEIGHTS[-1]}\n" + "".join(f"player p{player}\n" for player in range(PLAYERS)) + "set 1 0 1 obsidian\n")
         command = [os.path.join(ROOT, "tools/live"), world, "--port", "0", "--tick-every", "20", "--script", self.script, "--program", program]
         self.child = subprocess.Popen(command, stdin=subprocess.PIPE, stdout=subprocess.PIPE, text=True)
         self.tokens = {}

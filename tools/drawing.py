@@ -1,6 +1,8 @@
 """A map as SVG: cells as coloured squares with signs, regions as outlines, denials as marks, and a legend."""
 from html import escape
 
+from vx import CHUNK
+
 BLOCKS = {
     "stone": "#8d8f92",
     "dirt": "#8b5e34",
@@ -163,11 +165,11 @@ class Drawing:
         """The ground, the borders of chunks, and their coordinates."""
         yield f'<rect width="{self.width}" height="{self.height}" fill="{GROUND}" stroke="#999"/>'
         path, names = "", []
-        for x in range(-(-self.west // 16) * 16, self.east + 1, 16):
+        for x in range(-(-self.west // CHUNK) * CHUNK, self.east + 1, CHUNK):
             at = self.pixel(x, 0)[0]
             path += f"M{at} 0V{self.height}"
             names.append(f'<text x="{at + 2}" y="-5">{x}</text>')
-        for z in range(-(-self.north // 16) * 16, self.south + 1, 16):
+        for z in range(-(-self.north // CHUNK) * CHUNK, self.south + 1, CHUNK):
             at = self.pixel(0, z)[1]
             path += f"M0 {at}H{self.width}"
             names.append(f'<text x="-5" y="{at + 11}" text-anchor="end">{z}</text>')

@@ -4,7 +4,8 @@ from dataclasses import dataclass, field
 
 ROOT = os.path.dirname(os.path.dirname(os.path.abspath(__file__)))
 LINE_BYTES, SCRIPT_BYTES, BLOCK_COMMANDS = 4096, 16_777_216, 65_536
-HEIGHT, CHUNK = 64, 16
+# How many cells a world may be high, the first where its line doesn't say it; how many columns a chunk has on a side; the most sectors each way; and the most players.
+HEIGHTS, CHUNK, MOST_SECTORS, MOST_PLAYERS = (64, 128), 16, 16, 64
 # A piston's move takes its own cell, the twelve that it pushes at most, and the one behind them.
 REACH = 13
 DIRECTIONS = {"east": (1, 0, 0), "west": (-1, 0, 0), "up": (0, 1, 0), "down": (0, -1, 0), "south": (0, 0, 1), "north": (0, 0, -1)}
@@ -42,7 +43,7 @@ EDITS = {
     "member": "ID CHANGE NAME",
     "domain": "ID CHANGE NAME",
 }
-HEADER = {"world": "SX SZ S", "player": "NAME", "set": "X Y Z PART"}
+HEADER = {"world": "SX SZ S [H]", "player": "NAME", "set": "X Y Z PART"}
 OTHERS = {"tick": "", "explain": "NAME ACTION X Y Z", "together": "", "end": ""}
 
 
@@ -76,6 +77,12 @@ def within(low, high):
     return lambda word: number(word, low, high)
 
 
+def height(word):
+    """Reads how many cells a world is high."""
+    if number(word) not in HEIGHTS:
+        raise Faulty(f"{word} is not {' or '.join(map(str, HEIGHTS))}")
+
+
 def any_word(_):
     """Reads a word of which the reply tells what is wrong with it."""
 
@@ -83,9 +90,10 @@ def any_word(_):
 READERS = {
     **dict.fromkeys(["X", "Y", "Z", "N"], number),
     **dict.fromkeys(["SLOT", "COUNT"], within(0, 255)),
-    **dict.fromkeys(["SX", "SZ"], within(1, 8)),
+    **dict.fromkeys(["SX", "SZ"], within(1, MOST_SECTORS)),
     **dict.fromkeys(["ID", "NAME"], any_word),
     "S": within(1, 2),
+    "[H]": height,
     "ITEM": within(0, 65535),
     "PART": one_of(PARTS, "a part"),
     "FLAG": one_of(FLAGS, "a flag"),
@@ -162,18 +170,23 @@ class Header:
     """The world as it opens."""
 
     size: tuple = None
+    height: int = HEIGHTS[0]
     players: list = field(default_factory=list)
     cells: dict = field(default_factory=dict)
 
     def take(self, words):
-        """Takes in a line, and tells whether it is one of the header."""
+        """Takes in a line, and tells whether it is one of the header. It raises Faulty where such a line is not as it has to be."""
+        if words[0] not in HEADER:
+            return False
+        check_form(words[0], HEADER[words[0]], words[1:])
         if words[0] == "world":
             self.size = tuple(map(int, words[1:4]))
+            self.height = int(words[4]) if len(words) > 4 else HEIGHTS[0]
         elif words[0] == "player":
             self.players.append(words[1].lower())
         elif words[0] == "set":
             self.cells[place_of(words[1:4])] = words[4]
-        return words[0] in HEADER
+        return True
 
     def columns(self):
         """How many columns the world has from west to east, and from north to south."""
@@ -182,11 +195,14 @@ class Header:
 
 def header_of(lines):
     """The header of a script, and how many lines it takes."""
-    header, count = Header(), 0
+    header = Header()
     for count, line in enumerate(lines):
         words = words_of(line)
-        if words and not header.take(words):
-            return header, count
+        try:
+            if words and not header.take(words):
+                return header, count
+        except Faulty as wrong:
+            raise Faulty(f"line {count + 1} of the script: {wrong}") from None
     return header, len(lines)
 
 

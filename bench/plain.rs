@@ -38,7 +38,9 @@ use signals::Steps;
 const MOST_SCRIPT_BYTES: usize = 16_777_216;
 const MOST_LINE_BYTES: usize = 4096;
 const MOST_READS: u32 = 33_554_432;
-const MOST_PLAYERS: usize = 16;
+const MOST_PLAYERS: usize = 64;
+const MOST_SECTORS: u8 = 16; // each way
+const MOST_CHUNKS: u8 = 2; // of a sector, each way
 const MOST_REGIONS: usize = 4096;
 const BUFFER_BYTES: usize = 65_536;
 
@@ -137,13 +139,18 @@ struct Slot { item: u16, count: u8 }
 
 type Slots = [Slot; 27];
 
-const HEIGHT: i32 = 64;
+/// How many cells a world may be high, the first where its line does not say it.
+const HEIGHTS: [u8; 2] = [64, 128];
+
+/// A chunk has so many columns on a side.
+const CHUNK: i32 = 16;
 
 /// So many cells outside the world stand round it, so that what is two steps off can be read without a test.
 const MARGIN: i32 = 2;
 
 struct World {
     width: i32,
+    height: i32,
     depth: i32,
     /// A sector has 2 to the power of so many columns on a side.
     sector_bits: u32,
@@ -154,12 +161,12 @@ struct World {
 }
 
 impl World {
-    fn new(east: i32, south: i32, chunks: i32) -> World {
-        let sector_bits = if chunks == 1 { 4 } else { 5 };
+    fn new(east: i32, south: i32, chunks: i32, height: i32) -> World {
+        let sector_bits = (CHUNK * chunks).ilog2();
         let (width, depth) = (east << sector_bits, south << sector_bits);
-        let mut world = World { width, depth, sector_bits, cells: Vec::new(), chests: HashMap::new() };
-        world.cells = vec![OUTSIDE; (world.layer() * (HEIGHT + 2 * MARGIN)) as usize];
-        for (y, z) in (0..HEIGHT).flat_map(|y| (0..depth).map(move |z| (y, z))) {
+        let mut world = World { width, height, depth, sector_bits, cells: Vec::new(), chests: HashMap::new() };
+        world.cells = vec![OUTSIDE; (world.layer() * (height + 2 * MARGIN)) as usize];
+        for (y, z) in (0..height).flat_map(|y| (0..depth).map(move |z| (y, z))) {
             let start = world.place(Pos { x: 0, y, z });
             world.cells[start..start + width as usize].fill(AIR);
         }
@@ -193,7 +200,7 @@ impl World {
     /// Where the cell of a position is, if it is in the world.
     fn index(&self, p: Pos) -> Option<usize> {
         let is_inside =
-            (0..self.width).contains(&p.x) && (0..HEIGHT).contains(&p.y) && (0..self.depth).contains(&p.z);
+            (0..self.width).contains(&p.x) && (0..self.height).contains(&p.y) && (0..self.depth).contains(&p.z);
         is_inside.then(|| self.place(p))
     }
 
@@ -654,7 +661,7 @@ struct Judge {
 
 impl Judge {
     fn new(world: &World) -> Judge {
-        let (east, south) = (world.width / 16, world.depth / 16);
+        let (east, south) = (world.width / CHUNK, world.depth / CHUNK);
         Judge {
             regions: Regions::default(),
             chunks_east: east,
@@ -687,8 +694,9 @@ impl Judge {
     /// The chunks that a box meets, row by row.
     fn chunks(&self, bounds: Bounds) -> impl Iterator<Item = usize> {
         let (row, low, high) = (self.chunks_east, bounds.low, bounds.high);
-        let (west, east) = (low.x.div_euclid(16).max(0), high.x.div_euclid(16).min(row - 1));
-        let (north, south) = (low.z.div_euclid(16).max(0), high.z.div_euclid(16).min(self.chunks_south - 1));
+        let (west, north) = (low.x.div_euclid(CHUNK).max(0), low.z.div_euclid(CHUNK).max(0));
+        let east = high.x.div_euclid(CHUNK).min(row - 1);
+        let south = high.z.div_euclid(CHUNK).min(self.chunks_south - 1);
         (north..=south).flat_map(move |z| (west..=east).map(move |x| (z * row + x) as usize))
     }
 
@@ -716,7 +724,7 @@ impl Judge {
         let mut found = mem::take(&mut self.found);
         let mut tops = mem::take(&mut self.tops);
         found.clear();
-        let chunk = (p.z / 16 * self.chunks_east + p.x / 16) as usize;
+        let chunk = (p.z / CHUNK * self.chunks_east + p.x / CHUNK) as usize;
         for &Near { number, bounds } in &self.by_chunk[chunk] {
             if !bounds.contains(p) {
                 continue;
@@ -750,7 +758,7 @@ impl Judge {
         if domains.is_empty() {
             return false;
         }
-        let chunk = (place.z / 16 * self.chunks_east + place.x / 16) as usize;
+        let chunk = (place.z / CHUNK * self.chunks_east + place.x / CHUNK) as usize;
         self.by_chunk[chunk]
             .iter()
             .filter(|near| self.regions.there(near.number).shape.contains(place))
@@ -1115,6 +1123,12 @@ impl<'a> Words<'a> {
         read_number(self.next()?, 0, u8::MAX as i64).map(|n| n as u8)
     }
 
+    /// The number that the last word is, and another one where no word is left.
+    fn last_u8(&mut self, other: u8) -> Option<u8> {
+        let is_left = self.0.iter().any(|&b| b != b' ');
+        if is_left { self.u8() } else { Some(other) }
+    }
+
     fn pos(&mut self) -> Option<Pos> {
         Some(Pos { x: self.i32()?, y: self.i32()?, z: self.i32()? })
     }
@@ -1183,7 +1197,7 @@ fn read_number(word: &[u8], low: i64, high: i64) -> Option<i64> {
 /// What a line says; a shape, an id or a name of an edit may still be none.
 enum Line<'a> {
     Nothing,
-    World { east: u8, south: u8, chunks: u8 },
+    World { east: u8, south: u8, chunks: u8, height: u8 },
     Player(Name),
     Set(Pos, u8),
     Command(Name, Pos, Action),
@@ -1209,8 +1223,12 @@ fn read_line(text: &[u8]) -> Option<Line<'_>> {
         Some(b"player") => Line::Player(read_name(words.next()?)?),
         Some(b"world") => {
             let (east, south, chunks) = (words.u8()?, words.u8()?, words.u8()?);
-            let is_size = (1..=8).contains(&east) && (1..=8).contains(&south) && (1..=2).contains(&chunks);
-            is_size.then_some(Line::World { east, south, chunks })?
+            let height = words.last_u8(HEIGHTS[0])?;
+            let is_size = (1..=MOST_SECTORS).contains(&east)
+                && (1..=MOST_SECTORS).contains(&south)
+                && (1..=MOST_CHUNKS).contains(&chunks)
+                && HEIGHTS.contains(&height);
+            is_size.then_some(Line::World { east, south, chunks, height })?
         }
         Some(_) => return None,
     };
@@ -1295,8 +1313,8 @@ impl Opening {
     /// Takes in a line of the header; none where it may not stand there.
     fn take_in(&mut self, line: &Line) -> Option<()> {
         match *line {
-            Line::World { east, south, chunks } if self.world.is_none() => {
-                self.world = Some(World::new(east as i32, south as i32, chunks as i32));
+            Line::World { east, south, chunks, height } if self.world.is_none() => {
+                self.world = Some(World::new(east as i32, south as i32, chunks as i32, height as i32));
             }
             Line::Player(name) if self.world.is_some() && self.names.insert(name) => self.players.push(name),
             Line::Set(p, cell) => {

@@ -14,6 +14,9 @@ DIRECTIONS = {"east": (1, 0, 0), "west": (-1, 0, 0), "up": (0, 1, 0), "down": (0
 OPPOSITE = {"east": "west", "west": "east", "up": "down", "down": "up", "south": "north", "north": "south"}
 SIDES = ["east", "west", "south", "north"]
 ACROSS = {"east": ["south", "north"], "west": ["south", "north"], "south": ["east", "west"], "north": ["east", "west"]}
+# A chunk has so many columns on a side; a world is so high where its line does not say it, and so high at most; and it has so
+# many sectors each way at most.
+CHUNK, HEIGHT, HIGH, MOST_SECTORS = 16, 64, 128, 16
 CONDUCTORS = {"stone", "dirt", "planks", "obsidian", "bedrock", "lamp"}
 
 
@@ -22,11 +25,11 @@ def step(p, direction, count=1):
 
 
 class World:
-    def __init__(self, width, depth):
-        self.width, self.depth, self.cells = width, depth, {}
+    def __init__(self, width, height, depth):
+        self.width, self.height, self.depth, self.cells = width, height, depth, {}
 
     def inside(self, p):
-        return 0 <= p[0] < self.width and 0 <= p[1] < 64 and 0 <= p[2] < self.depth
+        return 0 <= p[0] < self.width and 0 <= p[1] < self.height and 0 <= p[2] < self.depth
 
     def at(self, p):
         """A cell as a list of its words."""
@@ -359,8 +362,8 @@ def play(lines):
     for line in lines:
         words = line.split()
         if words[0] == "world":
-            side = 16 * int(words[3])
-            world = World(side * int(words[1]), side * int(words[2]))
+            side, height = CHUNK * int(words[3]), int(words[4]) if len(words) > 4 else HEIGHT
+            world = World(side * int(words[1]), height, side * int(words[2]))
         elif words[0] == "set":
             world.put(tuple(map(int, words[1:4])), first_cell(words[4]))
         elif words[0] == "as":
@@ -380,8 +383,10 @@ def play(lines):
 
 
 def script(seed):
-    """A dense box of machines in a corner of a small world, that one player changes between ticks."""
+    """A dense box of machines in a corner of a world, that one player changes between ticks. Of five worlds one is high, and
+    of ten one is wide."""
     r = random.Random(seed)
+    is_high, is_wide = r.random() < 0.2, r.random() < 0.1
     kinds = ["dust"] * r.randint(1, 12) + ["torch"] * r.randint(0, 3) + ["lever"] * r.randint(1, 3)
     kinds += ["repeater"] * r.randint(0, 4) + ["lamp"] * r.randint(0, 2) + ["piston", "sticky"] * r.randint(0, 3)
     kinds += ["stone"] * r.randint(1, 6) + r.sample(["glass", "obsidian", "bedrock", "chest", "dirt", "planks"], 2)
@@ -394,9 +399,15 @@ def script(seed):
         return f"{kind}:{r.choice(facings)}" if kind in ("torch", "lever", "piston", "sticky") else kind
 
     size = r.choice([(4, 3, 4), (7, 3, 7), (16, 2, 4), (4, 6, 4), (17, 1, 6), (9, 4, 9)])
-    low = r.choice([(0, 0, 0), (12, 1, 5), (32 - size[0], 64 - size[1], 16 - size[2])])
+    many = lambda: r.randint(9, MOST_SECTORS)
+    east, south, chunks = (many(), many(), r.randint(1, 2)) if is_wide else (2, 1, 1)
+    height, side = HIGH if is_high else HEIGHT, CHUNK * chunks
+    width, depth = side * east, side * south
+    # At the first or the last corner of the world, or over the border of the last two sectors, in a high world over its middle too.
+    border = width - side - 4, HEIGHT - max(1, size[1] // 2) if is_high else 1, depth - side - 3 if is_wide else 5
+    low = r.choice([(0, 0, 0), border, (width - size[0], height - size[1], depth - size[2])])
     place = lambda: tuple(a + r.randrange(n) for a, n in zip(low, size))
-    yield "world 2 1 1\nplayer ann"
+    yield f"world {east} {south} {chunks}{f' {HIGH}' if is_high else ''}\nplayer ann"
     for z in range(size[2]):
         for y in range(size[1]):
             for x in range(size[0]):

@@ -16,9 +16,11 @@ use vx_policy::Policy;
 use vx_record::Opening;
 use vx_region::Name;
 use vx_sector::Cmd;
+use vx_windows::MAX_PLAYERS;
 use vx_world::{Blanks, Lifted, Pass, Seats, World};
 
-/// What is done with a world of ann, bob and cyd, whose sectors have their first border at x 15/16.
+/// What is done with a world of ann, bob and cyd, or of as many players as it may have, whose sectors
+/// have their first border at x 15/16.
 #[derive(Clone, Copy)]
 pub enum Day {
     /// A command waits at the gate in one sector while one in the other is answered.
@@ -27,6 +29,8 @@ pub enum Day {
     TwoWorkers,
     /// Three players play on three threads, and ticks are made meanwhile.
     ThreePlayers,
+    /// As many players as a world may have play on as many threads, and ticks are made meanwhile.
+    AllPlayers,
     /// A sector is changed past the rules.
     Tampered,
     /// What was put down is seen after a tick, in each sector.
@@ -59,14 +63,25 @@ pub fn spend<R: Threads + Wait + Abort + Sync>(
 fn opening(alloc: Global, day: Day) -> Result<Opening, Fail> {
     match day {
         Day::Machines(_) => machines::opening(alloc, players(alloc)?),
-        _ => empty(alloc),
+        Day::AllPlayers => empty(alloc, all_players(alloc)?),
+        _ => empty(alloc, players(alloc)?),
     }
 }
 
 // Two sectors of air, without regions.
-fn empty(alloc: Global) -> Result<Opening, Fail> {
+fn empty(alloc: Global, players: Vec<Name>) -> Result<Opening, Fail> {
     let bounds = Bounds::new(2, 1, 1, LOW_HEIGHT).ok_or("no bounds")?;
-    Ok(Opening::new(alloc, bounds, players(alloc)?, Policy::new(alloc)?)?)
+    Ok(Opening::new(alloc, bounds, players, Policy::new(alloc)?)?)
+}
+
+// As many names as a world may have players.
+fn all_players(alloc: Global) -> Result<Vec<Name>, Fail> {
+    let mut names = Vec::with_capacity(alloc, MAX_PLAYERS)?;
+    for number in 0..MAX_PLAYERS {
+        let text = format!(in alloc; "p{number}")?;
+        names.push(Name::read(&text).map_err(|_| "no name")?)?;
+    }
+    Ok(names)
 }
 
 fn players(alloc: Global) -> Result<Vec<Name>, Fail> {
@@ -118,6 +133,7 @@ fn played<A: Places + Send + Sync, B: Seats + Send + Sync, R: Threads + Wait + A
         Day::TwoSectors => gates::two_sectors(rt, world, passes),
         Day::TwoWorkers => gates::two_workers(rt, alloc, world, keeper, passes),
         Day::ThreePlayers => passes::three_players(rt, alloc, world, desk, keeper, passes),
+        Day::AllPlayers => passes::all_players(rt, alloc, world, keeper, passes),
         Day::Tampered => torn::tampered(rt, alloc, world, keeper, passes),
         Day::SeenAfterATick => ticks::seen_after_a_tick(rt, alloc, world, keeper, passes),
         Day::EditsCountNext => ticks::edits_count_next(rt, alloc, world, desk, keeper, passes),
@@ -142,6 +158,7 @@ fn settled<A: Places, B: Seats>(
 {
     match day {
         Day::ThreePlayers => passes::settles_with_all(rt, alloc, lifted, keeper, passes),
+        Day::AllPlayers => passes::settles_all(rt, alloc, lifted, keeper, passes),
         Day::Tampered => torn::is_not_settled(rt, alloc, lifted, keeper, passes),
         Day::MadeAgain => refused::finished_again(rt, alloc, lifted, keeper, passes),
         Day::Audited(audit) => audits::tells(rt, alloc, lifted, keeper, passes, audit),
@@ -162,6 +179,11 @@ fn workers_of_a_tick_meet(rt: HostRuntime) -> Result<(), Fail> {
 #[test]
 fn players_settle_in_the_end(rt: HostRuntime) -> Result<(), Fail> {
     spend(&rt, rt.alloc(), Day::ThreePlayers)
+}
+
+#[test]
+fn as_many_players_as_may_be_settle_in_the_end(rt: HostRuntime) -> Result<(), Fail> {
+    spend(&rt, rt.alloc(), Day::AllPlayers)
 }
 
 #[test]

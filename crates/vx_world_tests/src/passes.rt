@@ -14,6 +14,7 @@ use vx_policy::Edit;
 use vx_record::Fault;
 use vx_sector::Cmd;
 use vx_step::NoGate;
+use vx_windows::MAX_PLAYERS;
 use vx_world::{Lifted, Pass, Report, Seats, SettleError, Unsettled, World};
 
 // How many calls each player makes, and how many ticks and edits are made meanwhile.
@@ -63,6 +64,27 @@ pub fn three_players<
         },
     );
     assert!(rt; edited && ticked);
+    Ok(())
+}
+
+/// All players call at once, each on a thread of his own, and ticks are made meanwhile.
+pub fn all_players<
+    A: Places + Send + Sync,
+    B: Seats + Send + Sync,
+    R: Threads + Wait + Abort + Sync,
+>(
+    rt: &R,
+    alloc: Global,
+    world: &World<A, B>,
+    keeper: &mut Keeper<A>,
+    passes: &mut [Pass<A, B>],
+) -> Result<(), Fail> {
+    let (_, ticked) = thread::join(
+        rt,
+        || thread::for_each_mut(rt, passes, MAX_PLAYERS, &|_, pass| play(rt, world, pass)),
+        || tick(rt, alloc, world, keeper),
+    );
+    assert!(rt; ticked);
     Ok(())
 }
 
@@ -153,6 +175,19 @@ fn settle_with<A: Places, B: Seats>(
     } = unsettled;
     passes.push(pass)?;
     settles(rt, alloc, lifted, keeper, passes, (300, TICKS))
+}
+
+/// The world is settled, with all calls of so many players.
+pub fn settles_all<A: Places, B: Seats>(
+    rt: &impl Abort,
+    alloc: Global,
+    lifted: Lifted<A, B>,
+    keeper: Keeper<A>,
+    passes: Vec<Pass<A, B>>,
+) -> Result<(), Fail>
+    requires ledgers { (A.parts ≡ A.all + B.all) × (B.parts ≡ 2 * B.all) }
+{
+    settles(rt, alloc, lifted, keeper, passes, (6_400, TICKS))
 }
 
 /// The world is settled, with so many calls and ticks.

@@ -1,5 +1,5 @@
 #!/usr/bin/env bash
-# What locks cost: bench/world.sh. Commands a second by one thread and by four, each in a sector of its own and all in one; ticks of an idle world, beside the same ticks without locks.
+# What locks cost: bench/world.sh. Commands a second by one thread, by four and by 64, each in a sector of its own, and by four in one; ticks of an idle world, beside the same ticks without locks.
 # The program stands beside this file (world.rt.in); it is proved and built in a copy of the repository.
 set -eu
 root=$(cd "$(dirname "$0")/.." && pwd)

@@ -8,13 +8,19 @@ use std::sync::Wait;
 use std::test::Fail;
 use std::thread::Threads;
 use vx_block::Part;
-use vx_geom::Pos;
+use vx_geom::{Dir, Pos};
 use vx_keeper::{Keeper, Places, TickError};
 use vx_sector::{Cmd, Refusal, Reply};
 use vx_step::NoGate;
+use vx_tick::Fate;
 use vx_world::{Lifted, Pass, Seats, SettleError, Unsettled, World};
 
-/// A command and a tick that memory was refused to are done the second time, and what was refused
+// Two pistons in one row: the first comes first in the order of positions.
+const FIRST: Pos = Pos { y: 1, z: 2, x: 2 };
+
+const SECOND: Pos = Pos { y: 1, z: 2, x: 6 };
+
+/// Commands and a tick that memory was refused to are done the second time, and what was refused
 /// left nothing.
 pub fn made_again<A: Places, B: Seats, R: Threads + Wait + Abort + Sync>(
     rt: &R,
@@ -23,7 +29,9 @@ pub fn made_again<A: Places, B: Seats, R: Threads + Wait + Abort + Sync>(
     keeper: &mut Keeper<A>,
     passes: &mut [Pass<A, B>],
 ) -> Result<(), Fail> {
-    act_again(rt, world, passes.first_mut().ok_or("no pass")?);
+    let pass = passes.first_mut().ok_or("no pass")?;
+    act_again(rt, world, pass);
+    build_again(rt, world, pass);
     tick_again(rt, alloc, world, keeper);
     Ok(())
 }
@@ -51,6 +59,26 @@ fn act_again<A: Places, B: Seats, R: Wait + Abort>(
     }
 }
 
+// Two pistons with a stone before each, which their levers let push into the same cell.
+fn build_again<A: Places, B: Seats, R: Wait + Abort>(
+    rt: &R,
+    world: &World<A, B>,
+    pass: &mut Pass<A, B>,
+) {
+    for (piston, facing, stone) in [(FIRST, Dir::East, 3), (SECOND, Dir::West, 5)] {
+        let lever = Pos::new(piston.x, 1, 3);
+        let sticky = false;
+        for cmd in [
+            Cmd::Place(piston, Part::Piston { facing, sticky }),
+            Cmd::Place(Pos::new(stone, 1, 2), Part::Stone),
+            Cmd::Place(lever, Part::Lever(Dir::Down)),
+            Cmd::Turn(lever),
+        ] {
+            assert!(rt; submit_again(rt, world, pass, cmd).is_ok());
+        }
+    }
+}
+
 // Carries out a command, a second time where memory was refused to the first.
 fn submit_again<A: Places, B: Seats, R: Wait>(
     rt: &R,
@@ -70,11 +98,16 @@ fn tick_again<A: Places, B: Seats, R: Threads + Wait + Abort + Sync>(
     world: &World<A, B>,
     keeper: &mut Keeper<A>,
 ) {
-    if let Err(error) = world.tick(rt, alloc, keeper, 1, &NoGate) {
-        assert!(rt; error == TickError::NoMemory);
-        assert!(rt; keeper.archive().ticks().is_empty());
-        assert!(rt; world.tick(rt, alloc, keeper, 1, &NoGate).is_ok());
-    }
+    let ticked = match world.tick(rt, alloc, keeper, 1, &NoGate) {
+        Ok(fates) => Ok(fates),
+        Err(error) => {
+            assert!(rt; error == TickError::NoMemory);
+            assert!(rt; keeper.archive().ticks().is_empty());
+            world.tick(rt, alloc, keeper, 1, &NoGate)
+        }
+    };
+    let due = [(FIRST, Fate::Moved), (SECOND, Fate::Beaten(FIRST))];
+    assert!(rt; ticked.is_ok_and(|fates| fates.as_slice() == due.as_slice()));
     assert!(rt; keeper.archive().ticks().len() == 1);
 }
 
@@ -88,7 +121,7 @@ pub fn finished_again<A: Places, B: Seats>(
 ) -> Result<(), Fail>
     requires ledgers { (A.parts ≡ A.all + B.all) × (B.parts ≡ 2 * B.all) }
 {
-    let counts = (4, 1);
+    let counts = (12, 1);
     let unsettled = match lifted.finish(alloc, keeper, passes) {
         Ok(report) => {
             has_counts(rt, &report, counts);

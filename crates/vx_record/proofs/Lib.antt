@@ -1,4 +1,5 @@
 pub mod Adding
+pub mod Behind
 pub mod Commanded
 pub mod Counting
 pub mod Decided

@@ -4,6 +4,7 @@ pub mod Chronicles
 pub mod Openings
 pub mod Owners
 pub mod Records
+pub mod Rests
 pub mod Said
 pub mod Settling
 pub mod Spares

@@ -13,6 +13,7 @@ mod lists;
 mod opening;
 mod opening_error;
 mod place;
+mod rests;
 mod saying;
 mod seated;
 mod settling;

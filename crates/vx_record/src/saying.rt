@@ -31,7 +31,7 @@ pub fn says(calls: &[Call], seat: u8, at: usize, ticks: &[Tick], window: &[Entry
 }
 
 // The entries of a sector in a tick's windows.
-fn window_of(tick: &Tick, at: usize) -> &[Entry]
+pub(crate) fn window_of(tick: &Tick, at: usize) -> &[Entry]
     ensures { map entry_of result.now ≡ window_at at (tick_in tick.now) }
 {
     match tick.windows.get(at) {
@@ -58,7 +58,7 @@ fn rest_after<'a>(calls: &'a [Call], seat: u8, entries: &[Entry]) -> Option<&'a 
 }
 
 // What is left of the calls after one entry.
-fn rest_after_one<'a>(calls: &'a [Call], seat: u8, entry: &Entry) -> Option<&'a [Call]>
+pub(crate) fn rest_after_one<'a>(calls: &'a [Call], seat: u8, entry: &Entry) -> Option<&'a [Call]>
     ensures { MatchOption result
         ((more : List Call) → calls.now ≢ calls_of seat (entry_of entry.now ∷ []) ++ more)
         (λ rest. calls.now ≡ calls_of seat (entry_of entry.now ∷ []) ++ rest.now) }

@@ -1,14 +1,20 @@
 //! Whether the passes of a world, its sectors and its keeper agree in the end.
 ghost use Rattle.std.specs.Bool.{Decides};
 ghost use Rattle.std.specs.List.{All};
-ghost use Rattle.std.specs.Prelude.{◌≡◌, ℕ, ◌<◌, ◌^◌, [], length, map, slice_index_or, MatchOption};
-ghost use Rattle.vx_record.specs.Settling.{IsEachOnce, callers_at, AreKnown, IsTorn, open_entries, Agrees, AllAgree, SomeDiffers, IsFound};
-ghost use Rattle.vx_record.specs.Said.{said_of};
+ghost use Rattle.std.specs.Prelude.{◌≡◌, ℕ, ◌<◌, ◌≤◌, ◌^◌, [], length, map, slice_index_or, MatchOption};
+ghost use Rattle.vx_record.specs.Settling.{IsEachOnce, callers_at, AreKnown, IsTorn, open_entries, AllAgree, SomeDiffers, IsFound};
+ghost use Rattle.vx_record.specs.Rests.{Tells, SomeTellsNot};
+ghost use Rattle.vx_sector.specs.SectorData.{entry_of};
+ghost use Rattle.vx_windows.specs.declared.limits.TheConstants.{MAX_PLAYERS};
 
 use crate::archive::Archive;
+use crate::call::Call;
 use crate::caller::Caller;
 use crate::fault::Fault;
 use crate::place::Place;
+use crate::rests::unsaid;
+use vx_sector::Entry;
+use vx_windows::MAX_PLAYERS;
 
 /// Why a world is not settled, if it is not: a pass is missing, or else a sector differs from what
 /// its keeper has of it, or else a list differs from what the record says. It takes no memory.
@@ -22,6 +28,7 @@ pub fn disagreement<P: Caller, S: Place>(
     requires lists { All (λ p. length (P.caller p).lists ≡ length places.now) callers.now }
     requires all { length places.now ≡ S.count keeper.now }
     requires few { length places.now < 2 ^ 32 }
+    requires seats { seats ≤ MAX_PLAYERS }
     ensures { IsFound seats (map P.caller callers.now) (map S.sector places.now)
         (S.known keeper.now) archive.now.chronicle.ticks result }
 {
@@ -31,7 +38,7 @@ pub fn disagreement<P: Caller, S: Place>(
     if let Some(at) = first_torn(places, keeper) {
         return Some(Fault::Torn(at));
     }
-    let (seat, at) = first_difference(callers, places, archive)?;
+    let (seat, at) = first_difference(callers, seats, places, archive)?;
     Some(Fault::ListsDiffer(seat, at))
 }
 
@@ -93,12 +100,16 @@ fn first_torn<S: Place>(places: &[S], keeper: &S::Keeper) -> Option<u32>
     None
 }
 
-// A seat and a sector of which a list differs from what the record says.
+// A seat and a sector of which a list differs from what the record says. It goes over the entries
+// of each sector once, however many seats there are.
 fn first_difference<P: Caller, S: Place>(
     callers: &[P],
+    seats: u8,
     places: &[S],
     archive: &Archive,
 ) -> Option<(u8, u32)>
+    requires seats { seats ≤ MAX_PLAYERS }
+    requires once { IsEachOnce seats (map P.caller callers.now) }
     requires lists { All (λ p. length (P.caller p).lists ≡ length places.now) callers.now }
     requires few { length places.now < 2 ^ 32 }
     ensures { MatchOption result
@@ -107,41 +118,56 @@ fn first_difference<P: Caller, S: Place>(
         (λ d. SomeDiffers archive.now.chronicle.ticks (map S.sector places.now)
         (map P.caller callers.now) d.0 d.1) }
 {
-    for caller in callers {
-        if let Some(at) = differing_list(caller, places, archive) {
-            return Some((caller.seat(), at));
-        }
-    }
-    None
-}
-
-// A sector of which the caller's list differs from what the record says.
-fn differing_list<P: Caller, S: Place>(caller: &P, places: &[S], archive: &Archive) -> Option<u32>
-    requires lists { length (P.caller caller.now).lists ≡ length places.now }
-    requires few { length places.now < 2 ^ 32 }
-    ensures { MatchOption result
-        (AllAgree archive.now.chronicle.ticks (map S.sector places.now) (P.caller caller.now))
-        (λ k. (k < length places.now) × ¬ Agrees archive.now.chronicle.ticks
-        (map S.sector places.now) (P.caller caller.now) k) }
-{
     for (at, place) in places.iter().enumerate() {
-        if !agrees(caller, at, place, archive) {
-            return Some(at as u32);
+        if let Some(seat) = differing_seat(callers, seats, at, place, archive) {
+            return Some((seat, at as u32));
         }
     }
     None
 }
 
-// Whether the caller's list for a sector is what the record says.
-fn agrees<P: Caller, S: Place>(caller: &P, at: usize, place: &S, archive: &Archive) -> bool
-    requires { at < length (P.caller caller.now).lists }
-    ensures { Decides result (slice_index_or (P.caller caller.now).lists at []
-        ≡ said_of (P.caller caller.now).seat at archive.now.chronicle.ticks
-        (open_entries (S.sector place.now))) }
+// A seat of which the list for a sector differs from what the record says.
+fn differing_seat<P: Caller, S: Place>(
+    callers: &[P],
+    seats: u8,
+    at: usize,
+    place: &S,
+    archive: &Archive,
+) -> Option<u8>
+    requires seats { seats ≤ MAX_PLAYERS }
+    requires once { IsEachOnce seats (map P.caller callers.now) }
+    requires lists { All (λ p. at < length (P.caller p).lists) callers.now }
+    ensures { MatchOption result
+        (All (Tells at archive.now.chronicle.ticks (open_entries (S.sector place.now)))
+        (map P.caller callers.now))
+        (λ seat. SomeTellsNot at archive.now.chronicle.ticks (open_entries (S.sector place.now))
+        (map P.caller callers.now) seat) }
 {
-    let calls = caller.lists().calls(at);
+    let mut rests = calls_at(callers, seats, at);
+    unsaid(&mut rests, seats, at, archive.ticks(), window_in(place))
+}
+
+// The entries of a sector's open window; none where no sector is there.
+fn window_in<S: Place>(place: &S) -> &[Entry]
+    ensures { map entry_of result.now ≡ open_entries (S.sector place.now) }
+{
     match place.sector() {
-        Some(sector) => archive.says(calls, caller.seat(), at, sector.entries()),
-        None => archive.says(calls, caller.seat(), at, &[]),
+        Some(sector) => sector.entries(),
+        None => &[],
     }
+}
+
+// The calls in a sector, in a table by the seats of their callers.
+fn calls_at<P: Caller>(callers: &[P], seats: u8, at: usize) -> [&[Call]; MAX_PLAYERS]
+    requires seats { seats ≤ MAX_PLAYERS }
+    requires once { IsEachOnce seats (map P.caller callers.now) }
+    requires lists { All (λ p. at < length (P.caller p).lists) callers.now }
+    ensures { All (λ c. slice_index_or (map (λ calls. calls.now) result) c.seat []
+        ≡ slice_index_or c.lists at []) (map P.caller callers.now) }
+{
+    let mut table: [&[Call]; MAX_PLAYERS] = [&[]; MAX_PLAYERS];
+    for caller in callers {
+        table[usize::from(caller.seat())] = caller.lists().calls(at);
+    }
+    table
 }

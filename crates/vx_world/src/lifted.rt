@@ -1,4 +1,5 @@
-ghost use Rattle.std.specs.Prelude.{◌≡◌, ◌^◌, ◌<◌, vec_len};
+ghost use Rattle.std.specs.Prelude.{◌≡◌, ◌^◌, ◌<◌, ◌≤◌, vec_len};
+ghost use Rattle.vx_windows.specs.Limits.{most_players};
 
 use crate::books::Books;
 use crate::seats::Seats;
@@ -15,6 +16,7 @@ pub struct Lifted<A: Places, B: Seats> {
     ghost all_here: { vec_len slots ≡ A.all },
     ghost few: { A.all < 2 ^ 32 },
     ghost seated: { seats ≡ B.all },
+    ghost bounded: { B.all ≤ most_players },
 }
 
 impl<A: Places, B: Seats> Lifted<A, B> {
@@ -23,6 +25,7 @@ impl<A: Places, B: Seats> Lifted<A, B> {
         requires all_here { vec_len slots ≡ A.all }
         requires few { A.all < 2 ^ 32 }
         requires seated { seats ≡ B.all }
+        requires bounded { B.all ≤ most_players }
     {
         Lifted {
             slots,

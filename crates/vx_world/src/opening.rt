@@ -4,6 +4,7 @@ ghost use Rattle.std.specs.Prelude.{◌≡◌, ◌≤◌, ◌+◌, ◌*◌, leng
 ghost use Rattle.vx_region.specs.Texts.{texts};
 ghost use Rattle.vx_sector.specs.SectorData.{seat_of};
 ghost use Rattle.vx_sector.specs.Windows.{count_of};
+ghost use Rattle.vx_windows.specs.Limits.{most_players};
 ghost use Rattle.vx_windows.specs.Sectors.{first_version};
 ghost use Rattle.vx_keeper.specs.Marks.{IsPartOf};
 ghost use Rattle.vx_world.specs.Openings.{seats_from};
@@ -105,7 +106,7 @@ pub fn passes<A: Places, B: Seats>(
     places: &mut Share<A>,
     seats: &mut Share<B>,
 ) -> Result<Vec<Pass<A, B>>, AllocError>
-    requires few { length names.now ≤ 16 }
+    requires few { length names.now ≤ most_players }
     requires sectors { sectors ≡ A.all }
     requires places { length names.now ≤ places.old.parts }
     requires seats { seats.old.parts ≡ 2 * length names.now }

@@ -4,6 +4,7 @@ ghost use Rattle.vx_geom.specs.Sizes.{sector_count, sector_of};
 ghost use Rattle.vx_sector.specs.Commands.{place_of};
 ghost use Rattle.vx_sector.specs.SectorData.{seat_of};
 ghost use Rattle.vx_sector.specs.Windows.{is_recorded};
+ghost use Rattle.vx_windows.specs.Limits.{most_players};
 ghost use Rattle.vx_windows.specs.Sectors.{first_version};
 ghost use Rattle.vx_record.specs.Calls.{with_call};
 ghost use Rattle.vx_world.specs.Openings.{seats_from};
@@ -43,6 +44,7 @@ pub struct World<A: Places, B: Seats> {
     ghost divided: { sector_count bounds ≡ A.all },
     ghost few: { A.all < 2 ^ 32 },
     ghost seated: { seats ≡ B.all },
+    ghost bounded: { B.all ≤ most_players },
 }
 
 // Written out, so that what is above this crate need not prove how its parts are let go.
@@ -126,6 +128,7 @@ impl<A: Places, B: Seats> World<A, B> {
         requires divided { sector_count bounds ≡ A.all }
         requires few { A.all < 2 ^ 32 }
         requires seated { seats ≡ B.all }
+        requires bounded { B.all ≤ most_players }
         ensures { result.bounds ≡ bounds }
     {
         World {

@@ -45,8 +45,15 @@ fn clear(counts: &mut [Row])
     ensures { (k seat : ℕ) → count_at counts.new k seat ≡ 0 }
 {
     for row in counts.iter_mut() {
-        *row = [0; MAX_PLAYERS];
+        clear_row(row);
     }
+}
+
+// Counts nothing of any seat.
+fn clear_row(row: &mut Row)
+    ensures { AreNone row.new }
+{
+    *row = [0; MAX_PLAYERS];
 }
 
 // Counts a call; one out of the world is not counted.

@@ -8,7 +8,6 @@ ghost use Rattle.vx_windows.specs.Limits.{most_players};
 ghost use Rattle.vx_windows.specs.Sectors.{first_version};
 ghost use Rattle.vx_keeper.specs.Marks.{IsPartOf};
 ghost use Rattle.vx_world.specs.Openings.{seats_from};
-ghost use Rattle.vx_windows.specs.Limits.{most_players};
 
 use crate::home::Home;
 use crate::pass::Pass;

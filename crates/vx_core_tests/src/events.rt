@@ -11,6 +11,7 @@ use vx_policy::{Edit, Policy};
 use vx_region::{Name, RegionNo};
 use vx_sector::{Cmd, Entry, Refusal, Reply, Seat};
 use vx_step::Phase;
+use vx_windows::MAX_PLAYERS;
 
 const DENIED: Result<Reply, Refusal> = Err(Refusal::Denied(Rule::Member { at: RegionNo(1) }));
 
@@ -89,13 +90,13 @@ fn has_entries(rt: &impl Abort, window: &[Entry], due: &[Entry]) {
     same(rt, &window, &due);
 }
 
-// Parts are set inside the world, for 16 players at most.
+// Parts are set inside the world, for as many players as a world may have.
 #[test]
 fn an_opening_has_its_parts_and_players(rt: HostRuntime) -> Result<(), Fail> {
-    let mut opening = opening(rt.alloc(), 16)?;
+    let mut opening = opening(rt.alloc(), MAX_PLAYERS)?;
     has_parts(&rt, &mut opening)?;
-    same(&rt, &opening.names().len(), &16);
-    are_too_many(&rt, rt.alloc(), 17)
+    same(&rt, &opening.names().len(), &MAX_PLAYERS);
+    are_too_many(&rt, rt.alloc(), MAX_PLAYERS + 1)
 }
 
 fn has_parts(rt: &impl Abort, opening: &mut Opening) -> Result<(), AllocError> {

@@ -52,7 +52,7 @@ impl Opening {
     ghost use Rattle.vx_windows.specs.Limits.{most_players};
 
     /// A world of this size with nothing but air, for the players of these names, of which there
-    /// may be 16. Two seats may have one name.
+    /// may be 64. Two seats may have one name.
     pub fn new(
         alloc: Global,
         bounds: Bounds,
@@ -73,7 +73,7 @@ impl Opening {
         })
     }
 
-    /// A world with this terrain, for the players of these names, of which there may be 16. Two
+    /// A world with this terrain, for the players of these names, of which there may be 64. Two
     /// seats may have one name. It takes no memory.
     pub fn of(terrain: Whole, names: Vec<Name>, policy: Policy) -> Result<Opening, OpeningError>
         ensures ok { IfOk result (λ opening. opening

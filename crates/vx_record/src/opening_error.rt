@@ -3,7 +3,7 @@ use std::alloc::AllocError;
 /// Why an opening was not made.
 #[derive(Clone, Copy, Debug, PartialEq, Eq)]
 pub enum OpeningError {
-    /// It has more names than a world has seats: 16.
+    /// It has more names than a world has seats: 64.
     TooManyPlayers,
     NoMemory,
 }

@@ -34,8 +34,15 @@ sizes_are_sound sx sz s h v said =
         let x = amid sx one in let z = amid sz two in let t = amid s three in let tall = height_is h four in
         let same : record { sx = sx; sz = sz; s = s; h = h } ≡ v = cc in
         subst AreSizes same (record {
-          sx_least = x.0; sx_most = x.1; sz_least = z.0; sz_most = z.1; s_least = t.0; s_most = t.1;
-          h_least = tall.0; h_most = tall.1.0; h_whole = tall.1.1;
+          sx_least = x.0;
+          sx_most = x.1;
+          sz_least = z.0;
+          sz_most = z.1;
+          s_least = t.0;
+          s_most = t.1;
+          h_least = tall.0;
+          h_most = tall.1.0;
+          h_whole = tall.1.1;
         })
       where
         amid : {most : ℕ} (n : ℕ) → is_amid 1 n most ≡ true → (1 ≤ n) × (n ≤ most)

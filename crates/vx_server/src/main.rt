@@ -9,7 +9,6 @@ ghost use Rattle.vx_step.specs.declared.workers.TheConstants.{MAX_WORKERS};
 
 use clap::error::ErrorKind;
 use options::{JSON, REGIONS, WORKERS, command};
-use vx_step::MAX_WORKERS;
 use std::io::BufWriter;
 use std::process::ExitCode;
 use std::sync::Wait;
@@ -17,6 +16,7 @@ use std::thread::Threads;
 use std::{env, fs, io};
 use vx_policy::Policy;
 use vx_script::{Fault, read_regions, run};
+use vx_step::MAX_WORKERS;
 
 /// How many bytes of replies are kept before they are written.
 const OUTPUT_BYTES: usize = 65_536;

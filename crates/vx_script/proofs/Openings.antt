@@ -41,8 +41,8 @@ sizes_are_sound sx sz s h v said =
           s_least = t.0;
           s_most = t.1;
           h_least = tall.0;
-          h_most = tall.1.0;
-          h_whole = tall.1.1;
+          h_most = tall.1;
+          h_whole = tall.2;
         })
       where
         amid : {most : ℕ} (n : ℕ) → is_amid 1 n most ≡ true → (1 ≤ n) × (n ≤ most)

@@ -20,9 +20,9 @@ record_in chronicle windows version = record {
   version = version;
 }
 
--- the deeds are a game in the world that opened so: what was told of each is what the game gives, one
--- after another; and the record is what that game records: its ticks, the open windows and their
--- version; it has as many ticks and recorded calls
+-- the deeds are a game in the world that opened so: what was told of each is what the game gives,
+-- one after another; and the record is what that game records: its ticks, the open windows and
+-- their version; it has as many ticks and recorded calls
 pub record IsGameOf (r : RecordData) (deeds : List DeedData) : Type 0 where
   pub last : PlayData
   pub played : IsPlayed

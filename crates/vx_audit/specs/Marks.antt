@@ -49,9 +49,9 @@ fates_among (Ticked fates ∷ deeds) = fates ∷ fates_among deeds
 abbrev pub said_by : Sizes → ℕ → ℕ → List DeedData → List Call
 said_by sizes seat k deeds = map call_in (filter (is_from sizes seat (Some k)) (calls_among deeds))
 
--- what is known of the deeds beside their marks: of each seat and sector they say what the record says;
--- each call is from a seat of the world; those out of the world were refused so; and the fates are those
--- of the ticks on record
+-- what is known of the deeds beside their marks: of each seat and sector they say what the record
+-- says; each call is from a seat of the world; those out of the world were refused so; and the
+-- fates are those of the ticks on record
 pub record IsKnownOf (r : RecordData) (deeds : List DeedData) : Type 0 where
   pub said : (seat k : ℕ) → seat < length r.chronicle.opening.names
       → k < length r.chronicle.opening.terrain.sectors

@@ -7,8 +7,8 @@ use Rattle.vx_record.specs.Chronicles.{TickData}
 use Rattle.vx_play.specs.Plays.{PlayData}
 use Rattle.vx_audit.specs.Deeds.{DeedData, Called, Together, Edited, Ticked, Does, AreInOrder}
 
--- the tick that a game records next, with these fates: its number, the version that judges it and the
--- commands before it, and what each sector has recorded in its window
+-- the tick that a game records next, with these fates: its number, the version that judges it and
+-- the commands before it, and what each sector has recorded in its window
 abbrev pub tick_of : PlayData → List (Pos × Fate) → TickData
 tick_of play fates = record {
   number = play.ticks + 1;
@@ -24,8 +24,8 @@ ticks_by play (Together calls) = []
 ticks_by play (Edited edit) = []
 ticks_by play (Ticked fates) = tick_of play fates ∷ []
 
--- deeds, one after another, lead from a game to another, what was told of each is what the game gives
--- then, and these are the ticks that it records on the way
+-- deeds, one after another, lead from a game to another, what was told of each is what the game
+-- gives then, and these are the ticks that it records on the way
 abbrev pub IsRecorded : PlayData → List DeedData → List TickData → PlayData → Type 0
 IsRecorded play [] ticks last = (ticks ≡ []) × (last ≡ play)
 IsRecorded play (deed ∷ deeds) ticks last =

@@ -82,7 +82,8 @@ abbrev pub FollowsCall : WalkData → ℕ → WalkData → Option ℕ → Type 0
 FollowsCall w seat next None = next ≡ w
 FollowsCall w seat next (Some k) = FollowsIn w seat k next
 
--- of each sector's window a front comes next that has as many entries of each seat as there are calls
+-- of each sector's window a front comes next that has as many entries of each seat as there are
+-- calls
 pub record FollowsBlock (w : WalkData) (spots : List SpotData) (next : WalkData) : Type 0 where
   pub fronts : List (List EntryData)
   pub rests : List (List EntryData)

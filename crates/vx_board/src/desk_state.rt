@@ -6,8 +6,8 @@ use std::alloc::{AllocError, Global};
 use std::marker::{Model, PhantomData};
 use vx_policy::{Edit, Policy, Version};
 
-/// What a desk holds: the edits that it accepted, and the policy after them. Contracts see the list;
-/// the first policy stands in the type.
+/// What a desk holds: the edits that it accepted, and the policy after them. Contracts see the
+/// list; the first policy stands in the type.
 #[derive(Drop)]
 pub struct DeskState<J: Naming> {
     accepted: Vec<Edit>,

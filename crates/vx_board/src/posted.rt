@@ -15,7 +15,8 @@ use vx_geom::Pos;
 use vx_policy::Policy;
 use vx_region::Subject;
 
-/// What readers of a desk take: a policy, and the front of the edits that led to it. Contracts see it as these edits.
+/// What readers of a desk take: a policy, and the front of the edits that led to it. Contracts see
+/// it as these edits.
 #[derive(Drop)]
 pub struct Posted<J: Board> {
     policy: Policy,

@@ -11,7 +11,7 @@ ghost use Rattle.vx_index.specs.Shapes.{Shapes, renewed_at};
 ghost use Rattle.vx_index.specs.Squares.{IsSquare};
 
 use crate::patch::Patch;
-use crate::patches::{add_any, add_patches, square};
+use crate::patches::{SIDE, add_any, add_patches, square};
 use arrayvec::ArrayVec;
 use std::alloc::{AllocError, Global};
 use vx_decide::{Asker, Verdict, decide_among};
@@ -55,16 +55,21 @@ impl Chunk {
             let (number, region) = regions.nth(place);
             add_patches(&mut patches, number.0, region.shape(), west, north)?;
         }
-        Chunk::made(alloc, square(west, north), patches)
+        Chunk::made(alloc, square(west, north), patches, 0)
     }
 
-    // The chunk of these columns in which these patches lie.
-    fn made(alloc: Global, columns: Extent, patches: Vec<Patch>) -> Result<Chunk, AllocError>
+    // The chunk of these columns in which these patches lie, of so many regions or some more.
+    fn made(
+        alloc: Global,
+        columns: Extent,
+        patches: Vec<Patch>,
+        regions: usize,
+    ) -> Result<Chunk, AllocError>
         ensures of { (shapes : Shapes) → AreOf shapes columns patches.items
             → IfOk result (TellsOf shapes) }
         ensures columns { IfOk result (λ chunk. chunk.columns ≡ columns) }
     {
-        let numbers = numbers_of(alloc, &patches)?;
+        let numbers = numbers_of(alloc, &patches, regions)?;
         Ok(Chunk {
             columns,
             patches,
@@ -192,10 +197,10 @@ impl Chunk {
         ensures columns { IfOk result (λ chunk. chunk.columns ≡ self.now.columns) }
     {
         let (west, north) = self.corner();
-        let mut patches = self.before(alloc, number)?;
+        let mut patches = self.before(alloc, number, most_patches(shape))?;
         add_any(&mut patches, number, shape, west, north)?;
         self.add_behind(&mut patches, number)?;
-        Chunk::made(alloc, self.columns, patches)
+        Chunk::made(alloc, self.columns, patches, self.numbers.len())
     }
 
     // Where the chunk begins, from the west and from the north.
@@ -210,16 +215,18 @@ impl Chunk {
         )
     }
 
-    // The patches of the regions before that number.
-    fn before(&self, alloc: Global, number: u32) -> Result<Vec<Patch>, AllocError>
+    // The patches of the regions before that number, with room for all others and so many more.
+    fn before(&self, alloc: Global, number: u32, more: usize) -> Result<Vec<Patch>, AllocError>
         ensures { IfOk result (λ patches. patches.items
             ≡ filter (λ d. nat_lt d.number number) self.now.patches.items) }
     {
-        self.patches
-            .iter()
-            .copied()
-            .filter(|patch| patch.number < number)
-            .collect(alloc)
+        let mut patches = Vec::with_capacity(alloc, self.patches.len().saturating_add(more))?;
+        for patch in &self.patches {
+            if patch.number < number {
+                patches.push(*patch)?;
+            }
+        }
+        Ok(patches)
     }
 
     // Adds the patches of the regions behind that number.
@@ -236,12 +243,22 @@ impl Chunk {
     }
 }
 
-// The numbers of the regions that these patches are of, each once and in order.
-fn numbers_of(alloc: Global, patches: &[Patch]) -> Result<Vec<u32>, AllocError>
+// How many patches a shape has in a chunk at most. No clause says so: only room rests on it.
+fn most_patches(shape: Option<&Shape>) -> usize {
+    match shape {
+        None => 0,
+        Some(shape) if shape.is_cuboid() => 1,
+        Some(_) => SIDE as usize,
+    }
+}
+
+// The numbers of the regions that these patches are of, each once and in order. They are so many,
+// or some more.
+fn numbers_of(alloc: Global, patches: &[Patch], regions: usize) -> Result<Vec<u32>, AllocError>
     ensures { IfOk result (λ numbers. AreInOrder 0 patches.now
         → AreNumbersOf (λ d. true) patches.now numbers.items) }
 {
-    let mut numbers = Vec::new(alloc);
+    let mut numbers = Vec::with_capacity(alloc, regions)?;
     let mut last = 0;
     for patch in patches {
         if last < patch.number {

@@ -148,8 +148,8 @@ impl Land {
         }
     }
 
-    /// The verdict of these regions where few of them are near the place; `None` where more are, and
-    /// outside the widest world.
+    /// The verdict of these regions where few of them are near the place; `None` where more are,
+    /// and outside the widest world.
     pub(crate) fn decide_by_few(
         &self,
         regions: &RegionSet,

@@ -1,4 +1,5 @@
-//! The regions near a position, found by chunks, and verdicts that were given: decisions that cost what is near.
+//! The regions near a position, found by chunks, and verdicts that were given: decisions that cost
+//! what is near.
 #![tactic(auto)]
 
 mod asked;

@@ -19,8 +19,8 @@ use Rattle.vx_record.specs.Archives.{ArchiveData, IsArchive}
 use Rattle.vx_record.specs.Settling.{KnownData}
 use Rattle.vx_keeper.specs.Marks.{WorldData}
 
--- a keeper: the chronicle, how many entries of each sector are closed in it, the world as its windows
--- began, the edits that it has seen, and whether the chronicle has room for a tick more
+-- a keeper: the chronicle, how many entries of each sector are closed in it, the world as its
+-- windows began, the edits that it has seen, and whether the chronicle has room for a tick more
 pub record KeeperData : Type 0 where
   pub chronicle : ChronicleData
   pub counts : List ℕ
@@ -37,8 +37,8 @@ keeper_data archive world seen = record {
   is_roomy = archive.is_roomy;
 }
 
--- the versions of these ticks, and the next one after them, are by these edits, each accepted in its
--- turn: by no fewer from one to the next, and the first of all by none
+-- the versions of these ticks, and the next one after them, are by these edits, each accepted in
+-- its turn: by no fewer from one to the next, and the first of all by none
 pub record AreByEdits (first : Regions) (edits : List Asked) (ticks : List TickData) (next : Version)
     : Type 0 where
   pub accepted : AreAccepted first edits
@@ -47,9 +47,9 @@ pub record AreByEdits (first : Regions) (edits : List Asked) (ticks : List TickD
   pub last : next ≡ version_by first edits next.edits (length ticks + 1)
   pub within : next.edits ≤ length edits
 
--- what holds of every keeper of a world with so many sectors, whose desk was opened with this policy:
--- its chronicle is what the one-threaded rules give, the world is the map after its ticks, judged by
--- the version of the next, and all versions are by edits that it has seen
+-- what holds of every keeper of a world with so many sectors, whose desk was opened with this
+-- policy: its chronicle is what the one-threaded rules give, the world is the map after its ticks,
+-- judged by the version of the next, and all versions are by edits that it has seen
 pub record IsKeeper (first : Regions) (sectors : ℕ) (k : KeeperData) : Type 0 where
   pub archive : IsArchive k.chronicle k.counts
   pub opening : k.chronicle.opening.policy ≡ first

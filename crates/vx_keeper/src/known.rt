@@ -95,8 +95,8 @@ impl Known {
         began_with(sector, &self.cells[at], &self.version)
     }
 
-    /// Goes on to the world as the next windows begin, over these cells, judged by this version, and
-    /// hands out the version before. It takes no memory.
+    /// Goes on to the world as the next windows begin, over these cells, judged by this version,
+    /// and hands out the version before. It takes no memory.
     pub fn go_on(&mut self, cells: Vec<Cells>, version: Version) -> Version
         requires { AreSectors self.old.map.sizes cells.items }
         ensures map { self.new.map

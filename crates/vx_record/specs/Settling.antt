@@ -88,9 +88,9 @@ pub record SomeDiffers (ticks : List TickData) (places : List (Option SectorData
   pub there : k < length places
   pub differs : ¬ Agrees ticks places caller k
 
--- what a settlement finds: each seat's caller, or that not each is there once; else that all sectors
--- are what the keeper has of them, or the first that is not; else that all lists agree with the
--- record, or a seat and a sector of which they do not
+-- what a settlement finds: each seat's caller, or that not each is there once; else that all
+-- sectors are what the keeper has of them, or the first that is not; else that all lists agree with
+-- the record, or a seat and a sector of which they do not
 abbrev pub IsFound : ℕ → List CallerData → List (Option SectorData) → (ℕ → KnownData)
     → List TickData → Option Fault → Type 0
 IsFound seats callers places known ticks None =

@@ -1,7 +1,7 @@
 ghost use Rattle.vx_region_laws.specs.Domain.{NoDomainAsBefore, DomainsAreNoPlayers, OneDomainJoins, LastDomainParts, ParentsAreTheChilds, ChildsAreNotTheParents};
 
-/// To a region without a domain, of its own or of an ancestor, a machine is what it would be if there
-/// were no domains: an owner exactly where its place is in the region.
+/// To a region without a domain, of its own or of an ancestor, a machine is what it would be if
+/// there were no domains: an owner exactly where its place is in the region.
 pub fn no_domain_changes_nothing()
     ensures { NoDomainAsBefore }
 {}
@@ -11,8 +11,9 @@ pub fn domains_are_no_players()
     ensures { DomainsAreNoPlayers }
 {}
 
-/// Where two regions list one domain, a machine in one is an owner of the other. Once the last domain
-/// that they have in common is dropped, it is a stranger to the other, if it does not stand there.
+/// Where two regions list one domain, a machine in one is an owner of the other. Once the last
+/// domain that they have in common is dropped, it is a stranger to the other, if it does not stand
+/// there.
 pub fn one_domain_joins()
     ensures joined { OneDomainJoins }
     ensures parted { LastDomainParts }

@@ -47,8 +47,8 @@ impl Fresh {
         Fresh::over(alloc, copy, version)
     }
 
-    /// A window over these cells, judged by a copy of this version. The base is a copy, which shares
-    /// what they hold.
+    /// A window over these cells, judged by a copy of this version. The base is a copy, which
+    /// shares what they hold.
     pub fn over(alloc: Global, cells: Cells, version: &Version) -> Result<Fresh, AllocError>
         ensures { IfOk result (λ fresh.
             fresh ≡ record { cells = cells; version = version.now }) }

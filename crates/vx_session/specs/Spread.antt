@@ -1,4 +1,5 @@
--- What a function that is called at each element of a list needs of them, and what it leaves of them.
+-- What a function that is called at each element of a list needs of them, and what it leaves of
+-- them.
 use Rattle.std.specs.Prelude.{◌≡◌, ℕ, ◌<◌, List, length, slice_index_or}
 use denote.Ref.{MutBor}
 use denote.Param.Members.{Shared}

@@ -24,9 +24,9 @@ use vx_power::all_levels;
 use vx_tick::{Fate, Found, moved, sort_moves};
 
 /// The map after a tick and the fates of its moves, as `step_plain` gives them for the map of these
-/// sectors, those of a world of this size in order of their numbers. It is worked by 1 to 8 threads:
-/// each works the sectors that `sectors_of` tells for it.
-/// The work of a thread that cannot be had is done all the same.
+/// sectors, those of a world of this size in order of their numbers. It is worked by 1 to 8
+/// threads: each works the sectors that `sectors_of` tells for it. The work of a thread that cannot
+/// be had is done all the same.
 pub fn step_parts<R: Threads + Sync, G: Gate + Sync>(
     rt: &R,
     alloc: Global,

@@ -84,8 +84,8 @@ impl Seen {
         self.add_all(map, levels, here.as_slice())
     }
 
-    /// Adds what is found in a sector, where the map rests outside these places. It costs what those
-    /// of the sector are.
+    /// Adds what is found in a sector, where the map rests outside these places. It costs what
+    /// those of the sector are.
     pub fn add_places<L: Leveled>(
         &mut self,
         alloc: Global,

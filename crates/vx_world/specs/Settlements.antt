@@ -29,8 +29,8 @@ IsHomeOf p (Some s) = holds s.cells p ≡ true
 abbrev pub count_here : {A : Type 0} {P : _} {E : _} {N : _} {H : _} → Slot A P E N H → ℕ
 count_here slot = unwrap_or (option_map (λ home. count_of home.marked) slot.home) 0
 
--- the entries of the sector there, if one is there, are a window over the cells with which it began,
--- by its version
+-- the entries of the sector there, if one is there, are a window over the cells with which it
+-- began, by its version
 abbrev pub IsWindowHere : Option SectorData → Type 0
 IsWindowHere None = ⊤
 IsWindowHere (Some s) = IsWindow s.version.policy s.base s.entries

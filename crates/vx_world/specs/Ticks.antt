@@ -10,8 +10,8 @@ use Rattle.vx_record.specs.Chronicles.{version_by}
 use Rattle.vx_record.specs.Settling.{AreKnown}
 use Rattle.vx_keeper.specs.Keepers.{KeeperData, known, map_next, fates_next, chronicle_next}
 
--- the keeper after the tick that closes the windows of these sectors, which are what it had of them;
--- their next windows are judged by all edits that it has seen by then
+-- the keeper after the tick that closes the windows of these sectors, which are what it had of
+-- them; their next windows are judged by all edits that it has seen by then
 pub record IsTickOf (first : Regions) (all : ℕ) (before : KeeperData) (sectors : List SectorData)
     (after : KeeperData) : Type 0 where
   pub each : length sectors ≡ all

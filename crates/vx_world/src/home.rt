@@ -19,7 +19,7 @@ use vx_sector::{Cmd, Refusal, Reply};
 
 /// A sector that is at home, with its share of the ledger, which is as many entries as it has, in
 /// closed windows too.
-#[derive(Drop)]
+// It is not `Drop`: whoever has one puts it home, or takes it apart.
 pub struct Home<A: Places> {
     pub(crate) marked: Marked<A>,
     pub(crate) share: Share<A>,

@@ -1,19 +1,34 @@
-ghost use Rattle.std.specs.Prelude.{◌≡◌, ◌↔◌, true};
+ghost use Rattle.std.specs.Prelude.{◌≡◌, ◌↔◌, Some, true};
 ghost use Rattle.vx_world.specs.Settlements.{IsHomeOf, sector_here};
 
 use crate::home::Home;
+use std::mem;
 use vx_geom::Pos;
 use vx_keeper::{Keeper, Places};
 use vx_record::Place;
 use vx_sector::Sector;
 
 /// What stands under the lock of a sector: the sector at home, or nothing while it is away.
-#[derive(Drop)]
 pub struct Slot<A: Places> {
     pub(crate) home: Option<Home<A>>,
 }
 
+// A sector is let go with its slot, and nowhere else.
+impl<A: Places> Drop for Slot<A> {
+    fn drop(self) {
+        let Slot { home } = self;
+        let_go(home);
+    }
+}
+
 impl<A: Places> Slot<A> {
+    /// Puts a sector home, in place of what stands there.
+    pub fn put(&mut self, home: Home<A>)
+        ensures { sector_here self.new ≡ Some home.marked }
+    {
+        let_go(mem::replace(&mut self.home, Some(home)));
+    }
+
     /// Whether a sector is at home that holds the position.
     pub fn is_home_of(&self, p: Pos) -> bool
         ensures { (result ≡ true) ↔ IsHomeOf p (sector_here self.now) }
@@ -50,5 +65,12 @@ impl<A: Places> Place for Slot<A> {
             Some(home) => keeper.knows(at, home.marked.sector(), keeper.has_marked(&home.marked)),
             None => false,
         }
+    }
+}
+
+// Lets a sector go that stands nowhere any more.
+fn let_go<A: Places>(home: Option<Home<A>>) {
+    if let Some(home) = home {
+        let _parts = home.into_parts();
     }
 }

@@ -10,7 +10,7 @@ use vx_sector::Sector;
 
 /// The sectors that a tick has taken out of their locks, in order of their numbers, each beside its
 /// share and whether its window is known to have begun with its part of the world.
-#[derive(Drop)]
+// It is not `Drop`: a tick ends only once it has put each of them back.
 pub struct Taken<A: Places> {
     pub(crate) sectors: Vec<Sector>,
     pub(crate) are_parts: Vec<bool>,
@@ -67,6 +67,17 @@ impl<A: Places> Taken<A> {
             unreachable!()
         };
         Some((sector, is_part, share))
+    }
+
+    /// Ends a tick that has put all of them back.
+    pub fn end(self)
+        requires { vec_len self.sectors ≡ 0 }
+    {
+        let Taken {
+            sectors: _sectors,
+            are_parts: _are_parts,
+            shares: _shares,
+        } = self;
     }
 
     /// Says of each that it is known to have begun with its part of the world.

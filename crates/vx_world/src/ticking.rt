@@ -86,8 +86,9 @@ impl<A: Places, B: Seats> World<A, B> {
                 unreachable!()
             };
             let home = Home::new(marked(keeper, sector, is_part), share);
-            self.slots[at].lock(rt).home = Some(home);
+            self.slots[at].lock(rt).put(home);
         }
+        taken.end();
         self.came.notify_all();
     }
 }

@@ -19,8 +19,8 @@ use vx_sector::Cmd;
 use vx_windows::MAX_PLAYERS;
 use vx_world::{Blanks, Lifted, Pass, Seats, World};
 
-/// What is done with a world of ann, bob and cyd, or of as many players as it may have, whose sectors
-/// have their first border at x 15/16.
+/// What is done with a world of ann, bob and cyd, or of as many players as it may have, whose
+/// sectors have their first border at x 15/16.
 #[derive(Clone, Copy)]
 pub enum Day {
     /// A command waits at the gate in one sector while one in the other is answered.

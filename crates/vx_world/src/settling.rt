@@ -181,7 +181,7 @@ fn closed<A: Places>(slot: Slot<A>) -> (Share<A>, Vec<Entry>)
     ensures window { entries_in result.1 ≡ open_entries (sector_here slot) }
     ensures open { IsWindowHere (sector_here slot) }
 {
-    let Some(home) = slot.home else {
+    let Some(home) = slot.into_home() else {
         unreachable!()
     };
     let (marked, share) = home.into_parts();

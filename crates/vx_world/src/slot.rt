@@ -29,6 +29,14 @@ impl<A: Places> Slot<A> {
         let_go(mem::replace(&mut self.home, Some(home)));
     }
 
+    /// The sector at home, if there is one.
+    pub fn into_home(self) -> Option<Home<A>>
+        ensures { result ≡ self.home }
+    {
+        let Slot { home } = self;
+        home
+    }
+
     /// Whether a sector is at home that holds the position.
     pub fn is_home_of(&self, p: Pos) -> bool
         ensures { (result ≡ true) ↔ IsHomeOf p (sector_here self.now) }

@@ -1,10 +1,9 @@
 -- Regions in blocks: what is read at a place, and what is written there.
-use Rattle.std.proofs.Common.{◌≡◌, ◌⊎◌, inl, inr, ℕ, Bool, true, false, ◌||◌, nat_lt, if◌then◌else◌, zero, suc, ◌+◌, ◌-◌, ◌<◌, ◌≤◌, List, [], ◌∷◌, ◌++◌, length, take, drop, remove, slice_get, slice_set, slice_index_or, Option, Some, None, option_map, Bor, arith, append_assoc, append-nil, length-append, length-drop, take_all, refl, ap, sym, ◌∙◌, subst}
-use Rattle.std.specs.List.{AllZip, list_any}
+use Rattle.std.proofs.Common.{◌≡◌, ◌⊎◌, inl, inr, ℕ, Bool, true, false, nat_lt, if◌then◌else◌, zero, suc, ◌+◌, ◌-◌, ◌<◌, ◌≤◌, List, [], ◌∷◌, ◌++◌, length, take, drop, remove, slice_get, slice_set, slice_index_or, Option, Some, None, option_map, Bor, arith, append_assoc, append-nil, length-append, length-drop, take_all, refl, ap, sym, ◌∙◌, subst}
+use Rattle.std.specs.List.{AllZip}
 use Rattle.std.specs.Global.{Vec}
 use Rattle.std.specs.Option.{IfSome}
 use Rattle.std.proofs.lemmas.List.Edits.{remove-append_left, remove-append_right}
-use Rattle.std.proofs.lemmas.List.Folds.{list_any-append}
 use Rattle.std.proofs.lemmas.Map.Entries.{entries_from_clone}
 use borrow.Author.Tests.{ltb-true, ltb-false}
 use Rattle.vx_region.specs.Blocks.{BlockData, joined, with_entries, AreInPlace, HaveMore, Holds, entry_at, written_at}
@@ -187,11 +186,6 @@ block_put at [] b start in_place = ((start ∙ omega arith, tt), append-nil b.en
 block_put at (c ∷ bs) b start in_place =
     let rest = block_put (at + length c.entries) bs b (start ∙ omega (arith, length-append c.entries (joined bs))) in_place.1 in
     ((in_place.0, rest.0), ap (λ es. c.entries ++ es) rest.1 ∙ sym (append_assoc c.entries (joined bs) b.entries))
-
--- a region among some is one among all
-pub any_joined : (test : Entry → Bool) (bs : List BlockData) → list_any (λ b. list_any test b.entries) bs ≡ list_any test (joined bs)
-any_joined test [] = refl
-any_joined test (b ∷ bs) = ap (λ c. list_any test b.entries || c) (any_joined test bs) ∙ sym (list_any-append test b.entries (joined bs))
 
 -- what a place holds, by the blocks up to it: where a search for the block of a place ends
 pub held_at : (bs : List BlockData) (k : ℕ) (b : BlockData) (place : ℕ) → AreInPlace 0 bs → slice_get bs k ≡ Some b

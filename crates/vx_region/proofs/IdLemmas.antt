@@ -2,12 +2,11 @@
 use Rattle.std.proofs.Common.{◌≡◌, ◌≢◌, ℕ, Bool, true, false, cond, not, nat_eq, bytes_eq, if◌then◌else◌, List, [], ◌∷◌, filter, Option, None, Some, refl, ap, sym, ◌∙◌}
 use Rattle.std.specs.Map.{lookup, remove_entry}
 use Rattle.std.proofs.lemmas.Slice.Eq.{bytes_eq-Decides}
-use borrow.Author.Tests.{eqb-true}
 use Rattle.vx_region.specs.Forest.{IsNumbered}
 use Rattle.vx_region.specs.IdIndex.{first_with, HaveOwnIds, NoneIsGlobal}
 use Rattle.vx_region.specs.Regions.{RegionData, Entry, Regions, region_at, number_of, global_id, is_global_id, without_region}
 use Rattle.vx_region.proofs.Changes.{not_true}
-use Rattle.vx_region.proofs.Indexing.{first_is, number_is, same_turned, none_parts, no_such_id}
+use Rattle.vx_region.proofs.Indexing.{first_is, number_is, same_turned, none_parts, no_such_id, apart, first_there}
 use Rattle.vx_region.proofs.Lookups.{lookup_is}
 use Rattle.vx_region.proofs.Numbers.{distinct_numbers}
 use Rattle.vx_region.proofs.Removals.{is_other, removed_is}
@@ -21,22 +20,6 @@ looked_up rs n r there = lookup_is n rs.entries ∙ there
 region_is_local : (rs : Regions) (n : ℕ) (r : RegionData) → NoneIsGlobal rs.entries → region_at rs n ≡ Some r → is_global_id r.id ≡ false
 unfolding is_global_id
 region_is_local rs n r none there = same_turned global_id r.id false (no_such_id n global_id r rs.entries none (looked_up rs n r there))
-
--- behind an entry with an id of its own, a region has another id
-apart : (n : ℕ) (r : RegionData) (e : Entry) (es : List Entry) → first_with es e.1.id ≡ None → lookup (nat_eq n) es ≡ Some r → bytes_eq r.id e.1.id ≡ false
-apart n r e es own there = same_turned e.1.id r.id false (no_such_id n e.1.id r es own there)
-
--- the first region with the id of a region is that one
-first_there : (n : ℕ) (r : RegionData) (es : List Entry) → HaveOwnIds es → lookup (nat_eq n) es ≡ Some r → first_with es r.id ≡ Some n
-first_there n r [] own there = cc
-first_there n r (e ∷ es) own there = by (nat_eq n e.0) refl there (first_there n r es own.1)
-  where
-    by : (b : Bool) → nat_eq n e.0 ≡ b → cond b (Some e.1) (lookup (nat_eq n) es) ≡ Some r → (lookup (nat_eq n) es ≡ Some r → first_with es r.id ≡ Some n)
-        → cond (bytes_eq r.id e.1.id) (Some e.0) (first_with es r.id) ≡ Some n
-    by true is here rest =
-        let same : e.1 ≡ r = cc in
-        ap (λ b. cond b (Some e.0) (first_with es r.id)) ((bytes_eq-Decides r.id e.1.id).1 (ap (λ (d : RegionData). d.id) (sym same))) ∙ ap Some (sym (eqb-true n e.0 is))
-    by false is later rest = ap (λ b. cond b (Some e.0) (first_with es r.id)) (apart n r e es own.0 later) ∙ rest later
 
 -- the id of a region leads to its number
 pub id_found : (rs : Regions) (n : ℕ) (r : RegionData) → HaveOwnIds rs.entries → NoneIsGlobal rs.entries → region_at rs n ≡ Some r → number_of rs r.id ≡ Some n

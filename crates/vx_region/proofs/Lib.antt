@@ -1,6 +1,7 @@
 pub mod Blocks
 pub mod Chains
 pub mod Changes
+pub mod Counting
 pub mod FlagChanges
 pub mod Forests
 pub mod Globals

@@ -1,8 +1,7 @@
 use Rattle.std.specs.Prelude.{ℕ, ◌≡◌, Bool, cond, bytes_eq, List, [], ◌∷◌, Option, None, Some}
 use Rattle.std.specs.Map.{lookup}
 use Rattle.vx_region.specs.declared.id.Id.{Id}
-use Rattle.vx_region.specs.Forest.{IsForest}
-use Rattle.vx_region.specs.Regions.{Entry, Regions, global_id}
+use Rattle.vx_region.specs.Regions.{Entry, global_id}
 
 -- the number of the first region that has this id
 abbrev pub first_with : List Entry → List ℕ → Option ℕ
@@ -25,10 +24,3 @@ same_id a b = bytes_eq a.text.bytes b.text.bytes
 -- for each id the index has the number of the region with that id, and nothing where there is none
 abbrev pub Indexes : List (Id × ℕ) → List Entry → Type 0
 Indexes index entries = (id : Id) → lookup (same_id id) index ≡ first_with entries id.text.bytes
-
--- what holds of every set of regions, and of the index of their ids
-pub record IsSound (rs : Regions) (index : List (Id × ℕ)) : Type 0 where
-  pub forest : IsForest rs
-  pub own_ids : HaveOwnIds rs.entries
-  pub none_global : NoneIsGlobal rs.entries
-  pub indexed : Indexes index rs.entries

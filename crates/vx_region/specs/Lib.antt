@@ -3,6 +3,7 @@ pub mod Ancestry
 pub mod Association
 pub mod BlockSharing
 pub mod Blocks
+pub mod ChildCounts
 pub mod Domains
 pub mod Forest
 pub mod IdIndex
@@ -14,6 +15,7 @@ pub mod Regions
 pub mod RegionsLaws
 pub mod SameRegions
 pub mod Sharing
+pub mod Soundness
 pub mod Subjects
 pub mod Texts
 pub mod Words

@@ -1,12 +1,9 @@
 ghost use Rattle.std.specs.Prelude.{◌≡◌, ◌+◌, ◌-◌, ◌<◌, [], ◌∷◌, ◌++◌, length, remove, option_map, slice_get, Some, IfOk, OnOk, OnErr};
 ghost use Rattle.std.specs.Borrow.{sem};
-ghost use Rattle.std.specs.List.{list_any};
-ghost use Rattle.vx_region.specs.Ancestry.{is_number};
 ghost use Rattle.vx_region.specs.Blocks.{Holds, entry_at, with_entries};
 ghost use Rattle.vx_region.specs.BlockSharing.{lends_in_block};
 
 use crate::region::Region;
-use crate::region_no::RegionNo;
 use crate::shared_region::SharedRegion;
 use std::alloc::{AllocError, Global};
 use std::marker::Model;
@@ -91,15 +88,6 @@ impl Block {
     pub(crate) fn place_near(&self, number: u32) -> usize {
         let before = self.entries.partition_point(|entry| entry.0 < number);
         self.start.wrapping_add(before)
-    }
-
-    /// Whether some region of the block has the region of that number as its parent.
-    pub(crate) fn has_child(&self, number: RegionNo) -> bool
-        ensures { result ≡ list_any (λ e. is_number number.0 e.1.parent) self.now.entries }
-    {
-        self.entries
-            .iter()
-            .any(|(_, region)| region.region().parent() == Some(number))
     }
 
     /// The region at a place of the list, to write. Where a copy shares the block, it is copied

@@ -3,6 +3,7 @@
 #![tactic(auto)]
 
 mod block;
+mod children;
 mod id;
 mod id_numbers;
 mod id_part;

@@ -1,8 +1,6 @@
 ghost use Rattle.std.specs.Prelude.{◌≡◌, ◌+◌, ◌<◌, [], nat_eq, length, option_map, slice_get, Some, None, IfSome, IfNone};
-ghost use Rattle.std.specs.List.{list_any};
 ghost use Rattle.std.specs.Map.{lookup};
 ghost use Rattle.std.specs.Option.{option_copied};
-ghost use Rattle.vx_region.specs.Ancestry.{is_number};
 ghost use Rattle.vx_region.specs.Blocks.{joined, AreInPlace, Holds, AreBefore};
 ghost use Rattle.vx_region.specs.Forest.{IsAscending};
 
@@ -10,7 +8,6 @@ mod edits;
 
 use crate::block::{Block, FULL};
 use crate::region::Region;
-use crate::region_no::RegionNo;
 use std::alloc::{AllocError, Global};
 use std::marker::Model;
 
@@ -154,20 +151,10 @@ impl RegionList {
         }
     }
 
-    /// Whether some region has the region of that number as its parent.
-    pub(crate) fn has_child(&self, number: RegionNo) -> bool
-        ensures { result ≡ list_any (λ e. is_number number.0 e.1.parent) self.now }
-    {
-        any_has_child(&self.blocks, number)
+    /// What its blocks take their memory from.
+    pub(crate) fn allocator(&self) -> Global {
+        *self.blocks.allocator()
     }
-}
-
-// Whether some region in these blocks has the region of that number as its parent.
-fn any_has_child(blocks: &[Block], number: RegionNo) -> bool
-    ensures { result ≡ list_any (λ b. list_any (λ e. is_number number.0 e.1.parent) b.entries)
-        blocks.now }
-{
-    blocks.iter().any(|block| block.has_child(number))
 }
 
 // The index of the block in which that place lies.

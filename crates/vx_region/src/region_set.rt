@@ -12,6 +12,7 @@ mod edits;
 mod equality;
 mod family;
 
+use crate::children::Children;
 use crate::id::Id;
 use crate::id_numbers::IdNumbers;
 use crate::name::Name;
@@ -27,24 +28,27 @@ use vx_flag::{Association, Flag, Setting, Settings};
 use vx_geom::{Pos, Shape};
 
 /// The regions of a world, in order of their numbers, and the flags of the world at large, which is
-/// `__global__` and has number 0. A number is never given twice. Copies share regions in blocks and
-/// ids in parts: a change copies the region, its block and one part at most.
+/// `__global__` and has number 0. A number is never given twice. Copies share regions in blocks, and
+/// ids and counts of children in parts: a change copies the region, its block, one part of the ids
+/// and two parts of the counts at most.
 pub struct RegionSet {
     last: u32,
     regions: RegionList,
     numbers: IdNumbers,
+    children: Children,
     global: Settings,
 }
 
 impl Model for RegionSet {
     ghost use Rattle.vx_region.specs.Regions.{Regions, regions_of};
-    ghost use Rattle.vx_region.specs.IdIndex.{IsSound};
+    ghost use Rattle.vx_region.specs.Soundness.{IsSound};
 
     ghost Value = { Regions };
 
     ghost view = { λ a. regions_of a.last a.regions a.global };
 
-    ghost invariant = { λ a. IsSound (regions_of a.last a.regions a.global) a.numbers };
+    ghost invariant = { λ a.
+        IsSound (regions_of a.last a.regions a.global) a.numbers a.children };
 }
 
 // Written out, so that what is above this crate need not prove how its parts are let go.
@@ -54,6 +58,7 @@ impl Drop for RegionSet {
             last: _,
             regions: _regions,
             numbers: _numbers,
+            children: _children,
             global: _,
         } = self;
     }
@@ -68,6 +73,7 @@ impl RegionSet {
             last: 0,
             regions: RegionList::new(alloc),
             numbers: IdNumbers::new(),
+            children: Children::new(),
             global: Settings::new(),
         }
     }

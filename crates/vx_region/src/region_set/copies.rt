@@ -22,6 +22,7 @@ impl Clone for RegionSet {
             last: self.last,
             regions: self.regions.clone()?,
             numbers: self.numbers.clone()?,
+            children: self.children.clone()?,
             global: self.global,
         })
     }

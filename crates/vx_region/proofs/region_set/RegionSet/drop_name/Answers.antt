@@ -12,7 +12,7 @@ pub invariant_of-self-2 : goal.invariant_of-self-2
 invariant_of-self-2 c =
     over_sound c.args.number.0 (the_view c.self.inside) _ c.in_ok-own.field-0.now c.drop_name.new.self c.in_ok-own.ensures.value
     (c.own.follows.holds c.drop_name.new.self (ap is_ok c.in_ok-own.was))
-    c.drop_name.ensures.parent c.drop_name.ensures.id c.self.inside.numbers c.self.invariant
+    c.drop_name.ensures.parent c.drop_name.ensures.id c.self.inside.numbers c.self.inside.children c.self.invariant
 
 pub returns-clause-ok : goal.returns-clause-ok
 unfolding without_name

@@ -14,5 +14,5 @@ returns-then-is_global_id c =
 pub returns : goal.returns
 returns c =
     let other = sym c.is_global_id.ensures ∙ c.if-is_global_id.false in
-    let is = number_found (the_view c.self.inside) c.self.inside.numbers c.args.id.now _ other c.get.ensures c.self.invariant in
+    let is = number_found (the_view c.self.inside) c.self.inside.numbers c.self.inside.children c.args.id.now _ other c.get.ensures c.self.invariant in
     rw (← c.self.view_is, ← is) (search rules)

@@ -12,7 +12,7 @@ pub invariant_of-self-2 : goal.invariant_of-self-2
 invariant_of-self-2 c =
     over_sound c.args.number.0 (the_view c.self.inside) _ c.in_ok-own.field-0.now c.set_shape.new.self c.in_ok-own.ensures.value
     (c.own.follows.holds c.set_shape.new.self (ap is_ok c.in_ok-own.was))
-    c.set_shape.ensures.parent (ap (λ r. r.id) c.set_shape.ensures.value) c.self.inside.numbers c.self.invariant
+    c.set_shape.ensures.parent (ap (λ r. r.id) c.set_shape.ensures.value) c.self.inside.numbers c.self.inside.children c.self.invariant
 
 pub returns-clause-ok : goal.returns-clause-ok
 unfolding with_shape

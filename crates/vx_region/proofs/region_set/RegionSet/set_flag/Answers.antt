@@ -8,7 +8,7 @@ use Rattle.vx_region.proofs.Lookups.{known_found}
 use Rattle.vx_region.proofs.region_set.RegionSet.set_flag.Goals as goal
 
 pub invariant_of-self : goal.invariant_of-self
-invariant_of-self c = sound_with_flags (the_view c.self.inside) c.self.inside.numbers c.set.new.self c.self.invariant
+invariant_of-self c = sound_with_flags (the_view c.self.inside) c.self.inside.numbers c.self.inside.children c.set.new.self c.self.invariant
 
 pub returns-then-number-eq0-clause-ok : goal.returns-then-number-eq0-clause-ok
 returns-then-number-eq0-clause-ok c =
@@ -23,7 +23,7 @@ pub invariant_of-self-2 : goal.invariant_of-self-2
 invariant_of-self-2 c =
     over_sound c.args.number.0 (the_view c.self.inside) _ c.in_ok-own.field-0.now c.set_flag.new.self c.in_ok-own.ensures.value
     (c.own.follows.holds c.set_flag.new.self (ap is_ok c.in_ok-own.was))
-    c.set_flag.ensures.parent (ap (λ r. r.id) c.set_flag.ensures.value) c.self.inside.numbers c.self.invariant
+    c.set_flag.ensures.parent (ap (λ r. r.id) c.set_flag.ensures.value) c.self.inside.numbers c.self.inside.children c.self.invariant
 
 pub returns-clause-ok : goal.returns-clause-ok
 returns-clause-ok c =

@@ -96,7 +96,8 @@ impl Known {
     }
 
     /// Goes on to the world as the next windows begin, over these cells, judged by this version,
-    /// and hands out the version before. It takes no memory.
+    /// and hands out the version before, as a record keeps it: without the chart of its policy. It
+    /// takes no memory.
     pub fn go_on(&mut self, cells: Vec<Cells>, version: Version) -> Version
         requires { AreSectors self.old.map.sizes cells.items }
         ensures map { self.new.map
@@ -105,6 +106,6 @@ impl Known {
         ensures was { result ≡ self.old.version }
     {
         self.cells = cells;
-        mem::replace(&mut self.version, version)
+        mem::replace(&mut self.version, version).without_chart()
     }
 }

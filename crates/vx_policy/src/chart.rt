@@ -1,4 +1,4 @@
-ghost use Rattle.std.specs.Prelude.{◌≡◌, option_map, IfOk};
+ghost use Rattle.std.specs.Prelude.{◌≡◌, true, option_map, IfOk};
 ghost use Rattle.vx_decide.specs.Verdict.{verdict};
 ghost use Rattle.vx_index.specs.Chunks.{IsCacheOf};
 ghost use Rattle.vx_policy.specs.Charts.{IsChartOf};
@@ -8,7 +8,7 @@ ghost use Rattle.vx_region.specs.Regions.{no_regions};
 ghost use Rattle.vx_region.specs.Subjects.{actor_of, Named};
 
 use crate::land_after::land_after;
-use crate::unset::{all_unset, unset_after};
+use crate::unset::{all_unset, stay_unset, unset_after};
 use std::alloc::{AllocError, Global};
 use vx_decide::Verdict;
 use vx_flag::{Action, Flag};
@@ -65,6 +65,27 @@ impl Chart {
             land: land_after(alloc, &self.land, before, after, number)?,
             unset: unset_after(alloc, before, after, &self.unset, flag)?,
         })
+    }
+
+    /// Whether this is the chart of the regions after an edit, too, since the edit changes no shape
+    /// and sets no flag that was set nowhere. It changes the shape of no region but that of this
+    /// number, and sets no flag but this one.
+    pub(crate) fn stays(
+        &self,
+        before: &RegionSet,
+        after: &RegionSet,
+        number: Option<RegionNo>,
+        flag: Option<Flag>,
+    ) -> bool
+        requires chart { IsChartOf before.now self.now }
+        requires shapes { ShapesStayBut (option_map (λ n. n.0) number) before.now after.now }
+        requires flags { UnsetStaysBut flag before.now after.now }
+        ensures { result ≡ true → IsChartOf after.now self.now }
+    {
+        match number {
+            Some(_) => false,
+            None => stay_unset(before, after, &self.unset, flag),
+        }
     }
 
     /// Whether the subject may do this at the place by these regions, and the rule that says so. It

@@ -126,7 +126,8 @@ impl Policy {
     /// The policy after an edit that nothing stands against, and the number that a definition gave.
     /// This one stays as it is. What takes memory of its own is what the edit touches: the region
     /// with those that stand in one block with it, and where its shape changes the chunks in which
-    /// it lies. Where this policy is without its chart, so is that one.
+    /// it lies. Where no shape changes and no flag is set that was set nowhere, the chart is shared
+    /// as it is. Where this policy is without its chart, so is that one.
     pub fn after(&self, alloc: Global, edit: Edit) -> Result<(Policy, Option<RegionNo>), AllocError>
         requires { refusal self.now (asked edit) ≡ None }
         ensures { IfOk result (λ r. (r.0 ≡ edited self.now (asked edit))
@@ -163,6 +164,9 @@ impl Policy {
         let Some(chart) = &self.chart else {
             return Ok(None);
         };
+        if chart.stays(&self.regions, after, number, flag) {
+            return Ok(Some(Arc::try_clone(chart)?));
+        }
         let chart = chart.after(alloc, &self.regions, after, number, flag)?;
         Ok(Some(Arc::new(alloc, chart)?))
     }
@@ -199,8 +203,8 @@ impl Policy {
 
     /// Whether the player may do this at the place, and the rule that says so (docs/RULES.md). The
     /// verdict is looked up among those that are kept, or found among the regions near the place
-    /// and kept. Where memory is wanting it is not kept, and the answer is the same. Without a chart
-    /// it is found among all regions, and what is kept stays as it is.
+    /// and kept. Where memory is wanting it is not kept, and the answer is the same. Without a
+    /// chart it is found among all regions, and what is kept stays as it is.
     pub fn ask(&self, cache: &mut Cache, name: &Name, action: Action, p: Pos) -> Verdict
         requires { IsCacheOf self.now cache.old }
         ensures verdict { result ≡ verdict self.now (Named name.now.text.bytes) action p }

@@ -1,5 +1,5 @@
 //! The flags that are known to be set nowhere, by no region and not by the world at large.
-ghost use Rattle.std.specs.Prelude.{◌≡◌, ◌≢◌, false, Some, IfOk};
+ghost use Rattle.std.specs.Prelude.{◌≡◌, ◌≢◌, true, false, Some, IfOk};
 ghost use Rattle.std.specs.List.{All};
 ghost use Rattle.vx_decide.specs.Unset.{IsUnset};
 ghost use Rattle.vx_flag.specs.declared.flag.Flag.{Flag};
@@ -40,6 +40,28 @@ fn set_by(edit: &Edit) -> Option<Flag>
         Edit::SetFlag(_, flag, _) => Some(*flag),
         _ => None,
     }
+}
+
+/// Whether the edit that sets no flag but this one sets none of the flags, so that all of them are
+/// set nowhere after it, too.
+pub(crate) fn stay_unset(
+    before: &RegionSet,
+    after: &RegionSet,
+    unset: &[Flag],
+    set: Option<Flag>,
+) -> bool
+    requires unset { All (IsUnset before.now) unset.now }
+    requires others { UnsetStaysBut set before.now after.now }
+    ensures { result ≡ true → All (IsUnset after.now) unset.now }
+{
+    let _ = before;
+    let _ = after;
+    for flag in unset {
+        if is_flag(set, *flag) {
+            return false;
+        }
+    }
+    true
 }
 
 /// Those of the flags that are set nowhere after an edit which sets no flag but this one, too. One

@@ -128,18 +128,22 @@ removed_one rs id = by (numbered rs id)
     by None n other = refl
     by (Some k) n other = ap shaped (region_beside rs k n (λ same. other (ap Some (sym same))))
 
--- a copy of a land is one of the same shapes
-pub copy_tells : {E : Type 0} (before after : Regions) (land : List Chunk) (result : Result (List Chunk) E) → ShapesStayBut None before after
-    → IsLandOf (shape_at before) land → IfOk result (λ copy. copy ≡ land) → IfOk result (IsLandOf (shape_at after))
-copy_tells before after land result stay of copies =
-    IfOk-weaker result (λ copy. copy ≡ land) (IsLandOf (shape_at after))
-    (λ copy is. subst (λ (cs : List Chunk). IsLandOf (shape_at after) cs) (sym is) (subst (λ (shapes : Shapes). IsLandOf shapes land) same of)) copies
+-- a land stays one where no shape changes
+pub land_stays : (before after : Regions) (land : List Chunk) → ShapesStayBut None before after → IsLandOf (shape_at before) land → IsLandOf (shape_at after) land
+land_stays before after land stay of = subst (λ (shapes : Shapes). IsLandOf shapes land) same of
   where
     differs : (n : ℕ) → None ≢ Some n
     differs n is = cc
 
     same : shape_at before ≡ shape_at after
     same = λ i n. sym (stay n (differs n)) i
+
+-- and so does a copy of it
+pub copy_tells : {E : Type 0} (before after : Regions) (land : List Chunk) (result : Result (List Chunk) E) → ShapesStayBut None before after
+    → IsLandOf (shape_at before) land → IfOk result (λ copy. copy ≡ land) → IfOk result (IsLandOf (shape_at after))
+copy_tells before after land result stay of copies =
+    IfOk-weaker result (λ copy. copy ≡ land) (IsLandOf (shape_at after))
+    (λ copy is. subst (λ (cs : List Chunk). IsLandOf (shape_at after) cs) (sym is) (land_stays before after land stay of)) copies
 
 -- and a land with the shape of the number as it is then is one of those after the edit
 pub renewed_tells : {E : Type 0} (before after : Regions) (number : ℕ) (o : Option Outline) (result : Result (List Chunk) E)

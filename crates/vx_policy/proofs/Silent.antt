@@ -1,7 +1,8 @@
 -- A flag that is set nowhere stays so behind each edit that does not set it.
-use Rattle.std.proofs.Common.{◌≡◌, ℕ, true, false, Bool, cond, ◌||◌, nat_eq, if◌then◌else◌, List, [], ◌∷◌, ◌++◌, filter, Option, Some, None, is_some, refl, ap, sym, ◌∙◌, inl, inr, subst}
-use Rattle.std.specs.List.{list_any}
+use Rattle.std.proofs.Common.{◌≡◌, ℕ, ◌+◌, ◌<◌, true, false, Bool, cond, ◌||◌, nat_eq, if◌then◌else◌, List, [], ◌∷◌, ◌++◌, filter, Option, Some, None, is_some, refl, ap, sym, ◌∙◌, inl, inr, subst, arith, length}
+use Rattle.std.specs.List.{list_any, slice_index_or}
 use Rattle.std.proofs.lemmas.Bool.{cases_eq}
+use Rattle.std.proofs.lemmas.List.{get_or_default}
 use Rattle.vx_flag.specs.declared.flag.Flag.{Flag}
 use Rattle.vx_flag.specs.declared.setting.Setting.{Setting}
 use Rattle.vx_flag.specs.Flag.{flag_index}
@@ -149,3 +150,11 @@ unset_stays rs (ClearFlag id flag) f unset other =
 unset_stays rs (Listed roster id listing name) f unset other =
     kept_given (λ us. IsUnset us f) rs (numbered rs id) _ unset
     (λ n. kept_given (λ us. IsUnset us f) rs (read_name name) _ unset (λ word. listed_silent rs f unset n roster listing word))
+
+-- what holds of the elements before one, and of that one
+pub one_more : (P : Flag → Type 0) (fs : List Flag) (i : ℕ) (e : Flag) → i < length fs → ((k : ℕ) (d : Flag) → k < i → P (slice_index_or fs k d))
+    → P (slice_index_or fs i e) → (k : ℕ) (d : Flag) → k < i + 1 → P (slice_index_or fs k d)
+one_more P fs i e within before here k d below = elim (cases_eq k i) [
+  | inl same ↦ subst (λ m. P (slice_index_or fs m d)) (sym same) (subst P (get_or_default fs i e d within) here)
+  | inr other ↦ before k d (omega (arith, below, other))
+]

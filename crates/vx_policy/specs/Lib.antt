@@ -1,4 +1,5 @@
 pub mod Asked
+pub mod Charts
 pub mod Edits
 pub mod Laws
 pub mod Outlines

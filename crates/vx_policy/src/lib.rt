@@ -3,7 +3,7 @@
 #![tactic(auto)]
 
 mod changes;
-mod charted;
+mod chart;
 mod edit;
 mod edit_error;
 mod edit_refusal;

@@ -1,10 +1,14 @@
-ghost use Rattle.std.specs.Prelude.{◌≡◌, None, Some, Err, option_map, IfOk, OnErr};
+ghost use Rattle.std.specs.Prelude.{◌≡◌, None, Some, Err, option_map, IfOk, IfSome, OnErr};
+ghost use Rattle.std.specs.Arc.{arc_value};
 ghost use Rattle.std.specs.Bool.{Decides};
 ghost use Rattle.vx_decide.specs.Verdict.{verdict};
 ghost use Rattle.vx_index.specs.Chunks.{IsCacheOf};
 ghost use Rattle.vx_policy.specs.Asked.{asked};
+ghost use Rattle.vx_policy.specs.Charts.{IsChartOf};
 ghost use Rattle.vx_policy.specs.Edits.{edited, number_given};
+ghost use Rattle.vx_policy.specs.Outlines.{ShapesStayBut};
 ghost use Rattle.vx_policy.specs.Refusals.{refusal};
+ghost use Rattle.vx_policy.specs.Silence.{UnsetStaysBut};
 ghost use Rattle.vx_policy.specs.declared.edit_error.EditError.{EditError};
 ghost use Rattle.vx_policy.specs.declared.edit_refusal.EditRefusal.{EditRefusal};
 ghost use Rattle.vx_region.specs.Regions.{no_regions};
@@ -13,38 +17,52 @@ ghost use Rattle.vx_region.specs.Subjects.{Named};
 
 mod refusals;
 
-use crate::charted::Charted;
+use crate::changes::change;
+use crate::chart::Chart;
 use crate::edit::Edit;
 use crate::edit_error::EditError;
 use crate::edit_refusal::EditRefusal;
+use crate::reshaped::reshaped;
+use crate::unset::flag_set;
 use std::alloc::{AllocError, Global};
 use std::marker::Model;
 use std::sync::Arc;
-use vx_decide::{Decide, Verdict};
-use vx_flag::Action;
+use vx_decide::{Decide, Plain, Verdict};
+use vx_flag::{Action, Flag};
 use vx_geom::Pos;
 use vx_index::Cache;
 use vx_region::{Name, RegionNo, RegionSet, Subject};
 
-/// The written policy: a set of regions that is changed by edits, with what decisions are found by.
-/// A copy shares all of it. An edit makes another policy, which shares what the edit does not touch.
+/// The written policy: a set of regions that is changed by edits, mostly with a chart of them, by
+/// which decisions cost the regions near the place alone. A copy shares all of it. An edit makes
+/// another policy, which shares what the edit does not touch.
 pub struct Policy {
-    charted: Arc<Charted>,
+    regions: Arc<RegionSet>,
+    // `None` where the policy is kept for its regions.
+    chart: Option<Arc<Chart>>,
 }
 
 impl Model for Policy {
     ghost use Rattle.std.specs.Arc.{arc_value};
+    ghost use Rattle.std.specs.Prelude.{IfSome};
+    ghost use Rattle.vx_policy.specs.Charts.{IsChartOf};
     ghost use Rattle.vx_region.specs.Regions.{Regions};
 
     ghost Value = { Regions };
 
-    ghost view = { λ a. arc_value a.charted };
+    ghost view = { λ a. arc_value a.regions };
+
+    ghost invariant = { λ a. IfSome a.chart
+        (λ chart. IsChartOf (arc_value a.regions) (arc_value chart)) };
 }
 
 // Written out, so that what is above this crate need not prove how its parts are let go.
 impl Drop for Policy {
     fn drop(self) {
-        let Policy { charted: _charted } = self;
+        let Policy {
+            regions: _regions,
+            chart: _chart,
+        } = self;
     }
 }
 
@@ -53,8 +71,11 @@ impl Policy {
     pub fn new(alloc: Global) -> Result<Policy, AllocError>
         ensures { IfOk result (λ policy. policy ≡ no_regions) }
     {
+        let regions = RegionSet::new(alloc);
+        let chart = Chart::new(alloc, &regions)?;
         Ok(Policy {
-            charted: Arc::new(alloc, Charted::new(alloc)?)?,
+            regions: Arc::new(alloc, regions)?,
+            chart: Some(Arc::new(alloc, chart)?),
         })
     }
 
@@ -62,7 +83,7 @@ impl Policy {
     pub fn regions(&self) -> &RegionSet
         ensures { result.now ≡ self.now }
     {
-        self.charted.regions()
+        &self.regions
     }
 
     /// A copy of the policy, which shares its regions. A change of one is no change of the other.
@@ -70,26 +91,84 @@ impl Policy {
         ensures { IfOk result (λ copy. copy ≡ self.now) }
     {
         Ok(Policy {
-            charted: Arc::try_clone(&self.charted)?,
+            regions: Arc::try_clone(&self.regions)?,
+            chart: self.shared_chart()?,
         })
+    }
+
+    // The chart once more, where there is one.
+    fn shared_chart(&self) -> Result<Option<Arc<Chart>>, AllocError>
+        ensures { IfOk result
+            (λ chart. IfSome chart (λ chart. IsChartOf self.now (arc_value chart))) }
+    {
+        let Some(chart) = &self.chart else {
+            return Ok(None);
+        };
+        Ok(Some(Arc::try_clone(chart)?))
+    }
+
+    /// The same policy without its chart, which takes most of the memory of a policy. It decides
+    /// the same, by a walk over all its regions. This is for records, which are kept and hardly
+    /// asked. It takes no memory.
+    pub fn without_chart(self) -> Policy
+        ensures { result ≡ self }
+    {
+        let Policy {
+            regions,
+            chart: _chart,
+        } = self;
+        Policy {
+            regions,
+            chart: None,
+        }
     }
 
     /// The policy after an edit that nothing stands against, and the number that a definition gave.
     /// This one stays as it is. What takes memory of its own is what the edit touches: the region
     /// with those that stand in one block with it, and where its shape changes the chunks in which
-    /// it lies.
+    /// it lies. Where no shape changes and no flag is set that was set nowhere, the chart is shared
+    /// as it is. Where this policy is without its chart, so is that one.
     pub fn after(&self, alloc: Global, edit: Edit) -> Result<(Policy, Option<RegionNo>), AllocError>
         requires { refusal self.now (asked edit) ≡ None }
         ensures { IfOk result (λ r. (r.0 ≡ edited self.now (asked edit))
             × (option_map (λ n. n.0) r.1 ≡ number_given self.now (asked edit))) }
     {
-        let (charted, number) = self.charted.after(alloc, edit)?;
+        let shape = reshaped(&self.regions, &edit);
+        let flag = flag_set(&edit);
+        let mut regions = self.regions.try_clone()?;
+        let number = change(&mut regions, alloc, edit)?;
+        let chart = self.chart_after(alloc, &regions, shape, flag)?;
         Ok((
             Policy {
-                charted: Arc::new(alloc, charted)?,
+                regions: Arc::new(alloc, regions)?,
+                chart,
             },
             number,
         ))
+    }
+
+    // The chart of the regions after an edit that changes the shape of no region but that of this
+    // number and sets no flag but this one, where these regions have a chart.
+    fn chart_after(
+        &self,
+        alloc: Global,
+        after: &RegionSet,
+        number: Option<RegionNo>,
+        flag: Option<Flag>,
+    ) -> Result<Option<Arc<Chart>>, AllocError>
+        requires shapes { ShapesStayBut (option_map (λ n. n.0) number) self.now after.now }
+        requires flags { UnsetStaysBut flag self.now after.now }
+        ensures { IfOk result
+            (λ chart. IfSome chart (λ chart. IsChartOf after.now (arc_value chart))) }
+    {
+        let Some(chart) = &self.chart else {
+            return Ok(None);
+        };
+        if chart.stays(&self.regions, after, number, flag) {
+            return Ok(Some(Arc::try_clone(chart)?));
+        }
+        let chart = chart.after(alloc, &self.regions, after, number, flag)?;
+        Ok(Some(Arc::new(alloc, chart)?))
     }
 
     /// Makes an edit that nothing stands against, and answers the number that a definition gave.
@@ -123,23 +202,30 @@ impl Policy {
     }
 
     /// Whether the player may do this at the place, and the rule that says so (docs/RULES.md). The
-    /// verdict is looked up among those that are kept, or found among the regions near the place and
-    /// kept. Where memory is wanting it is not kept, and the answer is the same.
+    /// verdict is looked up among those that are kept, or found among the regions near the place
+    /// and kept. Where memory is wanting it is not kept, and the answer is the same. Without a
+    /// chart it is found among all regions, and what is kept stays as it is.
     pub fn ask(&self, cache: &mut Cache, name: &Name, action: Action, p: Pos) -> Verdict
         requires { IsCacheOf self.now cache.old }
         ensures verdict { result ≡ verdict self.now (Named name.now.text.bytes) action p }
         ensures kept { IsCacheOf self.now cache.new }
     {
-        self.charted.ask(cache, name, action, p)
+        match &self.chart {
+            Some(chart) => chart.ask(&self.regions, cache, name, action, p),
+            None => Plain::new(&self.regions).decide(&Subject::Player(*name), action, p),
+        }
     }
 }
 
-/// It costs the regions near the place, and takes no memory.
+/// It costs the regions near the place, without a chart all regions, and takes no memory.
 impl Decide for Policy {
     ghost policy = { λ a. a };
 
     fn decide(&self, subject: &Subject, action: Action, p: Pos) -> Verdict {
-        self.charted.decide(subject, action, p)
+        match &self.chart {
+            Some(chart) => chart.decide(&self.regions, subject, action, p),
+            None => Plain::new(&self.regions).decide(subject, action, p),
+        }
     }
 }
 

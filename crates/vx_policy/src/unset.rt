@@ -1,11 +1,12 @@
 //! The flags that are known to be set nowhere, by no region and not by the world at large.
-ghost use Rattle.std.specs.Prelude.{◌≡◌, false, IfOk};
+ghost use Rattle.std.specs.Prelude.{◌≡◌, ◌≢◌, true, false, Some, IfOk};
 ghost use Rattle.std.specs.List.{All};
 ghost use Rattle.vx_decide.specs.Unset.{IsUnset};
+ghost use Rattle.vx_flag.specs.declared.flag.Flag.{Flag};
 ghost use Rattle.vx_policy.specs.Asked.{asked};
 ghost use Rattle.vx_policy.specs.Edits.{edited};
-ghost use Rattle.vx_policy.specs.Silence.{LeavesUnset};
-ghost use Rattle.vx_region.specs.Regions.{no_regions};
+ghost use Rattle.vx_policy.specs.Silence.{LeavesUnset, UnsetStaysBut};
+ghost use Rattle.vx_region.specs.Regions.{Regions, no_regions};
 
 use crate::edit::Edit;
 use std::alloc::{AllocError, Global};
@@ -24,35 +25,76 @@ pub(crate) fn all_unset(alloc: Global) -> Result<Vec<Flag>, AllocError>
     Ok(unset)
 }
 
-/// Those of the flags that are set nowhere behind the edit, too. One that was set and is cleared
-/// again is not found: only costs rest on it.
-pub(crate) fn unset_after(
-    alloc: Global,
-    regions: &RegionSet,
-    unset: &[Flag],
-    edit: &Edit,
-) -> Result<Vec<Flag>, AllocError>
-    requires { All (IsUnset regions.now) unset.now }
-    ensures { IfOk result (λ after.
-        All (IsUnset (edited regions.now (asked edit.now))) after.items) }
+/// The flag that an edit sets somewhere, if it sets one.
+pub(crate) fn flag_set(edit: &Edit) -> Option<Flag>
+    ensures { (rs : Regions) → UnsetStaysBut result rs (edited rs (asked edit.now)) }
 {
-    let _ = regions;
-    let mut after = Vec::with_capacity(alloc, unset.len())?;
-    for flag in unset {
-        if sets_flag(edit, *flag) {
-            continue;
-        }
-        after.push(*flag)?;
-    }
-    Ok(after)
+    set_by(edit)
 }
 
-// Whether the edit sets that flag somewhere.
-fn sets_flag(edit: &Edit, flag: Flag) -> bool
-    ensures { result ≡ false → LeavesUnset (asked edit.now) flag }
+// The flag that the edit sets, by its kind alone.
+fn set_by(edit: &Edit) -> Option<Flag>
+    ensures { (f : Flag) → result ≢ Some f → LeavesUnset (asked edit.now) f }
 {
     match edit {
-        Edit::SetFlag(_, set, _) => *set == flag,
-        _ => false,
+        Edit::SetFlag(_, flag, _) => Some(*flag),
+        _ => None,
+    }
+}
+
+/// Whether the edit that sets no flag but this one sets none of the flags, so that all of them are
+/// set nowhere after it, too.
+pub(crate) fn stay_unset(
+    before: &RegionSet,
+    after: &RegionSet,
+    unset: &[Flag],
+    set: Option<Flag>,
+) -> bool
+    requires unset { All (IsUnset before.now) unset.now }
+    requires others { UnsetStaysBut set before.now after.now }
+    ensures { result ≡ true → All (IsUnset after.now) unset.now }
+{
+    let _ = before;
+    let _ = after;
+    for flag in unset {
+        if is_flag(set, *flag) {
+            return false;
+        }
+    }
+    true
+}
+
+/// Those of the flags that are set nowhere after an edit which sets no flag but this one, too. One
+/// that was set and is cleared again is not found: only costs rest on it.
+pub(crate) fn unset_after(
+    alloc: Global,
+    before: &RegionSet,
+    after: &RegionSet,
+    unset: &[Flag],
+    set: Option<Flag>,
+) -> Result<Vec<Flag>, AllocError>
+    requires unset { All (IsUnset before.now) unset.now }
+    requires others { UnsetStaysBut set before.now after.now }
+    ensures { IfOk result (λ kept. All (IsUnset after.now) kept.items) }
+{
+    let _ = before;
+    let _ = after;
+    let mut kept = Vec::with_capacity(alloc, unset.len())?;
+    for flag in unset {
+        if is_flag(set, *flag) {
+            continue;
+        }
+        kept.push(*flag)?;
+    }
+    Ok(kept)
+}
+
+// Whether there is a flag, and it is that one.
+fn is_flag(set: Option<Flag>, flag: Flag) -> bool
+    ensures { result ≡ false → set ≢ Some flag }
+{
+    match set {
+        Some(set) => set == flag,
+        None => false,
     }
 }

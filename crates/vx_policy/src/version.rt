@@ -28,6 +28,23 @@ impl Version {
         })
     }
 
+    /// The same version, whose policy is without its chart (`Policy::without_chart`). It takes no
+    /// memory.
+    pub fn without_chart(self) -> Version
+        ensures { result ≡ self }
+    {
+        let Version {
+            tick,
+            edits,
+            policy,
+        } = self;
+        Version {
+            tick,
+            edits,
+            policy: policy.without_chart(),
+        }
+    }
+
     #[tactic(auto, unfolding(crate::specs::SameVersions::same_version))]
     fn same_parts(&self, other: &Version) -> bool
         ensures { result ≡ same_version self.now other.now }

@@ -1,8 +1,6 @@
 use Rattle.std.specs.List.{All}
 use Rattle.vx_decide.specs.Unset.{IsUnset}
-use Rattle.vx_policy.specs.Asked.{asked}
-use Rattle.vx_policy.specs.Edits.{edited}
 use Rattle.vx_policy.proofs.unset.unset_after.Given as goal
 
 abbrev pub invariant-loop-flag : goal.invariant-loop-flag
-invariant-loop-flag l = All (IsUnset (edited l.regions (asked l.edit))) l.after.items
+invariant-loop-flag l = All (IsUnset l.after) l.kept.items

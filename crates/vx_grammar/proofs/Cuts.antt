@@ -1,13 +1,12 @@
 -- The words of a line that is cut at its first space.
 use Rattle.std.proofs.Common.{◌≡◌, ℕ, ◌+◌, ◌<◌, Bool, true, false, not, cond, nat_eq, List, [], ◌∷◌, length, get_or, Some, None, position, filter, refl, sym, ap, subst, arith, inl, inr}
 use Rattle.std.specs.List.{position_or_len, before_first, after_first}
-use Rattle.std.specs.Str.{IsUtf8, IsCharBoundary}
+use Rattle.std.specs.Str.{IsUtf8}
 use Rattle.std.proofs.lemmas.Bool.{eqb-true, cases_lt, lt-ltb}
 use Rattle.std.proofs.lemmas.List.Elements.{All-from_get_or}
-use Rattle.std.proofs.lemmas.List.Quantifiers.{position-Some}
 use Rattle.std.proofs.lemmas.List.Splits.{slice_split_none, slice_split_first}
-use Rattle.std.proofs.lemmas.List.Sums.{fails_before_first, prefix_len-le-length}
-use Rattle.std.proofs.lemmas.Str.{IsCharBoundary-before_ascii, IsCharBoundary-after_ascii}
+use Rattle.std.proofs.lemmas.List.Sums.{fails_before_first, passes_at_first, prefix_len-le-length}
+use Rattle.std.proofs.lemmas.Str.{IsCharBoundary-before_ascii, IsCharBoundary-after_ascii, IsUtf8-take, IsUtf8-drop}
 use Rattle.vx_grammar.specs.Words.{is_word, words_of}
 
 -- the byte is a space
@@ -50,16 +49,12 @@ none_found line is = elim (cases_lt (position_or_len is_space line) (length line
   | inr beyond ↦ omega (arith, beyond, prefix_len-le-length (λ b. not (is_space b)) line)
 ]
 
--- a space that is found is one byte, so the line may be cut on both its sides
-module _ (line : List ℕ) (place : ℕ) (is : Some place ≡ position is_space line) where
-  within : place < length line
-  within = (position-Some is_space line place 0 (sym is)).0
-
-  one_byte : get_or line place 0 < 128
-  one_byte = omega (arith, eqb-true (get_or line place 0) 32 (position-Some is_space line place 0 (sym is)).1)
-
-  pub cut_before : IsCharBoundary line place
-  cut_before = IsCharBoundary-before_ascii line place within one_byte
-
-  pub cut_behind : IsUtf8 line → IsCharBoundary line (place + 1)
-  cut_behind text = IsCharBoundary-after_ascii line place text within one_byte
+-- a space is one byte, so a text that is cut at its first space leaves two texts
+pub cut_texts : (line piece rest : List ℕ) → piece ≡ before_first is_space line → rest ≡ after_first is_space line → position_or_len is_space line < length line
+    → IsUtf8 line → IsUtf8 piece × IsUtf8 rest
+cut_texts line piece rest front back some text =
+    let place = position_or_len is_space line in
+    let one_byte : get_or line place 0 < 128 = omega (arith, eqb-true (get_or line place 0) 32 (passes_at_first is_space line 0 some)) in (
+      subst IsUtf8 (sym front) (IsUtf8-take line place text (IsCharBoundary-before_ascii line place some one_byte)),
+      subst IsUtf8 (sym back) (IsUtf8-drop line (place + 1) text (IsCharBoundary-after_ascii line place text some one_byte)),
+    )

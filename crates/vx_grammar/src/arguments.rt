@@ -52,7 +52,7 @@ pub fn position(words: &mut Words) -> Option<Pos>
 pub fn part(words: &mut Words) -> Option<Part>
     ensures { Reads result words.new (part_at words.old) }
 {
-    Part::read(words.next()?)
+    Part::read(words.next_text()?)
 }
 
 /// Reads an action of a player, by the word of its flag.
@@ -60,7 +60,7 @@ pub fn part(words: &mut Words) -> Option<Part>
 pub fn action(words: &mut Words) -> Option<Action>
     ensures { Reads result words.new (action_at words.old) }
 {
-    action_of(words.next()?)
+    action_of(words.next_text()?)
 }
 
 #[tactic(auto, unfolding(crate::specs::Readings::action_of))]
@@ -81,7 +81,7 @@ fn action_of(word: &str) -> Option<Action>
 pub fn name(words: &mut Words) -> Option<Name>
     ensures { Reads (option_map (λ name. name.text.bytes) result) words.new (name_at words.old) }
 {
-    Name::read(words.next()?).ok()
+    Name::read(words.next_text()?).ok()
 }
 
 /// The value, where no word is left.

@@ -220,7 +220,7 @@ fn state(words: &mut Words) -> Result<State, Unread>
 fn group_at_end(words: &mut Words) -> Result<Group, Unread>
     ensures { Gives (λ g. g) result (group_at_end words.old) }
 {
-    let Some(word) = words.next() else {
+    let Some(word) = words.next_text() else {
         return Ok(Group::All);
     };
     let group = Group::read(word).ok_or(Unread::Faulty)?;
@@ -250,7 +250,7 @@ fn listing_of(word: &str) -> Option<Listing>
 fn word<'a>(words: &mut Words<'a>) -> Result<&'a str, Unread>
     ensures { GivesWith (λ word. word.now) result words.new (next_of words.old) }
 {
-    words.next().ok_or(Unread::Faulty)
+    words.next_text().ok_or(Unread::Faulty)
 }
 
 // That no word is left.

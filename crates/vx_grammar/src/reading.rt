@@ -1,4 +1,4 @@
-ghost use Rattle.std.specs.Prelude.{◌≡◌, ◌==◌, option_map};
+ghost use Rattle.std.specs.Prelude.{◌≡◌, ◌==◌, bytes_eq, codes, false, option_map};
 ghost use Rattle.std.specs.List.{list_all};
 ghost use Rattle.vx_grammar.specs.ScriptLines.{said, is_printable, is_comment, world_line, player_line, set_line, placed_part, look_command, place_command, break_command, turn_command, open_command, put_command, take_command, command_of, as_line, region_line, tick_line, explain_line, together_line, end_line, line_by, line_in, line_of, sizes_of};
 ghost use Rattle.vx_base.specs.Unread.{Gives};
@@ -6,9 +6,8 @@ ghost use Rattle.vx_base.specs.Unread.{Gives};
 use crate::arguments::{action, at_end, byte, height, item, name, part, position};
 use crate::edit_reading::read_edit;
 use crate::line::Line;
-use crate::words::Words;
+use crate::words::{Words, is};
 use std::alloc::Global;
-use std::str;
 use vx_base::Unread;
 use vx_block::Part;
 use vx_geom::{Bounds, Pos};
@@ -19,22 +18,31 @@ use vx_sector::Cmd;
 pub fn read_line(alloc: Global, text: &[u8]) -> Result<Line, Unread>
     ensures { Gives said result (line_of text.now) }
 {
-    if !is_printable(text) {
+    if !all_printable(text) {
         return Err(Unread::Faulty);
     }
     if is_comment(text) {
         return Ok(Line::Skipped);
     }
-    let Ok(text) = str::from_utf8(text) else {
-        return Err(Unread::Faulty);
-    };
     line_in(alloc, &mut Words::new(text))
 }
 
-fn is_printable(text: &[u8]) -> bool
+// Whether all bytes may stand in a line. No byte ends the loop early, so several are tested at
+// once.
+fn all_printable(text: &[u8]) -> bool
     ensures { result ≡ list_all is_printable text.now }
 {
-    text.iter().all(|b| 32 <= *b && *b <= 126)
+    let mut all = true;
+    for byte in text {
+        all &= is_printable(*byte);
+    }
+    all
+}
+
+fn is_printable(byte: u8) -> bool
+    ensures { result ≡ is_printable byte }
+{
+    (32 <= byte) & (byte <= 126)
 }
 
 fn is_comment(text: &[u8]) -> bool
@@ -57,23 +65,47 @@ fn line_in(alloc: Global, words: &mut Words) -> Result<Line, Unread>
 }
 
 #[tactic(auto, unfolding(crate::specs::ScriptLines::line_by))]
-fn line_by(alloc: Global, first: &str, words: &mut Words) -> Result<Line, Unread>
+fn line_by(alloc: Global, first: &[u8], words: &mut Words) -> Result<Line, Unread>
     ensures { Gives said result (line_by first.now words.old) }
 {
-    match first {
-        "as" => as_line(words).ok_or(Unread::Faulty),
-        "tick" => tick_line(words).ok_or(Unread::Faulty),
-        "region" => region_line(alloc, words),
-        "set" => set_line(words).ok_or(Unread::Faulty),
-        "player" => player_line(words).ok_or(Unread::Faulty),
-        "world" => world_line(words).ok_or(Unread::Faulty),
-        "explain" => explain_line(words).ok_or(Unread::Faulty),
-        "together" => together_line(words).ok_or(Unread::Faulty),
-        "end" => end_line(words).ok_or(Unread::Faulty),
-        _ => Err(Unread::Faulty),
+    if is(first, b"as") {
+        return as_line(words);
+    }
+    if is(first, b"region") {
+        return region_line(alloc, words);
+    }
+    other_line(first, words).ok_or(Unread::Faulty)
+}
+
+// A line that is no command and no edit. Like those two it is never inlined, since a line is large
+// and each call that answers one costs room for it.
+#[inline(never)]
+#[tactic(auto, unfolding(crate::specs::ScriptLines::line_by))]
+fn other_line(first: &[u8], words: &mut Words) -> Option<Line>
+    requires no_command { bytes_eq first.now (codes "as") ≡ false }
+    requires no_edit { bytes_eq first.now (codes "region") ≡ false }
+    ensures { option_map said result ≡ line_by first.now words.old }
+{
+    if is(first, b"tick") {
+        tick_line(words)
+    } else if is(first, b"set") {
+        set_line(words)
+    } else if is(first, b"player") {
+        player_line(words)
+    } else if is(first, b"world") {
+        world_line(words)
+    } else if is(first, b"explain") {
+        explain_line(words)
+    } else if is(first, b"together") {
+        together_line(words)
+    } else if is(first, b"end") {
+        end_line(words)
+    } else {
+        None
     }
 }
 
+#[inline(never)]
 #[tactic(auto, unfolding(crate::specs::ScriptLines::region_line))]
 fn region_line(alloc: Global, words: &mut Words) -> Result<Line, Unread>
     ensures { Gives said result (region_line words.old) }
@@ -151,29 +183,43 @@ fn placed_part(words: &mut Words) -> Option<(Pos, Part)>
     at_end(words, (p, part))
 }
 
+#[inline(never)]
 #[tactic(auto, unfolding(crate::specs::ScriptLines::as_line))]
-fn as_line(words: &mut Words) -> Option<Line>
-    ensures { option_map said result ≡ as_line words.old }
+fn as_line(words: &mut Words) -> Result<Line, Unread>
+    ensures { Gives said result (as_line words.old) }
 {
-    let name = name(words)?;
-    let verb = words.next()?;
-    let cmd = command_of(verb, words)?;
-    Some(Line::As(name, cmd))
+    let Some(name) = name(words) else {
+        return Err(Unread::Faulty);
+    };
+    let Some(verb) = words.next() else {
+        return Err(Unread::Faulty);
+    };
+    match command_of(verb, words) {
+        Some(cmd) => Ok(Line::As(name, cmd)),
+        None => Err(Unread::Faulty),
+    }
 }
 
 #[tactic(auto, unfolding(crate::specs::ScriptLines::command_of))]
-fn command_of(verb: &str, words: &mut Words) -> Option<Cmd>
+fn command_of(verb: &[u8], words: &mut Words) -> Option<Cmd>
     ensures { result ≡ command_of verb.now words.old }
 {
-    match verb {
-        "look" => look_command(words),
-        "place" => place_command(words),
-        "break" => break_command(words),
-        "turn" => turn_command(words),
-        "open" => open_command(words),
-        "put" => put_command(words),
-        "take" => take_command(words),
-        _ => None,
+    if is(verb, b"look") {
+        look_command(words)
+    } else if is(verb, b"place") {
+        place_command(words)
+    } else if is(verb, b"break") {
+        break_command(words)
+    } else if is(verb, b"turn") {
+        turn_command(words)
+    } else if is(verb, b"open") {
+        open_command(words)
+    } else if is(verb, b"put") {
+        put_command(words)
+    } else if is(verb, b"take") {
+        take_command(words)
+    } else {
+        None
     }
 }
 

@@ -3,7 +3,7 @@ use Rattle.std.proofs.Common.{◌∙◌, sym, lit<}
 use Rattle.std.proofs.lemmas.Bool.{both_ways}
 use Rattle.std.proofs.lemmas.Str.Pattern.{starts_char}
 use Rattle.vx_grammar.proofs.Spelled.{parsed, plus_none}
-use Rattle.vx_grammar.proofs.number.read_i32.Goals as goal
+use Rattle.vx_grammar.proofs.number.read_text.Goals as goal
 
 pub returns-then-starts_with : goal.returns-then-starts_with
 returns-then-starts_with c =

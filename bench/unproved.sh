@@ -53,8 +53,8 @@ python3 - "$checkout" "$kit" module.ll <<'SCRIPT'
 import os, re, sys
 
 checkout, kit, module = sys.argv[1:]
-# Where functions are marked #[inline(always)]: their names, and the modules that have one of that name.
-marked = {}
+# Where functions are marked #[inline(always)], or #[inline(never)]: their names, and the modules that have one of that name.
+always, never = {}, {}
 sources = [(f"{checkout}/crates", name) for name in os.listdir(f"{checkout}/crates")]
 sources += [(f"{kit}/rattle", name) for name in os.listdir(f"{kit}/rattle")]
 for root, crate in sources:
@@ -68,7 +68,9 @@ for root, crate in sources:
             with open(f"{at}/{file}", errors="replace") as it:
                 text = it.read()
             for name in re.findall(r"#\[inline\(always\)\].*?\bfn\s+(\w+)", text, re.S):
-                marked.setdefault(name, set()).add(path)
+                always.setdefault(name, set()).add(path)
+            for name in re.findall(r"#\[inline\(never\)\](?:\s*#\[[^\n]*\])*\s*(?:pub(?:\(crate\))?\s+)?fn\s+(\w+)", text):
+                never.setdefault(name, set()).add(path)
 
 check = re.compile(r'call void (@"rattle-llvm-checks::|@llvm\.memset\.p0\.i64\(ptr %r\d+, i8 -86,)')
 lines = []
@@ -81,8 +83,9 @@ with open(module) as it:
         if line.startswith("define "):
             name = re.search(r'@(?:"([^"]*)"|([\w.]+))\(', line)
             base = (name[1] or name[2]).split("::<")[0]
-            if any(base.startswith(f"{path}::") for path in marked.get(base.rsplit("::", 1)[-1], ())):
-                line = re.sub(r" #(\d+) \{$", r" alwaysinline #\1 {", line)
+            for word, marked in ("alwaysinline", always), ("noinline", never):
+                if any(base.startswith(f"{path}::") for path in marked.get(base.rsplit("::", 1)[-1], ())):
+                    line = re.sub(r" #(\d+) \{$", rf" {word} #\1 {{", line)
         lines.append(line)
 with open(module, "w") as it:
     it.writelines(lines)

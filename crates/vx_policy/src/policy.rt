@@ -107,9 +107,9 @@ impl Policy {
         Ok(Some(Arc::try_clone(chart)?))
     }
 
-    /// The same policy without its chart, which takes most of the memory of a policy. It decides
-    /// the same, by a walk over all its regions. This is for records, which are kept and hardly
-    /// asked. It takes no memory.
+    /// Lets the chart go, which takes most of a policy's memory. The policy keeps its regions, and
+    /// gives the same verdicts by a walk over all of them. It is for records, which are kept and
+    /// hardly asked. It takes no memory.
     pub fn without_chart(self) -> Policy
         ensures { result ≡ self }
     {

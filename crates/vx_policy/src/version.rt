@@ -28,8 +28,7 @@ impl Version {
         })
     }
 
-    /// The same version, whose policy is without its chart (`Policy::without_chart`). It takes no
-    /// memory.
+    /// Lets the chart of the policy go, as [`Policy::without_chart`] does. It takes no memory.
     pub fn without_chart(self) -> Version
         ensures { result ≡ self }
     {

@@ -28,9 +28,9 @@ use vx_flag::{Association, Flag, Setting, Settings};
 use vx_geom::{Pos, Shape};
 
 /// The regions of a world, in order of their numbers, and the flags of the world at large, which is
-/// `__global__` and has number 0. A number is never given twice. Copies share regions in blocks, and
-/// ids and counts of children in parts: a change copies the region, its block, one part of the ids
-/// and two parts of the counts at most.
+/// `__global__` and has number 0. A number is never given twice. Copies share regions in blocks,
+/// and ids and counts of children in parts: a change copies the region, its block, one part of the
+/// ids and two parts of the counts at most.
 pub struct RegionSet {
     last: u32,
     regions: RegionList,

@@ -61,17 +61,6 @@ impl CellMarks {
         marks.set(index, marked);
     }
 
-    /// Whether an index is marked.
-    #[inline(always)]
-    pub fn has(&self, index: u32) -> bool
-        ensures { result ≡ is_marked self.now.words index }
-    {
-        match &self.marks {
-            Some(marks) => marks.has(index),
-            None => false,
-        }
-    }
-
     /// The positions of the sector whose indices are marked, in order. It costs what is marked.
     pub fn places(&self, alloc: Global, bounds: Bounds, sector: u32) -> Result<Vec<Pos>, AllocError>
         requires sector { sector < sector_count bounds }

@@ -1,4 +1,4 @@
-ghost use Rattle.std.specs.Prelude.{◌≡◌, ◌*◌, ◌/◌, ◌%◌, ◌<◌, ℕ, List, true, length, replicate, slice_set, OnOk};
+ghost use Rattle.std.specs.Prelude.{◌≡◌, ◌*◌, ◌/◌, ◌%◌, ◌<◌, ℕ, List, true, length, replicate, slice_index_or, slice_set, OnOk};
 ghost use Rattle.vx_cells.specs.Codes.{code_count};
 ghost use Rattle.vx_cells.specs.Stored.{AreMachineMarks, HasRoomFor};
 
@@ -27,15 +27,17 @@ impl MachineMarks {
         }
     }
 
-    /// Whether a byte that is put down at an index leaves all marks as they are.
+    /// Whether the marks of a sector stay as they are where a byte is put down in place of another.
+    // It looks at no mark: the table is large, and the byte that was there is at hand.
     #[inline(always)]
-    pub fn tell(&self, index: u32, code: u8) -> bool
-        requires { code < code_count }
-        ensures { result ≡ true → (store : List ℕ) → index < length store
-            → AreMachineMarks store self.now → AreMachineMarks (slice_set store index code) self.now }
+    pub fn stay(was: u8, code: u8) -> bool
+        requires was { was < code_count }
+        requires code { code < code_count }
+        ensures { result ≡ true → (store : List ℕ) (index : ℕ) (marks : _) → index < length store
+            → slice_index_or store index 0 ≡ was → AreMachineMarks store marks
+            → AreMachineMarks (slice_set store index code) marks }
     {
-        self.components.has(index) == is_component(code)
-            && self.devices.has(index) == is_device(code)
+        is_component(was) == is_component(code) && is_device(was) == is_device(code)
     }
 
     /// Makes room for the marks of a byte's cell, where there is none yet. What is marked stays.

@@ -152,7 +152,7 @@ impl Stored {
     {
         let index = self.bounds.index_in_sector(p);
         let code = encode(cell);
-        if self.marks.tell(index, code) {
+        if MachineMarks::stay(self.store.get(index), code) {
             return put_over(&mut self.store, &mut self.chests, index, code);
         }
         put_marked(

@@ -42,8 +42,7 @@ invariant_of-self c =
     let code = c.encode-code.result in
     let within = c.index_in_sector-index.ensures.within in
     let near : index < length s.store = omega (arith, within, kept.stored.whole) in
-    let told = subst (AreMachineMarks (set s.store index code)) c.deref.ensures
-    (c.tell.ensures c.if-tell.true s.store near (subst (AreMachineMarks s.store) (sym c.deref.ensures) kept.marks)) in
+    let told = c.stay.ensures c.if-stay.true s.store index (arc_value s.marks) near (sym c.get.ensures) kept.marks in
     record {
       sector_low = kept.sector_low;
       stored = by_either c.put_over.result c.put_over.ensures.store c.put_over.ensures.chests c.put_over.ensures.err
@@ -56,8 +55,8 @@ invariant_of-self c =
           (λ left. subst (λ codes. AreMachineMarks codes (arc_value s.marks)) (sym left.0) kept.marks);
     }
 
-pub returns-then-tell-clause-ok : goal.returns-then-tell-clause-ok
-returns-then-tell-clause-ok c =
+pub returns-then-stay-clause-ok : goal.returns-then-stay-clause-ok
+returns-then-stay-clause-ok c =
     let s = c.self.inside in
     let within = c.index_in_sector-index.ensures.within in
     on_ok c.put_over.result c.put_over.ensures.store c.put_over.ensures.chests (λ store chests.
@@ -66,8 +65,8 @@ returns-then-tell-clause-ok c =
     c.index_in_sector-index.ensures.value within
     _ _ _ refl chests c.args.cell c.encode-code.ensures.cell))
 
-pub returns-then-tell-clause-err : goal.returns-then-tell-clause-err
-returns-then-tell-clause-err c =
+pub returns-then-stay-clause-err : goal.returns-then-stay-clause-err
+returns-then-stay-clause-err c =
     let s = c.self.inside in
     on_err c.put_over.result c.put_over.ensures.err (λ left.
     ap (λ codes. stored s.bounds s.sector codes (arc_value c.put_over.new.chests)) left.0

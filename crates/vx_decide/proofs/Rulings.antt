@@ -161,7 +161,7 @@ ruling f a = by (decided (OnFlag f) a) (answer_at a f 0) refl refl
     by_own : (answer : Answer) → FlagAnswers f a answer → Ruling f a (by_flag f answer)
     by_own answer is = record {
       state = answer.value.state;
-      named = rule.Flag answer.at answer.value.from f;
+      named = rule.Flag f answer.at answer.value.from;
       is = refl;
       holds = record { flag = refl; answers = is };
     }
@@ -299,8 +299,8 @@ silent_default f a is =
 
 -- a rule that holds is that of the verdict
 held : (f : Flag) (a : Case) (state : State) (r : Rule) → RuleHolds f a state r → decided_by f a ≡ ruled state r
-held f a s (rule.Flag at from g) is =
-    flag_answered f a (answer_from_parts at s from) is.answers ∙ ap (λ h. ruled s (rule.Flag at from h)) (sym is.flag)
+held f a s (rule.Flag g at from) is =
+    flag_answered f a (answer_from_parts at s from) is.answers ∙ ap (λ h. ruled s (rule.Flag h at from)) (sym is.flag)
 held f a s (rule.Build at from) is = flag_silent f a is.silent ∙ build_answered a (answer_from_parts at s from) is.answers
 held f a Deny (rule.Member at) is = flag_silent f a is.silent ∙ build_by_membership a is.unset ∙ elim is.denies [
   | inl one ↦ member_denied a at.0 one
@@ -323,7 +323,7 @@ answer_at_place q a answer is = (is.region, is.taken.among, taken_contains q a (
 -- the region that a rule names contains the place
 rule_at_place : (f : Flag) (a : Case) (state : State) (r : Rule) → RuleHolds f a state r → number_of_rule r ≢ 0
     → IsAtPlace a (number_of_rule r)
-rule_at_place f a s (rule.Flag at from g) is some = elim is.answers [
+rule_at_place f a s (rule.Flag g at from) is some = elim is.answers [
   | inl one ↦ answer_at_place (OnFlag f) a (answer_from_parts at s from) one
   | inr world ↦ absurd (some world.1.at)
 ]

@@ -99,7 +99,7 @@ pub record NothingIsSaid (f : Flag) (a : Case) : Type 0 where
 
 -- what is so where the rule decides for this state on an action with the flag
 abbrev pub RuleHolds : Flag → Case → State → Rule → Type 0
-RuleHolds f a s (rule.Flag at from g) = ByFlag f a (answer_from_parts at s from) g
+RuleHolds f a s (rule.Flag g at from) = ByFlag f a (answer_from_parts at s from) g
 RuleHolds f a s (rule.Build at from) = ByBuild f a (answer_from_parts at s from)
 RuleHolds f a Deny (rule.Member at) = ByNoMember f a at.0
 RuleHolds f a Allow (rule.Member at) = ByMember f a at.0
@@ -108,7 +108,7 @@ RuleHolds f a Allow rule.Default = ByDefault f a
 
 -- the number of the region at which a rule decides, 0 for the world at large
 abbrev pub number_of_rule : Rule → ℕ
-number_of_rule (rule.Flag at from f) = at.0
+number_of_rule (rule.Flag f at from) = at.0
 number_of_rule (rule.Build at from) = at.0
 number_of_rule (rule.Member at) = at.0
 number_of_rule rule.Default = 0

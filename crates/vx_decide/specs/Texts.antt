@@ -5,7 +5,7 @@ use Rattle.vx_decide.specs.declared.rule.Rule.TheVariants as rule
 
 -- the words of a rule in a reply
 abbrev pub rule_text : Rule → List ℕ
-rule_text (rule.Flag at from flag) =
+rule_text (rule.Flag flag at from) =
     codes "flag " ++ flag_text flag ++ codes " at " ++ decimal at.0
     ++ codes " from " ++ decimal from.0
 rule_text (rule.Build at from) =

@@ -13,7 +13,7 @@ use Rattle.vx_decide.specs.Build.{ruled, by_answer, build}
 
 -- an answer on an action's own flag as a verdict
 abbrev pub by_flag : Flag → Answer → Verdict
-by_flag f answer = ruled answer.value.state (rule.Flag answer.at answer.value.from f)
+by_flag f answer = ruled answer.value.state (rule.Flag f answer.at answer.value.from)
 
 -- by the flag, and where that is not set by building
 unfoldable pub decided_by : Flag → Case → Verdict

@@ -63,7 +63,7 @@ flag_plain flag = search rules
 
 -- a rule
 pub rule_plain : (r : Rule) → IsPlain (rule_text r)
-rule_plain (rule.Flag at from flag) =
+rule_plain (rule.Flag flag at from) =
     both (both (both (both (both (plain (codes "flag ") refl) (plain (flag_text flag) (flag_plain flag))) (plain (codes " at ") refl)) (number at.0)) (plain (codes " from ") refl)) (number from.0)
 rule_plain (rule.Build at from) = both (both (both (plain (codes "build at ") refl) (number at.0)) (plain (codes " from ") refl)) (number from.0)
 rule_plain (rule.Member at) = both (plain (codes "member at ") refl) (number at.0)

@@ -188,6 +188,8 @@ impl Sector {
     /// Carries out a command and records it with its answer, or refuses it by the first cause that
     /// stands against it. A refusal leaves the cells as they were; one for a position outside the
     /// sector, for a full record or for want of memory is not recorded.
+    // Inlined, so that its answer is not moved once more.
+    #[inline(always)]
     pub fn act(&mut self, seat: Seat, cmd: Cmd) -> Result<Reply, Refusal>
         ensures answer { (result ≡ answer_of self.old (seat_of seat) cmd)
             ⊎ (result ≡ Err Refusal.NoMemory) }

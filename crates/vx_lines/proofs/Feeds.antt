@@ -1,14 +1,36 @@
 -- Where a list of bytes is cut at its first line feed.
-use Rattle.std.proofs.Common.{◌≡◌, ℕ, suc, ◌+◌, ◌-◌, ◌<◌, ◌≤◌, Bool, true, false, cond, ◌==◌, if◌then◌else◌, nat_lt, List, [], ◌∷◌, ◌++◌, length, take, drop, get_or, slice_range, position, Some, None, refl, ap, sym, ◌∙◌, subst, arith, add-one, length-drop, drop-cons}
+use Rattle.std.proofs.Common.{◌≡◌, ℕ, suc, ◌+◌, ◌-◌, ◌<◌, ◌≤◌, Bool, true, false, cond, ◌==◌, if◌then◌else◌, nat_lt, List, [], ◌∷◌, ◌++◌, length, take, drop, get_or, slice_range, position, Option, Some, None, refl, ap, sym, ◌∙◌, subst, arith, add-one, length-drop, drop-cons}
 use Rattle.std.specs.List.{position_or_len, onto_first}
 use Rattle.std.proofs.lemmas.List.{take-append-drop, drop-take, drop-drop, length-take-le, get_or-take}
 use Rattle.std.proofs.lemmas.List.Elements.{recursion_from_All}
-use Rattle.std.proofs.lemmas.List.Sums.{fails_before_first, passes_at_first}
-use Rattle.std.proofs.lemmas.Bool.{eqb-true, ltb-true, ltb-false}
+use Rattle.std.proofs.lemmas.List.Sums.{fails_before_first, passes_at_first, position_or_len_is}
+use Rattle.std.proofs.lemmas.Bool.{eqb-true, false_from_ne_true, lt-ltb, ltb-true, ltb-false}
+use Rattle.memchr.specs.Find.{IsFirstByte, is_byte}
 use Rattle.vx_lines.specs.Lines.{line_feed, lines_of, IsPiece}
 
 abbrev pub is_feed : ℕ → Bool
 is_feed b = b == line_feed
+
+-- where a search finds the first one
+pub first_feed : (bytes : List ℕ) (found : Option ℕ) → IsFirstByte (is_byte 10) bytes found → found ≡ position is_feed bytes
+first_feed bytes None nowhere =
+    let past : position_or_len is_feed bytes ≡ length bytes =
+    position_or_len_is is_feed bytes (length bytes) 0 (omega arith) (λ k small. false_from_ne_true _ (nowhere k (omega arith) small))
+    (λ small. absurd (omega (arith, small)))
+    in
+    let not_within : nat_lt (position_or_len is_feed bytes) (length bytes) ≡ false =
+    false_from_ne_true _ (λ yes. omega (arith, ltb-true _ _ yes, past))
+    in
+    sym (ap (λ b. cond b (Some (position_or_len is_feed bytes)) None) not_within)
+first_feed bytes (Some k) first =
+    let at : position_or_len is_feed bytes ≡ k =
+    position_or_len_is is_feed bytes k 0 (omega (arith, first.0.high)) (λ j small. false_from_ne_true _ (first.0.before j (omega arith) small))
+    (λ _. first.1)
+    in
+    sym (
+    ap (λ n. cond (nat_lt n (length bytes)) (Some n) None) at
+    ∙ ap (λ b. cond b (Some k) None) (lt-ltb k (length bytes) first.0.high)
+    )
 
 found_at : (b : Bool) (n i : ℕ) → cond b (Some n) None ≡ Some i → (b ≡ true) × (n ≡ i)
 found_at true n i h = (refl, cc)

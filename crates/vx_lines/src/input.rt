@@ -4,6 +4,7 @@ ghost use Rattle.vx_lines.specs.Lines.{line_feed, TakesPiece};
 
 use crate::read_failed::ReadFailed;
 use crate::reads::Reads;
+use memchr::memchr;
 use std::alloc::{AllocError, Global};
 use std::io::Read;
 use std::marker::Model;
@@ -108,5 +109,5 @@ impl Input {
 fn feed_in(bytes: &[u8]) -> Option<usize>
     ensures { result ≡ position (λ b. b == line_feed) bytes.now }
 {
-    bytes.iter().position(|b| *b == b'\n')
+    memchr(b'\n', bytes)
 }

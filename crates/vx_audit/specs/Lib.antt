@@ -4,4 +4,5 @@ pub mod Deeds
 pub mod Marks
 pub mod Recorded
 pub mod Records
+pub mod Shown
 pub mod Walks

@@ -9,6 +9,7 @@ mod fronts;
 mod laws;
 mod mark;
 mod walk;
+mod windows;
 
 pub use difference::Difference;
 pub use following::follow;

@@ -1,13 +1,14 @@
 ghost use Rattle.std.specs.Prelude.{◌≡◌, ◌+◌, ◌<◌, true, map, length, ◌∷◌, IfOk, IfSome};
 ghost use Rattle.vx_sector.specs.SectorData.{entry_of};
-ghost use Rattle.vx_windows.specs.Sectors.{entries_in};
 ghost use Rattle.vx_record.specs.Records.{tick_in};
 ghost use Rattle.vx_audit.specs.Audits.{record_in};
-ghost use Rattle.vx_audit.specs.Walks.{AreDone, windows_in, version_in};
+ghost use Rattle.vx_audit.specs.Walks.{AreDone, version_in};
+ghost use Rattle.vx_audit.specs.Shown.{shown};
 
 use crate::counts::{Row, count_block, first_mark};
 use crate::fronts::{first_entry, take_counted};
 use crate::mark::Mark;
+use crate::windows::Windows;
 use std::alloc::{AllocError, Global};
 use std::marker::Model;
 use vx_policy::Version;
@@ -60,14 +61,14 @@ impl<'a> Walk<'a> {
             walk ≡ start_of (record_in chronicle.now windows.now version.now)) }
     {
         let ticks = chronicle.ticks.as_slice();
-        let first = windows_of(ticks, windows);
+        let first = Windows::first(ticks, windows);
         Ok(Walk {
-            lefts: all_left(alloc, first)?,
+            lefts: all_left(alloc, &first)?,
             ticks,
             pending: windows,
             version,
             edits: 0,
-            counts: vec![in alloc; [0; MAX_PLAYERS]; first.len()]?,
+            counts: vec![in alloc; [0; MAX_PLAYERS]; first.count()]?,
         })
     }
 
@@ -159,7 +160,7 @@ impl<'a> Walk<'a> {
             return false;
         }
         self.ticks = ticks;
-        begin_windows(&mut self.lefts, windows_of(ticks, self.pending))
+        begin_windows(&mut self.lefts, &Windows::first(ticks, self.pending))
     }
 }
 
@@ -174,17 +175,6 @@ fn first_tick(ticks: &[Tick]) -> Option<(&Tick, &[Tick])>
     }
 }
 
-// The windows that come first.
-fn windows_of<'a>(ticks: &'a [Tick], pending: &'a [Vec<Entry>]) -> &'a [Vec<Entry>]
-    ensures { map entries_in result.now
-        ≡ windows_in (map tick_in ticks.now) (map entries_in pending.now) }
-{
-    match ticks {
-        [tick, ..] => &tick.windows,
-        [] => pending,
-    }
-}
-
 // The version that judges them.
 fn version_of<'a>(ticks: &'a [Tick], last: &'a Version) -> &'a Version
     ensures { result.now ≡ version_in (map tick_in ticks.now) last.now }
@@ -196,27 +186,27 @@ fn version_of<'a>(ticks: &'a [Tick], last: &'a Version) -> &'a Version
 }
 
 // All that is left of these windows as they begin.
-fn all_left<'a>(alloc: Global, windows: &'a [Vec<Entry>]) -> Result<Vec<&'a [Entry]>, AllocError>
+fn all_left<'a>(alloc: Global, windows: &Windows<'a>) -> Result<Vec<&'a [Entry]>, AllocError>
     ensures { IfOk result (λ lefts.
-        map (λ left. map entry_of left.now) lefts.items ≡ map entries_in windows.now) }
+        map (λ left. map entry_of left.now) lefts.items ≡ shown windows.now) }
 {
-    let mut lefts = Vec::with_capacity(alloc, windows.len())?;
-    for window in windows {
-        lefts.push(window.as_slice())?;
+    let mut lefts = Vec::with_capacity(alloc, windows.count())?;
+    for at in 0..windows.count() {
+        lefts.push(windows.window(at))?;
     }
     Ok(lefts)
 }
 
 // Puts these windows in the place of what was left of those before, if there are as many.
-fn begin_windows<'a>(lefts: &mut [&'a [Entry]], windows: &'a [Vec<Entry>]) -> bool
+fn begin_windows<'a>(lefts: &mut [&'a [Entry]], windows: &Windows<'a>) -> bool
     ensures { result ≡ true
-        → map (λ left. map entry_of left.now) lefts.new ≡ map entries_in windows.now }
+        → map (λ left. map entry_of left.now) lefts.new ≡ shown windows.now }
 {
-    if lefts.len() != windows.len() {
+    if lefts.len() != windows.count() {
         return false;
     }
-    for (k, window) in windows.iter().enumerate() {
-        lefts[k] = window.as_slice();
+    for at in 0..windows.count() {
+        lefts[at] = windows.window(at);
     }
     true
 }

@@ -11,7 +11,7 @@ use std::marker::Model;
 use vx_board::{DeskError, Naming};
 use vx_play::{Play, Ticked};
 use vx_policy::Edit;
-use vx_record::{Chronicle, Opening, Tick};
+use vx_record::{Chronicle, ClosedWindows, Opening, Tick};
 use vx_sector::{Cmd, Refusal};
 use vx_tick::Phase;
 use vx_windows::MAX_TICKS;
@@ -177,7 +177,7 @@ impl<J: Naming> Machine<J> {
         self.ticks.push(Tick {
             number,
             version,
-            windows,
+            windows: ClosedWindows::new(windows),
             fates,
         })?;
         self.is_fixed = true;

@@ -78,11 +78,11 @@ fn first_tick(rt: &impl Abort, tick: &Tick, bob: Seat) {
         &(tick.number, tick.version.tick, tick.version.edits),
         &(1, 1, 0),
     );
-    assert!(rt; tick.windows.len() == 2 && tick.fates.is_empty());
+    assert!(rt; tick.windows.count() == 2 && tick.fates.is_empty());
     let done = entry(bob, stone(5, 1), Ok(Reply::Done(Rule::Default)));
     let nothing = entry(bob, break_of_air(), Err(Refusal::Nothing));
-    has_entries(rt, tick.windows[0].as_slice(), &[done, nothing]);
-    assert!(rt; tick.windows[1].is_empty());
+    has_entries(rt, tick.windows.window(0), &[done, nothing]);
+    assert!(rt; tick.windows.window(1).is_empty());
 }
 
 // The window has these entries and no others.

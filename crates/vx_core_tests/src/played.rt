@@ -198,8 +198,8 @@ fn tell_edits(alloc: Global, text: &mut String, edits: &[Edit]) -> Result<(), Al
 }
 
 fn tell_tick(alloc: Global, text: &mut String, tick: &Tick) -> Result<(), AllocError> {
-    for window in &tick.windows {
-        tell_answers(alloc, text, window)?;
+    for sector in 0..tick.windows.count() {
+        tell_answers(alloc, text, tick.windows.window(sector))?;
     }
     let number = tick.number;
     tell(text, &format!(in alloc; "tick {number}")?)?;

@@ -37,6 +37,17 @@ window_behind tick n (first ∷ windows) window =
     ∙ ap (λ m. calls_text tick (n + 1) windows ++ flat_map (call_line tick m) window) (let e : (n + 1) + length windows ≡ n + suc (length windows) = omega arith in e))
     ∙ sym (append_assoc (flat_map (call_line tick n) first) (calls_text tick (n + 1) windows) (flat_map (call_line tick (n + suc (length windows))) window))
 
+-- the calls of one more window that a tick closed
+pub closed_more : (tick : ℕ) (windows : List (List EntryData)) (i : ℕ) → i < length windows
+    → calls_text tick 0 (take (i + 1) windows) ≡ calls_text tick 0 (take i windows) ++ flat_map (call_line tick i) (get_or windows i [])
+closed_more tick windows i low =
+    ap (calls_text tick 0) (take_more windows i [] low)
+    ∙ window_behind tick 0 (take i windows) (get_or windows i [])
+    ∙ ap (λ m. calls_text tick 0 (take i windows) ++ flat_map (call_line tick m) (get_or windows i [])) long
+  where
+    long : 0 + length (take i windows) ≡ i
+    long = omega (arith, length-take-le i windows (omega arith))
+
 -- the calls of one more window
 pub window_more : {X : Type 0} (tick : ℕ) (view : X → List EntryData) (xs : List X) (i : ℕ) (x : X) → i < length xs → x ≡ get_or xs i x
     → calls_text tick 0 (map view (take (i + 1) xs)) ≡ calls_text tick 0 (map view (take i xs)) ++ flat_map (call_line tick i) (view x)

@@ -14,7 +14,7 @@ use crate::texts::{answer_text, cmd_text, fate_text};
 use std::alloc::{AllocError, Global};
 use std::io::Write;
 use vx_geom::Pos;
-use vx_record::{Chronicle, Tick};
+use vx_record::{Chronicle, ClosedWindows, Tick};
 use vx_sector::Entry;
 use vx_tick::Fate;
 
@@ -43,11 +43,27 @@ fn write_tick<W: Write>(alloc: Global, tick: &Tick, writer: &mut W) -> Result<()
     ensures { OnOk result (Appends (W.contents writer.old) (W.contents writer.new)
         (tick_text (tick_in tick.now))) }
 {
-    write_windows(alloc, tick.number, tick.windows.as_slice(), writer)?;
+    write_closed(alloc, tick.number, &tick.windows, writer)?;
     write_fates(alloc, tick.number, tick.fates.as_slice(), writer)
 }
 
-// Writes the calls of windows, sector by sector, from the first on.
+// Writes the calls of windows that a tick closed, sector by sector, from the first on.
+fn write_closed<W: Write>(
+    alloc: Global,
+    tick: u64,
+    windows: &ClosedWindows,
+    writer: &mut W,
+) -> Result<(), RecordError>
+    ensures { OnOk result (Appends (W.contents writer.old) (W.contents writer.new)
+        (calls_text tick 0 windows.now)) }
+{
+    for sector in 0..windows.count() {
+        write_window(alloc, tick, sector, windows.window(sector), writer)?;
+    }
+    Ok(())
+}
+
+// Writes the calls of open windows, sector by sector, from the first on.
 fn write_windows<W: Write>(
     alloc: Global,
     tick: u64,

@@ -30,7 +30,7 @@ use vx_board::{Listed, View};
 use vx_cells::Frozen;
 use vx_geom::Pos;
 use vx_policy::Version;
-use vx_record::{Archive, Chronicle, Opening, Tick, follows};
+use vx_record::{Archive, Chronicle, ClosedWindows, Opening, Tick, follows};
 use vx_sector::Sector;
 use vx_stamp::{Mark, Stamper};
 use vx_step::{Gate, plan_parts};
@@ -295,7 +295,7 @@ impl<A: Places> Keeper<A> {
         self.archive.add(Tick {
             number,
             version: was,
-            windows,
+            windows: ClosedWindows::new(windows),
             fates,
         });
         self.watch = Some(watch);

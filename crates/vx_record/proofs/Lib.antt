@@ -5,6 +5,7 @@ pub mod Counting
 pub mod Decided
 pub mod Fronts
 pub mod Growing
+pub mod Keeping
 pub mod Mapped
 pub mod Owning
 pub mod Recording

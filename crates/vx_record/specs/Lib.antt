@@ -1,6 +1,7 @@
 pub mod Archives
 pub mod Calls
 pub mod Chronicles
+pub mod Kept
 pub mod Openings
 pub mod Owners
 pub mod Records

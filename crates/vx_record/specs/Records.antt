@@ -1,6 +1,5 @@
 -- What the structs of the record say.
 use Rattle.std.specs.Prelude.{map}
-use Rattle.vx_windows.specs.Sectors.{entries_in}
 use Rattle.vx_record.specs.Chronicles.{TickData, ChronicleData}
 use Rattle.vx_record.specs.declared.chronicle.Chronicle.{Chronicle}
 use Rattle.vx_record.specs.declared.tick.Tick.{Tick}
@@ -10,7 +9,7 @@ abbrev pub tick_in : Tick → TickData
 tick_in t = record {
   number = t.number;
   version = t.version;
-  windows = map entries_in t.windows.items;
+  windows = t.windows;
   fates = t.fates.items;
 }
 

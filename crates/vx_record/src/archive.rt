@@ -3,11 +3,11 @@ ghost use Rattle.std.specs.List.{All};
 ghost use Rattle.std.specs.Prelude.{◌≡◌, ◌≤◌, ◌<◌, ◌++◌, ◌∷◌, [], true, length, map, replicate, slice_index, vec_len, IfOk, OnOk};
 ghost use Rattle.vx_sector.specs.SectorData.{entry_of};
 ghost use Rattle.vx_sector.specs.Windows.{most_entries};
-ghost use Rattle.vx_windows.specs.Sectors.{entries_in};
 ghost use Rattle.vx_record.specs.Archives.{next_counts};
 
 use crate::call::Call;
 use crate::chronicle::Chronicle;
+use crate::closed_windows::ClosedWindows;
 use crate::opening::Opening;
 use crate::saying::says;
 use crate::tick::Tick;
@@ -163,13 +163,12 @@ fn zeros(alloc: Global, count: usize) -> Result<Vec<u64>, AllocError>
 }
 
 // Counts the entries of further windows, one for each sector.
-fn add_counts(counts: &mut [u64], windows: &[Vec<Entry>])
+fn add_counts(counts: &mut [u64], windows: &ClosedWindows)
     requires each { length windows.now ≡ length counts.old }
-    requires most { All (λ n. n ≤ most_entries)
-        (next_counts counts.old (map entries_in windows.now)) }
-    ensures { counts.new ≡ next_counts counts.old (map entries_in windows.now) }
+    requires most { All (λ n. n ≤ most_entries) (next_counts counts.old windows.now) }
+    ensures { counts.new ≡ next_counts counts.old windows.now }
 {
-    for (at, window) in windows.iter().enumerate() {
-        counts[at] += window.len() as u64;
+    for at in 0..windows.count() {
+        counts[at] += windows.window(at).len() as u64;
     }
 }

@@ -3,7 +3,6 @@ ghost use Rattle.std.specs.Bool.{Decides};
 ghost use Rattle.std.specs.Prelude.{◌≡◌, ◌≢◌, [], ◌∷◌, ◌++◌, List, map, MatchOption};
 ghost use Rattle.vx_sector.specs.SectorData.{entry_of};
 ghost use Rattle.vx_record.specs.Records.{tick_in};
-ghost use Rattle.vx_windows.specs.Sectors.{entries_in};
 ghost use Rattle.vx_record.specs.Said.{calls_of, window_at, said_of};
 ghost use Rattle.vx_record.specs.declared.call.Call.{Call};
 
@@ -34,10 +33,7 @@ pub fn says(calls: &[Call], seat: u8, at: usize, ticks: &[Tick], window: &[Entry
 pub(crate) fn window_of(tick: &Tick, at: usize) -> &[Entry]
     ensures { map entry_of result.now ≡ window_at at (tick_in tick.now) }
 {
-    match tick.windows.get(at) {
-        Some(window) => window,
-        None => &[],
-    }
+    tick.windows.window(at)
 }
 
 // What is left of the calls after those of the seat among the entries; none where they don't begin

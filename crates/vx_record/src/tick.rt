@@ -1,6 +1,6 @@
+use crate::closed_windows::ClosedWindows;
 use vx_geom::Pos;
 use vx_policy::Version;
-use vx_sector::Entry;
 use vx_tick::Fate;
 
 /// A tick on record.
@@ -11,7 +11,7 @@ pub struct Tick {
     /// The version of the policy that judged its machines, and the commands before it.
     pub version: Version,
     /// The record of each sector's window, in order of the sectors.
-    pub windows: Vec<Vec<Entry>>,
+    pub windows: ClosedWindows,
     /// What became of the moves that pistons asked for, each beside the position of its piston, in
     /// the order of positions.
     pub fates: Vec<(Pos, Fate)>,

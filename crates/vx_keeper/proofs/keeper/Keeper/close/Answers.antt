@@ -52,14 +52,14 @@ add-requires-clause-next g c =
     let told : TickData = record {
       number = length c.ticks.result.now + 1;
       version = c.go_on-was.result;
-      windows = map entries_in c.renew_sectors-windows.result.items;
+      windows = c.new.result;
       fates = c.args.ready.fates.items;
     } in
     let is : told ≡ tick first many k c.soundness.ensures ss c.are_sectors.ensures held =
     λ i. record {
       number = number i;
       version = version i;
-      windows = c.renew_sectors-windows.ensures.windows i;
+      windows = (c.new.ensures ∙ c.renew_sectors-windows.ensures.windows) i;
       fates = c.requires.ready.fates i;
     } in
     subst (λ (d : ChronicleData). IsNextTick d told) (sym (ap (λ (k : KeeperData). k.chronicle) c.self.view_is))
@@ -75,7 +75,7 @@ add-requires-clause-most g c =
     let counts = ap (λ (k : KeeperData). k.counts) c.self.view_is ∙ held.closed in
     let fits = counts_fit ss (λ j d within. (c.are_sectors.ensures j d within).most) in
     All-same (λ n. n ≤ most_entries) _ _
-    (λ i. next_counts (counts i) (c.renew_sectors-windows.ensures.windows i))
+    (λ i. next_counts (counts i) ((c.new.ensures ∙ c.renew_sectors-windows.ensures.windows) i))
     fits
 
 -- where the sectors lie, and the map that the tick leaves
@@ -126,7 +126,7 @@ module _ (g : Over) (c : goal.Joined-self-mark g) where
   counts_are =
       let counts = ap (λ (k : KeeperData). k.counts) c.self.view_is ∙ held.closed in
       c.add.ensures.counts
-      ∙ (λ i. next_counts (counts i) (c.renew_sectors-windows.ensures.windows i))
+      ∙ (λ i. next_counts (counts i) ((c.new.ensures ∙ c.renew_sectors-windows.ensures.windows) i))
       ∙ counts_go_on ss
 
   chronicle_is : c.add.new.self.chronicle ≡ chronicle_next k ss
@@ -141,7 +141,7 @@ module _ (g : Over) (c : goal.Joined-self-mark g) where
         ticks = (before i).ticks ++ record {
           number = number i;
           version = version i;
-          windows = c.renew_sectors-windows.ensures.windows i;
+          windows = (c.new.ensures ∙ c.renew_sectors-windows.ensures.windows) i;
           fates = c.requires.ready.fates i;
         } ∷ [];
       })

@@ -1,6 +1,5 @@
 use Rattle.std.proofs.Common.{◌≡◌, ◌++◌, [], ◌∷◌, List, length, map, take, drop, sym, ap, subst, ◌∙◌, arith}
-use Rattle.std.proofs.lemmas.List.{length-map, map-append, take_at}
-use Rattle.vx_windows.specs.Sectors.{entries_in}
+use Rattle.std.proofs.lemmas.List.{map-append, take_at}
 use Rattle.vx_record.specs.Chronicles.{TickData}
 use Rattle.vx_record.specs.Records.{tick_in, chronicle_in}
 use Rattle.vx_record.specs.Archives.{ArchiveData, IsArchive, IsNextTick, next_counts}
@@ -9,7 +8,7 @@ use Rattle.vx_record.proofs.archive.Archive.add.Goals as goal
 
 pub add_counts-requires-clause-each : goal.add_counts-requires-clause-each
 add_counts-requires-clause-each c =
-    ap length c.deref.ensures.value ∙ sym (length-map c.args.tick.windows.items entries_in) ∙ c.requires.each
+    c.requires.each
     ∙ sym (ap (λ (a : ArchiveData). length a.counts) c.self.view_is) ∙ sym (ap length c.deref_mut.ensures.value)
 
 pub invariant_of-self : goal.invariant_of-self
@@ -25,7 +24,6 @@ invariant_of-self c =
     let counts : next_counts before.items tick.windows
     ≡ take before.len (new ++ drop (length new) before.items) =
     ap (λ ns. next_counts ns tick.windows) (sym c.deref_mut.ensures.value)
-    ∙ ap (λ ws. next_counts c.deref_mut.result.now (map entries_in ws)) (sym c.deref.ensures.value)
     ∙ sym c.add_counts.ensures
     ∙ sym (take_at new (drop (length new) before.items) before.len (omega (arith, c.add_counts.auto.counts, c.deref_mut.ensures.len))) in
     let ticks : was.ticks ++ tick ∷ [] ≡ map tick_in c.push_reserved.new.self.items =

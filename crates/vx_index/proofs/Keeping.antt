@@ -2,6 +2,8 @@
 use Rattle.std.proofs.Common.{◌≡◌, suc, ◌+◌, ◌-◌, ◌≤◌, Bool, true, false, cond, [], ◌∷◌, take, length, Option, Some, None, IfSome, Result, Ok, Err, OnOk, OnErr, refl, sym, subst, arith}
 use Rattle.std.specs.Option.{option_map_or}
 use Rattle.std.specs.Map.{lookup_entry, remove_entry}
+use Rattle.std.specs.Prelude.{Box}
+use Rattle.std.specs.declared.alloc.Global.{Global}
 use Rattle.std.proofs.lemmas.List.{length-take}
 use Rattle.lru.specs.LruCache.{LruCache, lru_cache, promoted, put_entries}
 use Rattle.vx_decide.specs.declared.verdict.Verdict.{Verdict}
@@ -39,8 +41,9 @@ few_put eq cache asked v keeps = by (lookup_entry (eq asked) cache.entries) refl
     by (Some e) is = omega (arith, one_less (eq asked) cache.entries e is, keeps.few)
 
 -- where one is kept it is one of these
-pub if_kept : (kept : Option (LruCache Asked Verdict)) (cache : LruCache Asked Verdict) → Some cache ≡ kept → IfSome kept KeepsFew → KeepsFew cache
-if_kept kept cache is keeps = subst (λ o. IfSome o KeepsFew) (sym is) keeps
+pub if_kept : (kept : Option (Box (LruCache Asked Verdict) Global)) (cache : Box (LruCache Asked Verdict) Global) → Some cache ≡ kept
+    → IfSome kept (λ c. KeepsFew c.value) → KeepsFew cache.value
+if_kept kept cache is keeps = subst (λ o. IfSome o (λ (c : Box (LruCache Asked Verdict) Global). KeepsFew c.value)) (sym is) keeps
 
 pub still_few : (test : Asked → Bool) (old new : LruCache Asked Verdict) → new ≡ lru_cache (promoted test old.entries) old.cap → KeepsFew old → KeepsFew new
 still_few test old new is keeps = subst KeepsFew (sym is) (record {

@@ -3,7 +3,9 @@ use Rattle.std.proofs.Common.{◌≡◌, ◌⊎◌, inl, inr, Bool, true, ◌&&�
 use Rattle.std.proofs.lemmas.Bool.{and_parts}
 use Rattle.std.proofs.lemmas.Slice.Eq.{bytes_eq-Decides}
 use Rattle.std.specs.Cmp.{signed_Decides}
+use Rattle.std.specs.declared.alloc.Global.{Global}
 use Rattle.std.specs.Map.{lookup}
+use Rattle.std.specs.Prelude.{Box}
 use Rattle.std.specs.Ordering.{int_eq}
 use denote.Enum.Bare.{sameb, same_true}
 use Rattle.lru.proofs.CallerLemmas.{Contains-lookup, Contains-put_entries}
@@ -85,7 +87,8 @@ after_put old new asked v (Err x) done not e there =
     inl (subst (λ (cache : LruCache Asked Verdict). Contains cache.entries e) not there)
 
 -- what a cache has is what is kept
-pub entries_are : (kept : Option (LruCache Asked Verdict)) (cache : LruCache Asked Verdict) → Some cache ≡ kept → cache.entries ≡ kept_verdicts kept
+pub entries_are : (kept : Option (Box (LruCache Asked Verdict) Global)) (cache : Box (LruCache Asked Verdict) Global) → Some cache ≡ kept
+    → cache.value.entries ≡ kept_verdicts kept
 entries_are kept cache is = ap kept_verdicts is
 
 -- what asks the same has the same verdict

@@ -1,5 +1,6 @@
 -- What is kept of verdicts that were given.
-use Rattle.std.specs.Prelude.{◌≡◌, ◌≤◌, length, List, [], Contains, Option}
+use Rattle.std.specs.Prelude.{◌≡◌, ◌≤◌, length, List, [], Contains, Option, Box}
+use Rattle.std.specs.declared.alloc.Global.{Global}
 use Rattle.std.specs.Option.{option_map_or}
 use Rattle.vx_region.specs.Regions.{Regions}
 use Rattle.vx_region.specs.Subjects.{Named}
@@ -14,8 +15,8 @@ abbrev pub Verdicts : Type 0
 Verdicts = List (Asked × Verdict)
 
 -- those that are kept
-abbrev pub kept_verdicts : Option (LruCache Asked Verdict) → Verdicts
-kept_verdicts kept = option_map_or (λ cache. cache.entries) kept []
+abbrev pub kept_verdicts : Option (Box (LruCache Asked Verdict) Global) → Verdicts
+kept_verdicts kept = option_map_or (λ cache. cache.value.entries) kept []
 
 -- there is room for MAX_KEPT verdicts, and there are no more
 pub record KeepsFew (cache : LruCache Asked Verdict) : Type 0 where

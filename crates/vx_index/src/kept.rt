@@ -17,8 +17,8 @@ const MAX_KEPT: usize = 256;
 /// The verdicts that were asked for last, at most 256. Contracts see it as these.
 #[derive(Drop)]
 pub(crate) struct Kept {
-    // None until one is kept.
-    verdicts: Option<LruCache<Asked, Verdict>>,
+    // None until one is kept. It stands apart, since a sector that keeps none is moved by each tick.
+    verdicts: Option<Box<LruCache<Asked, Verdict>>>,
 }
 
 impl Model for Kept {
@@ -29,7 +29,7 @@ impl Model for Kept {
 
     ghost view = { λ a. kept_verdicts a.verdicts };
 
-    ghost invariant = { λ a. IfSome a.verdicts KeepsFew };
+    ghost invariant = { λ a. IfSome a.verdicts (λ cache. KeepsFew cache.value) };
 }
 
 impl Kept {
@@ -87,9 +87,10 @@ impl Kept {
 }
 
 // A cache with nothing in it, if memory is there.
-fn empty(alloc: Global) -> Option<LruCache<Asked, Verdict>>
-    ensures few { IfSome result KeepsFew }
+fn empty(alloc: Global) -> Option<Box<LruCache<Asked, Verdict>>>
+    ensures few { IfSome result (λ cache. KeepsFew cache.value) }
     ensures nothing { kept_verdicts result ≡ [] }
 {
-    LruCache::sparse(alloc, NonZeroUsize::new(MAX_KEPT)?).ok()
+    let verdicts = LruCache::sparse(alloc, NonZeroUsize::new(MAX_KEPT)?).ok()?;
+    Box::new(alloc, verdicts).ok()
 }

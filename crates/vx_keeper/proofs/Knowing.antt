@@ -13,7 +13,8 @@ use Rattle.vx_region.specs.Regions.{Regions}
 use Rattle.vx_sector.specs.SectorData.{SectorData}
 use Rattle.vx_sector.specs.Windows.{IsSector}
 use Rattle.vx_sector.proofs.Places.{after_bounds, after_sector}
-use Rattle.vx_windows.specs.Sectors.{base_of, cells_of}
+use Rattle.vx_windows.specs.Sectors.{AreQuiet, base_of, cells_of, with_changes}
+use Rattle.vx_windows.proofs.Changing.{changed_bases}
 use Rattle.vx_record.specs.Chronicles.{AreSeated}
 use Rattle.vx_record.specs.Archives.{closed_of}
 use Rattle.vx_record.specs.Settling.{KnownData, AreKnown, AreKnownTo, IsKnown}
@@ -55,6 +56,13 @@ as_known v names air (c ∷ cs) (n ∷ ns) (s ∷ ss) many counts each =
       seated = (here.1.1, there.seated);
     }
 
+-- sectors that one version judges are judged by another that is the same but for its number
+pub all_judged : (v w : Version) (ss : List SectorData) → AllByRecursion (λ (s : SectorData). s.version ≡ v) ss
+    → record v { tick = w.tick } ≡ w → AllByRecursion (λ (s : SectorData). record s.version { tick = w.tick } ≡ w) ss
+all_judged v w [] judged same = tt
+all_judged v w (s ∷ ss) judged same =
+    (ap (λ (u : Version). record u { tick = w.tick }) judged.0 ∙ same, all_judged v w ss judged.1 same)
+
 -- the cells of sectors lie where their bases do
 pub cells_from : (sizes : Sizes) (k : ℕ) (ss : List SectorData) → AllByRecursion IsSector ss
     → AreFrom sizes k (map base_of ss) → AreFrom sizes k (map cells_of ss)
@@ -85,6 +93,15 @@ whole_now first many k keeper ss all sectors bases = record {
       cells_from k.world.map.sizes 0 ss (recursion_from_All IsSector ss sectors)
       (subst (AreFrom k.world.map.sizes 0) bases keeper.whole.each);
 }
+
+-- and the cells that change in them change in what is known, where nothing else was recorded
+pub changes_known : (first : Regions) (many : ℕ) (k : KeeperData) → IsKeeper first many k → (ss : List SectorData)
+    → length ss ≡ many → AreKnown (known k) (map Some ss) → All IsSector ss
+    → (changes : List (Option SectorCells)) → AreQuiet ss changes
+    → with_changes k.world.map.sectors changes ≡ with_changes (map cells_of ss) changes
+changes_known first many k keeper ss all each sectors changes quiet =
+    ap (λ cs. with_changes cs changes) (held_of first many k keeper ss all each).bases
+    ∙ changed_bases ss changes (recursion_from_All IsSector ss sectors) quiet
 
 -- a sector among all
 pub sector_there : (n : ℕ) (ss : List SectorData) (s : SectorData) → n < length ss

@@ -1,5 +1,5 @@
 -- Versions by edits, with more edits and with one tick more.
-use Rattle.std.proofs.Common.{◌≡◌, ℕ, ◌+◌, ◌≤◌, List, [], ◌∷◌, ◌++◌, length, length-append, take, refl, sym, ap, ◌∙◌, subst, arith}
+use Rattle.std.proofs.Common.{◌≡◌, ℕ, ◌+◌, ◌≤◌, List, [], ◌∷◌, ◌++◌, length, length-append, sym, ap, ◌∙◌, subst, arith}
 use mathlib.Core.List.{IsPrefix}
 use Rattle.std.proofs.Math.Seq.{take-length}
 use Rattle.std.proofs.lemmas.List.{length_push, take-append-le}
@@ -61,6 +61,13 @@ module _ (first : Regions) where
         last = ap (version_by first edits (length edits)) after_next;
         within = omega arith;
       }
+
+-- versions by as many of these edits are the same but for their numbers
+pub same_but_number : (first : Regions) (edits : List Asked) (count n : ℕ) (v w : Version) → v ≡ version_by first edits count n
+    → w ≡ version_by first edits w.edits w.tick → w.edits ≡ v.edits → record v { tick = w.tick } ≡ w
+same_but_number first edits count n v w is was same =
+    let counted : count ≡ w.edits = sym (same ∙ ap (λ (u : Version). u.edits) is) in
+    ap (λ (u : Version). record u { tick = w.tick }) is ∙ ap (λ m. version_by first edits m w.tick) counted ∙ sym was
 
 -- the version by all of these edits
 pub by_all : (first : Regions) (edits : List Asked) (n : ℕ)

@@ -1,7 +1,7 @@
 ghost use Rattle.std.specs.Bool.{Decides};
 ghost use Rattle.std.specs.List.{All};
 ghost use mathlib.Core.List.{IsPrefix};
-ghost use Rattle.std.specs.Prelude.{◌≡◌, ℕ, ◌<◌, ◌≤◌, ◌+◌, ◌↔◌, ◌⊎◌, true, [], length, map, replicate, Some, Err, IfOk, IfErr, IfSome, MatchOption, OnOk};
+ghost use Rattle.std.specs.Prelude.{◌≡◌, ℕ, ◌<◌, ◌≤◌, ◌+◌, ◌↔◌, ◌⊎◌, true, [], length, map, Some, Err, IfOk, IfErr, IfSome, MatchOption, OnOk};
 ghost use Rattle.vx_step.specs.declared.workers.TheConstants.{MAX_WORKERS};
 ghost use Rattle.vx_windows.specs.Sectors.{cells_of, all_renewed, opened_by, opened_with, first_version};
 ghost use Rattle.vx_windows.specs.Limits.{most_ticks};
@@ -256,7 +256,8 @@ impl<A: Places> Keeper<A> {
         self.soundness();
         are_sectors(sectors);
         self.archive.reserve()?;
-        Ready::new(alloc, self.known.bounds(), sectors, version, work)
+        let is_same = version.edits == self.known.version().edits;
+        Ready::new(alloc, self.known.bounds(), sectors, version, is_same, work)
     }
 
     /// Makes the tick: closes the windows of these sectors, adds them with what becomes of the
@@ -285,17 +286,19 @@ impl<A: Places> Keeper<A> {
             fates,
             told,
             watch,
-            cells,
+            changes,
             fresh,
             windows,
+            kept,
         } = ready;
+        let tick = version.tick;
         let number = self.archive.ticks().len() as u64 + 1;
-        let was = self.known.go_on(cells, version);
-        let windows = renew_sectors(sectors, fresh, windows);
+        let was = self.known.go_on(changes, version);
+        let windows = renew_sectors(sectors, fresh, tick, windows);
         self.archive.add(Tick {
             number,
             version: was,
-            windows: ClosedWindows::new(windows),
+            windows: ClosedWindows::new(windows, kept),
             fates,
         });
         self.watch = Some(watch);

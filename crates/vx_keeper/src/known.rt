@@ -1,7 +1,8 @@
 ghost use Rattle.std.specs.Bool.{Decides};
-ghost use Rattle.std.specs.Prelude.{◌≡◌, ◌<◌, length, slice_index_or};
+ghost use Rattle.std.specs.Prelude.{◌≡◌, ◌<◌, ◌≤◌, length, slice_index_or};
 ghost use Rattle.vx_cells.specs.Maps.{AreSectors};
 ghost use Rattle.vx_cells.specs.SectorCells.{only_air};
+ghost use Rattle.vx_windows.specs.Sectors.{with_changes};
 ghost use Rattle.vx_record.specs.Settling.{BeganWith};
 
 use std::marker::Model;
@@ -11,6 +12,7 @@ use vx_geom::Bounds;
 use vx_policy::Version;
 use vx_record::began_with;
 use vx_sector::Sector;
+use vx_windows::change_all;
 
 /// A world as its windows began: the cells of each sector, and the version that judges them.
 #[derive(Drop)]
@@ -95,17 +97,21 @@ impl Known {
         began_with(sector, &self.cells[at], &self.version)
     }
 
-    /// Goes on to the world as the next windows begin, over these cells, judged by this version,
-    /// and hands out the version before, as a record keeps it: without the chart of its policy. It
-    /// takes no memory.
-    pub fn go_on(&mut self, cells: Vec<Cells>, version: Version) -> Version
-        requires { AreSectors self.old.map.sizes cells.items }
-        ensures map { self.new.map
-            ≡ record { sizes = self.old.map.sizes; sectors = cells.items } }
+    /// Goes on to the world as the next windows begin, with these cells in the place of those that
+    /// changed, judged by this version, and hands out the version before, as a record keeps it:
+    /// without the chart of its policy. It takes no memory.
+    pub fn go_on(&mut self, changes: Vec<Option<Cells>>, version: Version) -> Version
+        requires each { length changes.items ≤ length self.old.map.sectors }
+        requires placed { AreSectors self.old.map.sizes
+            (with_changes self.old.map.sectors changes.items) }
+        ensures map { self.new.map ≡ record {
+          sizes = self.old.map.sizes;
+          sectors = with_changes self.old.map.sectors changes.items;
+        } }
         ensures version { self.new.version ≡ version }
         ensures was { result ≡ self.old.version }
     {
-        self.cells = cells;
+        change_all(&mut self.cells, changes);
         mem::replace(&mut self.version, version).without_chart()
     }
 }

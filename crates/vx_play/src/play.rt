@@ -236,10 +236,10 @@ impl<J: Naming> Play<J> {
             map entries_in windows.items ≡ map entries_of self.old.sectors) }
     {
         let version = self.desk.fix(self.ticks + 2)?;
-        let cells = cells_after(alloc, self.bounds, &self.sectors, puts)?;
-        let fresh = all_fresh(alloc, &cells, &version)?;
+        let changes = cells_after(alloc, self.bounds, &self.sectors, puts)?;
+        let fresh = all_fresh(alloc, &self.sectors, &changes, &version, false)?;
         let room = Vec::with_capacity(alloc, self.sectors.len())?;
-        let windows = renew_sectors(&mut self.sectors, fresh, room);
+        let windows = renew_sectors(&mut self.sectors, fresh, version.tick, room);
         self.version = version;
         self.watch = Some(watch);
         self.ticks += 1;

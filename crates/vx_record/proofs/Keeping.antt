@@ -1,34 +1,153 @@
--- Windows of which none is kept where all are empty.
-use Rattle.std.proofs.Common.{◌≡◌, ℕ, ◌+◌, ◌<◌, ◌≤◌, List, [], ◌∷◌, ◌++◌, Vec, Global, length, map, take, get_or, replicate, refl, sym, ap, subst, ◌∙◌, arith}
-use Rattle.std.proofs.lemmas.List.{length-map, length-replicate, nil_from_length, replicate-append-replicate, take_all}
+-- Windows of which those with entries are kept.
+use Rattle.std.proofs.Common.{◌≡◌, ◌≢◌, ℕ, zero, suc, ◌+◌, ◌<◌, true, false, List, [], ◌∷◌, ◌++◌, Vec, Global, length, map, get_or, set, replicate, take, cond, zero-add, refl, inl, inr, sym, ap, subst, ◌∙◌, arith}
+use Rattle.std.specs.List.{All, count_by, enumerate_from, filter}
+use Rattle.std.specs.List.Sorted.{IsNonDecreasingBy, IsPartitionPoint}
+use Rattle.std.proofs.Math.Dec.{ltb}
+use Rattle.std.proofs.lemmas.Bool.{cases_lt, ltb-false, ltb-true}
+use Rattle.std.proofs.lemmas.List.{length-set, length-replicate, get_or-map, get_or-set_same, get_or-set_other, set_at, set-append_left, replicate_more, take_more}
+use Rattle.std.proofs.lemmas.List.Elements.{All-tail, All-push}
+use Rattle.std.proofs.lemmas.List.FromFn.{length-enumerate_from, get_or-enumerate_from}
+use Rattle.std.proofs.lemmas.List.Quantifiers.{all_pairs_push}
+use Rattle.std.proofs.lemmas.List.Sorted.{IsNonDecreasingBy-from_all_adjacent}
+use Rattle.std.proofs.lemmas.List.Sums.{length-filter, sum_by-cons}
 use Rattle.vx_sector.specs.SectorData.{EntryData, entry_of}
 use Rattle.vx_sector.specs.declared.entry.Entry.{Entry}
 use Rattle.vx_windows.specs.Sectors.{entries_in}
-use Rattle.vx_record.specs.Kept.{windows_kept}
-use Rattle.vx_record.proofs.Fronts.{taken_to}
+use Rattle.vx_record.specs.Kept.{is_busy, busy_count, windows_kept, AreInOrder}
+use Rattle.vx_record.specs.declared.kept_window.KeptWindow.{KeptWindow}
 
--- where all are kept, these are the windows
-pub kept_all : (sectors : ℕ) (windows : List (Vec Entry Global)) → sectors ≡ length windows
-    → windows_kept sectors windows ≡ map entries_in windows
-kept_all sectors [] same = ap (λ n. replicate n []) same
-kept_all sectors (window ∷ windows) same = refl
+-- there is one for each sector
+pub as_many : (sectors : ℕ) (kept : List KeptWindow) → length (windows_kept sectors kept) ≡ sectors
+as_many sectors [] = length-replicate sectors []
+as_many sectors (window ∷ kept) =
+    length-set (windows_kept sectors kept) window.sector (entries_in window.entries) ∙ as_many sectors kept
 
--- one more is empty
-pub empty_more : (windows : List (Vec Entry Global)) (i : ℕ) (window : Vec Entry Global) → i < length windows
-    → window ≡ get_or windows i window → length window.items ≡ 0
-    → map entries_in (take i windows) ≡ replicate i [] → map entries_in (take (i + 1) windows) ≡ replicate (i + 1) []
-empty_more windows i window within here none before =
-    let empty : entries_in window ≡ [] = ap (map entry_of) (nil_from_length window.items none) in
-    taken_to entries_in windows i window within here
-    ∙ ap (λ w. map entries_in (take i windows) ++ w ∷ []) empty
-    ∙ ap (λ ws. ws ++ [] ∷ []) before
-    ∙ replicate-append-replicate i 1 []
+-- those after the first are in order
+order_after : (sectors : ℕ) (first : KeptWindow) (kept : List KeptWindow)
+    → AreInOrder sectors (first ∷ kept) → AreInOrder sectors kept
+order_after sectors first kept order = (
+  λ i j d before within. order.0 (suc i) (suc j) d (omega (arith, before)) (omega (arith, within)),
+  λ k d within. order.1 (suc k) d (omega (arith, within)),
+)
 
--- all of them are
-pub all_empty : (windows : List (Vec Entry Global)) (i : ℕ) → length windows ≤ i
-    → map entries_in (take i windows) ≡ replicate i [] → map entries_in windows ≡ replicate (length windows) []
-all_empty windows i past before =
-    let whole : map entries_in windows ≡ replicate i [] = ap (map entries_in) (sym (take_all i windows past)) ∙ before in
-    let many : i ≡ length windows =
-    sym (length-replicate {A = List EntryData} i []) ∙ ap length (sym whole) ∙ length-map windows entries_in in
-    whole ∙ ap (λ n. replicate n []) many
+-- a window that is kept stands at its number
+pub kept_at : (sectors : ℕ) (kept : List KeptWindow) (i : ℕ) (window : KeptWindow)
+    → AreInOrder sectors kept → i < length kept → window ≡ get_or kept i window
+    → get_or (windows_kept sectors kept) window.sector [] ≡ entries_in window.entries
+kept_at sectors [] i window order within here = absurd (omega (arith, within))
+kept_at sectors (first ∷ kept) zero window order within here =
+    let below : window.sector < sectors = subst (λ w. w.sector < sectors) (sym here) (order.1 0 window within) in
+    ap (λ w. get_or (set (windows_kept sectors kept) w.sector (entries_in w.entries)) window.sector []) (sym here)
+    ∙ get_or-set_same (windows_kept sectors kept) window.sector (entries_in window.entries) []
+    (omega (arith, below, as_many sectors kept))
+kept_at sectors (first ∷ kept) (suc i) window order within here =
+    let later : first.sector < window.sector =
+    subst (λ w. first.sector < w.sector) (sym here) (order.0 0 (suc i) window (omega arith) within) in
+    get_or-set_other (windows_kept sectors kept) first.sector window.sector (entries_in first.entries) []
+    (omega (arith, later))
+    ∙ kept_at sectors kept i window (order_after sectors first kept order) (omega (arith, within)) here
+
+-- of empty ones, each is empty
+none_at : (n at : ℕ) → get_or (windows_kept n []) at [] ≡ []
+none_at zero at = refl
+none_at (suc n) zero = refl
+none_at (suc n) (suc at) = none_at n at
+
+-- so is that of a number of which none is kept
+pub empty_at : (sectors : ℕ) (kept : List KeptWindow) (at : ℕ) → All (λ w. w.sector ≢ at) kept
+    → get_or (windows_kept sectors kept) at [] ≡ []
+empty_at sectors [] at others = none_at sectors at
+empty_at sectors (window ∷ kept) at others =
+    get_or-set_other (windows_kept sectors kept) window.sector at (entries_in window.entries) []
+    (λ same. others 0 window (omega arith) (sym same))
+    ∙ empty_at sectors kept at (All-tail (λ w. w.sector ≢ at) window kept others)
+
+-- the numbers never fall
+pub never_fall : (sectors : ℕ) (kept : List KeptWindow) → AreInOrder sectors kept
+    → IsNonDecreasingBy (λ w. w.sector) kept
+never_fall sectors kept order = IsNonDecreasingBy-from_all_adjacent (λ w. w.sector) kept
+    (λ k d within. omega (arith, order.0 k (k + 1) d (omega arith) within))
+
+-- so none is kept of a number, where the first window that is not of a lower one is not of it
+pub not_kept : (sectors : ℕ) (kept : List KeptWindow) (at i : ℕ) → AreInOrder sectors kept
+    → IsPartitionPoint (λ w. ltb w.sector at ≡ true) (λ w. ltb w.sector at ≡ false) kept i
+    → ((window : KeptWindow) → i < length kept → (get_or kept i window).sector ≢ at)
+    → All (λ w. w.sector ≢ at) kept
+not_kept sectors kept at i order parted other k d within = elim (cases_lt k i) [
+  | inl early ↦ let lower = ltb-true _ at (parted.0 k d (omega arith) early) in omega arith
+  | inr late ↦
+      let there : i < length kept = omega arith in
+      let no_lower = ltb-false _ at (parted.1 i d (omega arith) there) in
+      let after = never_fall sectors kept order i k d late within in
+      omega (arith, other d there)
+]
+
+-- a window with entries is busy
+pub busy_one : (entries : List Entry) → length entries ≢ 0 → is_busy (map entry_of entries) ≡ true
+busy_one [] some = absurd (some refl)
+busy_one (entry ∷ entries) some = refl
+
+-- what a walk over windows with their numbers has at its turn
+pub at_turn : (windows : List (Vec Entry Global)) (n number : ℕ) (window : Vec Entry Global)
+    → (n < length (enumerate_from 0 windows)) × ((number, window) ≡ get_or (enumerate_from 0 windows) n (number, window))
+    → (n < length windows) × (number ≡ n) × (get_or (map entries_in windows) n [] ≡ entries_in window)
+at_turn windows n number window turn =
+    let within : n < length windows = omega (arith, turn.0, length-enumerate_from 0 windows) in
+    let here = turn.1 ∙ get_or-enumerate_from 0 windows n (number, window) within in (
+      within,
+      ap (λ p. p.0) here ∙ zero-add n,
+      get_or-map entries_in windows n window [] within ∙ ap (λ p. entries_in p.1) (sym here),
+    )
+
+-- the first windows, and the one after them
+pub one_more : (all front : List (List EntryData)) (n : ℕ) (window : List EntryData) → n < length all
+    → get_or all n [] ≡ window → front ≡ take n all → front ++ window ∷ [] ≡ take (n + 1) all
+one_more all front n window within here so_far =
+    ap (λ ws. ws ++ window ∷ []) so_far ∙ ap (λ w. take n all ++ w ∷ []) (sym here) ∙ sym (take_more all n [] within)
+
+-- those that are kept are in order where there is one sector more
+pub order_more : (n : ℕ) (kept : List KeptWindow) → AreInOrder n kept → AreInOrder (n + 1) kept
+order_more n kept order = (order.0, λ k d within. omega (arith, order.1 k d within))
+
+-- also with its window behind them
+pub order_push : (n : ℕ) (kept : List KeptWindow) (last : KeptWindow) → AreInOrder n kept → last.sector ≡ n
+    → AreInOrder (n + 1) (kept ++ last ∷ [])
+order_push n kept last order is_last = (
+  all_pairs_push (λ w v. w.sector < v.sector) kept last order.0 (λ k d within. omega (arith, order.1 k d within, is_last)),
+  All-push (λ w. w.sector < n + 1) kept last (order_more n kept order).1 (omega (arith, is_last)),
+)
+
+-- the windows of one sector more, of which none is kept
+pub kept_none : (n : ℕ) (kept : List KeptWindow) → All (λ w. w.sector < n) kept
+    → windows_kept (n + 1) kept ≡ windows_kept n kept ++ [] ∷ []
+kept_none n [] below = sym (replicate_more n [])
+kept_none n (window ∷ kept) below =
+    ap (λ ws. set ws window.sector (entries_in window.entries)) (kept_none n kept (All-tail (λ w. w.sector < n) window kept below))
+    ∙ set-append_left (windows_kept n kept) ([] ∷ []) window.sector (entries_in window.entries)
+    (omega (arith, as_many n kept, below 0 window (omega arith)))
+
+-- and where its window is kept
+pub kept_more : (n : ℕ) (kept : List KeptWindow) (last : KeptWindow) → All (λ w. w.sector < n) kept → last.sector ≡ n
+    → windows_kept (n + 1) (kept ++ last ∷ []) ≡ windows_kept n kept ++ entries_in last.entries ∷ []
+kept_more n [] last below is_last =
+    ap (λ ws. set ws last.sector (entries_in last.entries)) (sym (replicate_more n []))
+    ∙ set_at (replicate n []) [] [] (entries_in last.entries) last.sector (length-replicate n [] ∙ sym is_last)
+kept_more n (window ∷ kept) last below is_last =
+    ap (λ ws. set ws window.sector (entries_in window.entries))
+    (kept_more n kept last (All-tail (λ w. w.sector < n) window kept below) is_last)
+    ∙ set-append_left (windows_kept n kept) (entries_in last.entries ∷ []) window.sector (entries_in window.entries)
+    (omega (arith, as_many n kept, below 0 window (omega arith)))
+
+-- how many have entries, counted one by one
+count_each : {X : Type 0} (entries : X → List EntryData) (xs : List X)
+    → count_by (λ x. is_busy (entries x)) xs ≡ busy_count (map entries xs)
+count_each entries [] = refl
+count_each entries (x ∷ xs) =
+    sum_by-cons (λ y. cond (is_busy (entries y)) 1 0) x xs
+    ∙ ap (λ n. cond (is_busy (entries x)) 1 0 + n) (count_each entries xs)
+    ∙ sym (sum_by-cons (λ window. cond (is_busy window) 1 0) (entries x) (map entries xs))
+
+-- as many as pass the test, where all others are left out
+pub counted : {X : Type 0} (entries : X → List EntryData) (xs : List X)
+    → length (filter (λ x. is_busy (entries x)) xs) ≡ busy_count (map entries xs)
+counted entries xs = length-filter (λ x. is_busy (entries x)) xs ∙ count_each entries xs

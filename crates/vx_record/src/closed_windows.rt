@@ -1,77 +1,67 @@
-ghost use Rattle.std.specs.Prelude.{◌≡◌, false, map, length, replicate, slice_index_or, []};
+ghost use Rattle.std.specs.Prelude.{◌≡◌, ◌≤◌, map, length, slice_index_or, vec_capacity, []};
 ghost use Rattle.vx_sector.specs.SectorData.{entry_of};
 ghost use Rattle.vx_windows.specs.Sectors.{entries_in};
+ghost use Rattle.vx_record.specs.Kept.{busy_count};
 
+use crate::kept_window::KeptWindow;
 use std::marker::Model;
 use vx_sector::Entry;
 
-/// The records of the windows that a tick closes, one for each sector, in order. Where no command
-/// was recorded in any of them, nothing is kept but their number, so that a tick in which nothing
-/// happens costs no memory for the size of its world.
+/// The records of the windows that a tick closes, one for each sector, in order. Only those that
+/// have entries are kept, so that a tick costs the memory of what was recorded in it, and none for
+/// the size of its world.
 #[derive(Drop)]
 pub struct ClosedWindows {
     sectors: usize,
-    // None of them, where each is empty.
-    kept: Vec<Vec<Entry>>,
+    // Those that have entries, in order of their sectors.
+    kept: Vec<KeptWindow>,
 }
 
 impl Model for ClosedWindows {
     ghost use Rattle.std.specs.Prelude.{List};
     ghost use Rattle.vx_sector.specs.SectorData.{EntryData};
-    ghost use Rattle.vx_record.specs.Kept.{windows_kept};
+    ghost use Rattle.vx_record.specs.Kept.{windows_kept, AreInOrder};
 
     ghost Value = { List (List EntryData) };
 
     ghost view = { λ w. windows_kept w.sectors w.kept.items };
+
+    ghost invariant = { λ w. AreInOrder w.sectors w.kept.items };
 }
 
 impl ClosedWindows {
-    /// These windows. It takes no memory.
-    pub fn new(windows: Vec<Vec<Entry>>) -> ClosedWindows
+    /// These windows; the list that is handed in has room for those with entries. It takes no
+    /// memory.
+    pub fn new(windows: Vec<Vec<Entry>>, room: Vec<KeptWindow>) -> ClosedWindows
+        requires none { room.items ≡ [] }
+        requires room { busy_count (map entries_in windows.items) ≤ vec_capacity room }
         ensures { result ≡ map entries_in windows.items }
     {
         let sectors = windows.len();
-        if has_entries(&windows) {
-            return ClosedWindows {
-                sectors,
-                kept: windows,
-            };
+        let mut kept = room;
+        for (sector, entries) in windows.into_iter().enumerate() {
+            if !entries.is_empty() {
+                kept.push_reserved(KeptWindow { sector, entries });
+            }
         }
-        ClosedWindows {
-            sectors,
-            kept: Vec::new(*windows.allocator()),
-        }
+        ClosedWindows { sectors, kept }
     }
 
     /// How many windows there are.
     pub fn count(&self) -> usize
         ensures { result ≡ length self.now }
     {
-        if self.kept.is_empty() {
-            return self.sectors;
-        }
-        self.kept.len()
+        self.sectors
     }
 
     /// The record of the window of that number; empty where there is none.
     pub fn window(&self, at: usize) -> &[Entry]
         ensures { map entry_of result.now ≡ slice_index_or self.now at [] }
     {
-        match self.kept.get(at) {
-            Some(window) => window,
-            None => &[],
+        let before = self.kept.partition_point(|window| window.sector < at);
+        match self.kept.get(before) {
+            Some(window) if window.sector == at => &window.entries,
+            _ => &[],
         }
     }
-}
-
-// Whether any of the windows has an entry.
-fn has_entries(windows: &[Vec<Entry>]) -> bool
-    ensures { result ≡ false → map entries_in windows.now ≡ replicate (length windows.now) [] }
-{
-    for window in windows {
-        if !window.is_empty() {
-            return true;
-        }
-    }
-    false
 }

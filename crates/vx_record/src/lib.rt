@@ -3,11 +3,13 @@
 #![tactic(auto)]
 
 mod archive;
+mod busy_windows;
 mod call;
 mod caller;
 mod chronicle;
 mod closed_windows;
 mod fault;
+mod kept_window;
 mod knowing;
 mod laws;
 mod lists;
@@ -22,11 +24,13 @@ mod spare;
 mod tick;
 
 pub use archive::Archive;
+pub use busy_windows::{busy, busy_sectors};
 pub use call::Call;
 pub use caller::Caller;
 pub use chronicle::Chronicle;
 pub use closed_windows::ClosedWindows;
 pub use fault::Fault;
+pub use kept_window::KeptWindow;
 pub use knowing::{began_with, follows};
 pub use laws::{changes_have_leave, counts_go_on};
 pub use lists::{Lists, is_recorded};

@@ -47,6 +47,13 @@ impl Judge {
         &self.version
     }
 
+    /// Goes on under another number, by the same policy, and keeps what it decided.
+    pub(crate) fn go_on(&mut self, tick: u64)
+        ensures { self.new ≡ record self.old { tick = tick } }
+    {
+        self.version.tick = tick;
+    }
+
     /// Whether the player may do this at the place, and the rule that says so. Where memory is
     /// wanting nothing is kept, and the answer is the same.
     pub(crate) fn ask(&mut self, name: &Name, action: Action, p: Pos) -> Verdict

@@ -1,4 +1,4 @@
-ghost use Rattle.std.specs.Prelude.{◌≡◌, ◌≢◌, ◌≤◌, ◌<◌, ◌⊎◌, ◌↔◌, true, false, map, Ok, Err, IfOk, IfErr, OnOk, OnErr};
+ghost use Rattle.std.specs.Prelude.{◌≡◌, ◌≢◌, ◌≤◌, ◌<◌, ◌⊎◌, ◌↔◌, true, false, [], map, Ok, Err, IfOk, IfErr, OnOk, OnErr};
 ghost use Rattle.vx_cells.specs.declared.stack.TheConstants.{SLOTS};
 ghost use Rattle.vx_block.specs.Part.{part_cell};
 ghost use Rattle.vx_cells.specs.SectorCells.{IsSlot, holds, is_chest, cell_at, with_cell, with_slot};
@@ -105,6 +105,20 @@ impl Sector {
         self.cells = cells;
         self.judge = judge;
         mem::replace(&mut self.entries, entries)
+    }
+
+    /// Begins the next window of a sector in which nothing was recorded, over its cells as they
+    /// are, judged by the same policy under the number of the next version. It takes no memory, and
+    /// what was kept of decisions stays.
+    #[tactic(auto, unfolding(crate::specs::Windows::renewed))]
+    pub fn go_on(&mut self, tick: u64)
+        requires { self.old.entries ≡ [] }
+        ensures { self.new ≡ renewed self.old (record {
+          cells = self.old.cells;
+          version = record self.old.version { tick = tick };
+        }) }
+    {
+        self.judge.go_on(tick);
     }
 
     /// Puts a part down in base and cells, as no rule does: it is there for tests. A chest begins

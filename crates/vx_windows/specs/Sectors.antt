@@ -1,7 +1,10 @@
 -- The sectors of a world, from one window to the next.
-use Rattle.std.specs.Prelude.{◌≡◌, List, [], ◌∷◌, Vec, map}
+use Rattle.std.specs.Prelude.{◌≡◌, ℕ, List, [], ◌∷◌, Vec, map, Option, Some, None}
 use Rattle.std.specs.Bool.{⊤}
+use Rattle.std.specs.Option.{unwrap_or}
 use Rattle.std.specs.declared.alloc.Global.{Global}
+use Rattle.vx_geom.specs.Sizes.{Sizes}
+use Rattle.vx_cells.specs.Maps.{MapData}
 use Rattle.vx_cells.specs.SectorCells.{SectorCells}
 use Rattle.vx_region.specs.Regions.{Regions}
 use Rattle.vx_policy.specs.declared.version.Version.{Version}
@@ -45,14 +48,46 @@ all_renewed version (s ∷ sectors) [] =
 all_renewed version (s ∷ sectors) (c ∷ cells) =
     renewed_over version s c ∷ all_renewed version sectors cells
 
--- each sector has what its next window begins with, and none is left: the cells are of the world's
--- size and of the sector's number
+-- what a window begins with is of the sector: the cells are of the world's size and of its number
+abbrev pub IsOf : SectorData → FreshData → Type 0
+IsOf s fresh = (fresh.cells.bounds ≡ s.cells.bounds) × (fresh.cells.sector ≡ s.cells.sector)
+
+-- each sector has what its next window begins with, and none is left
 abbrev pub AreOf : List SectorData → List FreshData → Type 0
 AreOf [] [] = ⊤
 AreOf (s ∷ sectors) (fresh ∷ all) =
-    ((fresh.cells.bounds ≡ s.cells.bounds) × (fresh.cells.sector ≡ s.cells.sector))
-    × AreOf sectors all
+    IsOf s fresh × AreOf sectors all
 AreOf sectors all = ⊥
+
+-- cells in their order, of which some have others in their place
+abbrev pub with_changes : List SectorCells → List (Option SectorCells) → List SectorCells
+with_changes [] changes = []
+with_changes (c ∷ cells) [] = c ∷ cells
+with_changes (c ∷ cells) (change ∷ changes) = unwrap_or change c ∷ with_changes cells changes
+
+-- the map of a world of this size with the cells of these sectors, but for those that changed
+abbrev pub map_changed : Sizes → List SectorData → List (Option SectorCells) → MapData
+map_changed sizes sectors changes =
+    record { sizes = sizes; sectors = with_changes (map cells_of sectors) changes }
+
+-- there is something or nothing for each sector, and nothing only where nothing was recorded in the
+-- window
+abbrev pub AreQuiet : {X : Type 0} → List SectorData → List (Option X) → Type 0
+AreQuiet [] [] = ⊤
+AreQuiet (s ∷ sectors) (None ∷ given) = (s.entries ≡ []) × AreQuiet sectors given
+AreQuiet (s ∷ sectors) (Some x ∷ given) = AreQuiet sectors given
+AreQuiet sectors given = ⊥
+
+-- what a sector begins its next window with: this, or else its cells as they are, and the policy
+-- of its version under another number
+abbrev pub next_of : ℕ → SectorData → Option FreshData → FreshData
+next_of tick s None = window_over (record s.version { tick = tick }) s.cells
+next_of tick s (Some fresh) = fresh
+
+-- so for each sector
+abbrev pub nexts : ℕ → List SectorData → List (Option FreshData) → List FreshData
+nexts tick (s ∷ sectors) (next ∷ given) = next_of tick s next ∷ nexts tick sectors given
+nexts tick sectors given = []
 
 -- the sectors, of which the first begin their next windows so, and the others are as they were
 abbrev pub renewed_each : List SectorData → List FreshData → List SectorData

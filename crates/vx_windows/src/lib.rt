@@ -2,10 +2,12 @@
 //! over what a tick has left, and what was written between two ticks.
 #![tactic(auto)]
 
+mod changes;
 mod limits;
 mod windows;
 mod writes;
 
+pub use changes::{all_fresh, cells_after, change_all};
 pub use limits::{MAX_PLAYERS, MAX_TICKS};
-pub use windows::{all_fresh, cells_after, cells_of, open_sectors, renew_sectors};
+pub use windows::{cells_of, open_sectors, renew_sectors};
 pub use writes::written;

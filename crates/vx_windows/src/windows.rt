@@ -1,14 +1,11 @@
 //! The sectors of a world, from one window to the next.
-ghost use Rattle.std.specs.Prelude.{◌≡◌, ◌≤◌, [], length, map, IfOk};
+ghost use Rattle.std.specs.Prelude.{◌≡◌, ◌≤◌, [], None, length, map, IfOk};
 ghost use Rattle.std.specs.Vec.{vec_capacity};
-ghost use Rattle.vx_cells.specs.Maps.{AreSectors};
-ghost use Rattle.vx_cells.specs.Wholes.{with_cells_on};
-ghost use Rattle.vx_windows.specs.Sectors.{AreOf, cells_of, window_over, opened_by, renewed_each, entries_in, entries_of};
+ghost use Rattle.vx_sector.specs.Windows.{renewed};
+ghost use Rattle.vx_windows.specs.Sectors.{AreOf, AreQuiet, IsOf, cells_of, next_of, nexts, opened_by, renewed_each, entries_in, entries_of};
 
 use std::alloc::{AllocError, Global};
-use vx_block::Cell;
-use vx_cells::{Cells, set_all};
-use vx_geom::{Bounds, Pos};
+use vx_cells::Cells;
 use vx_policy::Version;
 use vx_sector::{Entry, Fresh, Sector};
 
@@ -40,65 +37,42 @@ pub fn cells_of<'a>(alloc: Global, sectors: &'a [Sector]) -> Result<Vec<&'a Cell
     Ok(cells)
 }
 
-/// The cells of each sector, in order, with these put down one after another. The sectors stay as
-/// they are, and share with these cells what is the same. Positions outside the world are left out.
-pub fn cells_after(
-    alloc: Global,
-    bounds: Bounds,
-    sectors: &[Sector],
-    puts: &[(Pos, Cell)],
-) -> Result<Vec<Cells>, AllocError>
-    requires { AreSectors bounds (map cells_of sectors.now) }
-    ensures { IfOk result (λ cells. record { sizes = bounds; sectors = cells.items }
-        ≡ with_cells_on (record { sizes = bounds; sectors = map cells_of sectors.now }) puts.now) }
-{
-    let mut cells = copies(alloc, sectors)?;
-    set_all(bounds, &mut cells, puts)?;
-    Ok(cells)
-}
-
-// Copies of the cells of each sector, in order.
-fn copies(alloc: Global, sectors: &[Sector]) -> Result<Vec<Cells>, AllocError>
-    ensures { IfOk result (λ cells. cells.items ≡ map cells_of sectors.now) }
-{
-    let mut cells = Vec::with_capacity(alloc, sectors.len())?;
-    for sector in sectors {
-        cells.push(sector.cells().try_clone()?)?;
-    }
-    Ok(cells)
-}
-
-/// What the next window of each sector begins with: copies of these cells, which share what they
-/// hold, judged by copies of this version.
-pub fn all_fresh(
-    alloc: Global,
-    cells: &[Cells],
-    version: &Version,
-) -> Result<Vec<Fresh>, AllocError>
-    ensures { IfOk result (λ all. all.items ≡ map (window_over version.now) cells.now) }
-{
-    let mut all = Vec::with_capacity(alloc, cells.len())?;
-    for sector in cells {
-        all.push(Fresh::new(alloc, sector.bounds(), sector.sector(), sector, version)?)?;
-    }
-    Ok(all)
-}
-
 /// Begins the next window of each sector, in order, and hands out the records of the windows that
-/// this closes, in the list that is handed in. It takes no memory.
+/// this closes, in the list that is handed in. A sector for which there is nothing goes on over its
+/// cells as they are, by the same policy under this number. It takes no memory.
 pub fn renew_sectors(
     sectors: &mut [Sector],
-    fresh: Vec<Fresh>,
+    fresh: Vec<Option<Fresh>>,
+    tick: u64,
     mut windows: Vec<Vec<Entry>>,
 ) -> Vec<Vec<Entry>>
-    requires fresh { AreOf sectors.old fresh.items }
+    requires fresh { AreOf sectors.old (nexts tick sectors.old fresh.items) }
+    requires quiet { AreQuiet sectors.old fresh.items }
     requires room { (windows.items ≡ []) × (length sectors.old ≤ vec_capacity windows) }
-    ensures renewed { sectors.new ≡ renewed_each sectors.old fresh.items }
+    ensures renewed { sectors.new ≡ renewed_each sectors.old (nexts tick sectors.old fresh.items) }
     ensures windows { map entries_in result.items ≡ map entries_of sectors.old }
 {
+    let alloc = *windows.allocator();
     for next in fresh {
-        let closed = sectors[windows.len()].renew(next);
+        let closed = renew(alloc, &mut sectors[windows.len()], next, tick);
         windows.push_reserved(closed);
     }
     windows
+}
+
+// Begins the next window of a sector with this, or goes on over its cells as they are, by the same
+// policy under this number, where nothing was recorded.
+fn renew(alloc: Global, sector: &mut Sector, next: Option<Fresh>, tick: u64) -> Vec<Entry>
+    requires fresh { IsOf sector.old (next_of tick sector.old next) }
+    requires quiet { next ≡ None → sector.old.entries ≡ [] }
+    ensures renewed { sector.new ≡ renewed sector.old (next_of tick sector.old next) }
+    ensures window { entries_in result ≡ entries_of sector.old }
+{
+    match next {
+        Some(fresh) => sector.renew(fresh),
+        None => {
+            sector.go_on(tick);
+            Vec::new(alloc)
+        }
+    }
 }

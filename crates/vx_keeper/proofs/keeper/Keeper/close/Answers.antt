@@ -1,5 +1,6 @@
 use Rattle.std.proofs.Common.{◌≡◌, ◌+◌, ◌≤◌, List, [], ◌∷◌, ◌++◌, length, map, sym, ap, subst, ◌∙◌, arith}
 use Rattle.std.specs.List.{All}
+use Rattle.std.specs.Vec.{vec_capacity}
 use Rattle.std.proofs.lemmas.List.{length-map}
 use Rattle.std.proofs.lemmas.List.Elements.{All-same}
 use Rattle.vx_geom.specs.Sizes.{sector_count}
@@ -8,24 +9,36 @@ use Rattle.vx_cells.specs.Wholes.{IsMap}
 use Rattle.vx_sector.specs.SectorData.{SectorData}
 use Rattle.vx_sector.specs.Windows.{count_of, most_entries}
 use Rattle.vx_still.specs.Watching.{IsWatch}
-use Rattle.vx_windows.specs.Sectors.{AreOf, entries_in, entries_of, renewed_each, all_renewed}
+use Rattle.vx_windows.specs.Sectors.{AreOf, cells_of, entries_of, renewed_each, all_renewed, with_changes}
+use Rattle.vx_windows.proofs.Changing.{as_many_quiet}
 use Rattle.vx_windows.proofs.Renewals.{as_many_on_map, of_map, renewed_over_map}
 use Rattle.vx_record.specs.Chronicles.{TickData, ChronicleData}
+use Rattle.vx_record.specs.Kept.{busy_count}
 use Rattle.vx_record.specs.Records.{tick_in}
 use Rattle.vx_record.specs.Archives.{IsArchive, IsNextTick, next_counts}
 use Rattle.vx_record.proofs.Counting.{archive_grown, counts_fit, counts_go_on}
 use Rattle.vx_keeper.specs.Keepers.{KeeperData, keeper_data, IsKeeper, map_by, map_now, map_next, chronicle_next}
 use Rattle.vx_keeper.specs.Marks.{IsPartOf}
 use Rattle.vx_keeper.proofs.Closing.{tick, is_next, keeps}
-use Rattle.vx_keeper.proofs.Knowing.{AreAsKnown, held_of, whole_now}
+use Rattle.vx_keeper.proofs.Knowing.{AreAsKnown, changes_known, held_of, whole_now}
 use Rattle.vx_keeper.proofs.Parts.{parts_renewed}
 use Rattle.vx_keeper.proofs.keeper.Keeper.close.Given.{Over}
 use Rattle.vx_keeper.proofs.keeper.Keeper.close.Goals as goal
 
-pub go_on-was-requires : goal.go_on-was-requires
-go_on-was-requires g c =
-    subst (λ v. AreSectors v c.args.ready.cells.items) (sym (ap (λ (k : KeeperData). k.world.map.sizes) c.self.view_is))
-    c.requires.ready.placed
+pub go_on-was-requires-clause-each : goal.go_on-was-requires-clause-each
+go_on-was-requires-clause-each g c =
+    omega (arith, as_many_quiet c.args.sectors.now c.args.ready.changes.items c.requires.ready.begun.unchanged, c.requires.each, c.soundness.ensures.each, ap (λ (k : KeeperData). length k.world.map.sectors) c.self.view_is)
+
+pub go_on-was-requires-clause-placed : goal.go_on-was-requires-clause-placed
+go_on-was-requires-clause-placed g c =
+    let ss = c.args.sectors.now in
+    let changes = c.args.ready.changes.items in
+    let known : with_changes c.self.inside.known.map.sectors changes ≡ with_changes (map cells_of ss) changes =
+    ap (λ (k : KeeperData). with_changes k.world.map.sectors changes) c.self.view_is
+    ∙ changes_known g.A.Naming.first g.A.Places.all c.args.self.now c.soundness.ensures ss c.requires.each c.requires.known c.are_sectors.ensures changes c.requires.ready.begun.unchanged in
+    subst (AreSectors c.self.inside.known.map.sizes) (sym known)
+    (subst (λ v. AreSectors v (with_changes (map cells_of ss) changes))
+    (sym (ap (λ (k : KeeperData). k.world.map.sizes) c.self.view_is)) c.requires.ready.placed)
 
 pub renew_sectors-windows-requires-clause-fresh : goal.renew_sectors-windows-requires-clause-fresh
 renew_sectors-windows-requires-clause-fresh g c =
@@ -34,9 +47,13 @@ renew_sectors-windows-requires-clause-fresh g c =
     let k = c.args.self.now in
     let ss = c.args.sectors.now in
     let held = held_of first many k c.soundness.ensures ss c.requires.each c.requires.known in
-    subst (AreOf ss) (sym c.requires.ready.fresh)
-    (of_map c.args.ready.version k.world.map.sizes ss c.args.ready.cells.items
+    subst (AreOf ss) (sym c.requires.ready.begun.fresh)
+    (of_map c.args.ready.version k.world.map.sizes ss (with_changes (map cells_of ss) c.args.ready.changes.items)
     (whole_now first many k c.soundness.ensures ss c.requires.each c.are_sectors.ensures held.bases) c.requires.ready.placed)
+
+pub new-requires-clause-room : goal.new-requires-clause-room
+new-requires-clause-room g c =
+    subst (λ ws. busy_count ws ≤ vec_capacity c.args.ready.kept) (sym c.renew_sectors-windows.ensures.windows) c.requires.ready.begun.room_kept
 
 pub add-requires-clause-next : goal.add-requires-clause-next
 add-requires-clause-next g c =
@@ -97,9 +114,11 @@ module _ (g : Over) (c : goal.Joined-self-mark g) where
 
   map_is : c.go_on-was.new.self.map ≡ map_next k ss
   map_is =
-      c.go_on-was.ensures.map
-      ∙ ap (λ v. map_by v c.args.ready.cells.items) sizes
-      ∙ c.requires.ready.after
+      let changes = c.args.ready.changes.items in
+      let known : with_changes c.self.inside.known.map.sectors changes ≡ with_changes (map cells_of ss) changes =
+      ap (λ (k : KeeperData). with_changes k.world.map.sectors changes) c.self.view_is
+      ∙ changes_known g.A.Naming.first g.A.Places.all k c.soundness.ensures ss c.requires.each c.requires.known c.are_sectors.ensures changes c.requires.ready.begun.unchanged in
+      c.go_on-was.ensures.map ∙ (λ i. map_by (sizes i) (known i)) ∙ c.requires.ready.after
 
   world_is : c.go_on-was.new.self ≡ record { map = map_next k ss; version = c.args.ready.version }
   world_is = λ i. record { map = map_is i; version = c.go_on-was.ensures.version i }
@@ -116,9 +135,9 @@ module _ (g : Over) (c : goal.Joined-self-mark g) where
 
   sectors_are : c.renew_sectors-windows.new.sectors ≡ all_renewed c.args.ready.version ss (map_next k ss).sectors
   sectors_are =
-      let cells = c.args.ready.cells.items in
+      let cells = with_changes (map cells_of ss) c.args.ready.changes.items in
       c.renew_sectors-windows.ensures.renewed
-      ∙ ap (renewed_each ss) c.requires.ready.fresh
+      ∙ ap (renewed_each ss) c.requires.ready.begun.fresh
       ∙ renewed_over_map c.args.ready.version ss cells (as_many_on_map k.world.map.sizes ss cells whole c.requires.ready.placed)
       ∙ ap (λ (m : MapData). all_renewed c.args.ready.version ss m.sectors) c.requires.ready.after
 

@@ -1,0 +1,15 @@
+use Rattle.std.proofs.Common.{Vec, Global, ◌∙◌, rules}
+use Rattle.std.proofs.lemmas.Iterator.{YieldsList-from_slice}
+use Rattle.std.proofs.lemmas.Iterator.Consumers.{YieldsList-from_filter, count_from_yields_List}
+use Rattle.vx_sector.specs.declared.entry.Entry.{Entry}
+use Rattle.vx_windows.specs.Sectors.{entries_in}
+use Rattle.vx_record.specs.Kept.{is_busy}
+use Rattle.vx_record.proofs.Keeping.{counted}
+use Rattle.vx_record.proofs.busy_windows.busy.Goals as goal
+
+pub returns : goal.returns
+returns c =
+    count_from_yields_List c.filter.result c.count.result c.count.ensures.ran
+    (YieldsList-from_filter _ (λ (window : Vec Entry Global). is_busy (entries_in window))
+    (YieldsList-from_slice c.args.windows.now cc) c.filter.ensures.closure (λ x r q k. search rules))
+    ∙ counted entries_in c.args.windows.now

@@ -1,0 +1,157 @@
+//! What the next windows of sectors begin with: the cells that changed, and what is made over them.
+ghost use Rattle.std.specs.List.{All};
+ghost use Rattle.std.specs.Option.{unwrap_or};
+ghost use Rattle.std.specs.Prelude.{◌≡◌, ◌≤◌, [], true, None, length, map, IfOk, OnOk};
+ghost use Rattle.vx_cells.specs.Maps.{AreSectors};
+ghost use Rattle.vx_cells.specs.Wholes.{with_cell_on, with_cells_on};
+ghost use Rattle.vx_windows.specs.Sectors.{AreQuiet, cells_of, map_changed, next_of, nexts, window_over, with_changes};
+
+use std::alloc::{AllocError, Global};
+use vx_block::Cell;
+use vx_cells::Cells;
+use vx_geom::{Bounds, Pos};
+use vx_policy::Version;
+use vx_sector::{Fresh, Sector};
+
+/// The cells of the sectors after these are put down one after another, in order: those of each
+/// sector in which one is put down or a command was recorded, and nothing for the others, which
+/// keep theirs. The sectors stay as they are, and share with these cells what is the same.
+/// Positions outside the world are left out.
+pub fn cells_after(
+    alloc: Global,
+    bounds: Bounds,
+    sectors: &[Sector],
+    puts: &[(Pos, Cell)],
+) -> Result<Vec<Option<Cells>>, AllocError>
+    requires { AreSectors bounds (map cells_of sectors.now) }
+    ensures after { IfOk result (λ changes. map_changed bounds sectors.now changes.items
+        ≡ with_cells_on (record { sizes = bounds; sectors = map cells_of sectors.now }) puts.now) }
+    ensures quiet { IfOk result (λ changes. AreQuiet sectors.now changes.items) }
+{
+    let mut changes = written_cells(alloc, sectors)?;
+    for (p, cell) in puts {
+        put(bounds, sectors, &mut changes, *p, *cell)?;
+    }
+    Ok(changes)
+}
+
+// The cells of each sector in which a command was recorded, in order, and nothing for the others.
+fn written_cells(alloc: Global, sectors: &[Sector]) -> Result<Vec<Option<Cells>>, AllocError>
+    ensures same { IfOk result (λ changes.
+        with_changes (map cells_of sectors.now) changes.items ≡ map cells_of sectors.now) }
+    ensures quiet { IfOk result (λ changes. AreQuiet sectors.now changes.items) }
+{
+    let mut changes = Vec::with_capacity(alloc, sectors.len())?;
+    for sector in sectors {
+        changes.push(written_in(sector)?)?;
+    }
+    Ok(changes)
+}
+
+// The cells of the sector, if a command was recorded in its window.
+fn written_in(sector: &Sector) -> Result<Option<Cells>, AllocError>
+    ensures same { IfOk result (λ change. unwrap_or change sector.now.cells ≡ sector.now.cells) }
+    ensures quiet { IfOk result (λ change. change ≡ None → sector.now.entries ≡ []) }
+{
+    if sector.entries().is_empty() {
+        return Ok(None);
+    }
+    Ok(Some(sector.cells().try_clone()?))
+}
+
+// Puts a cell down in what changes in its sector, if it lies in one.
+fn put(
+    bounds: Bounds,
+    sectors: &[Sector],
+    changes: &mut [Option<Cells>],
+    p: Pos,
+    cell: Cell,
+) -> Result<(), AllocError>
+    requires placed { AreSectors bounds (with_changes (map cells_of sectors.now) changes.old) }
+    requires quiet { AreQuiet sectors.now changes.old }
+    ensures put { OnOk result (map_changed bounds sectors.now changes.new
+        ≡ unwrap_or (with_cell_on (map_changed bounds sectors.now changes.old) p cell)
+        (map_changed bounds sectors.now changes.old)) }
+    ensures placed { OnOk result
+        (AreSectors bounds (with_changes (map cells_of sectors.now) changes.new)) }
+    ensures quiet { OnOk result (AreQuiet sectors.now changes.new) }
+{
+    let Some(number) = bounds.sector_of(p) else {
+        return Ok(());
+    };
+    let at = number as usize;
+    let mut cells = taken(&mut changes[at], &sectors[at])?;
+    cells.set(p, cell)?;
+    changes[at] = Some(cells);
+    Ok(())
+}
+
+// Takes what changed of a sector, or else a copy of its cells.
+fn taken(change: &mut Option<Cells>, sector: &Sector) -> Result<Cells, AllocError>
+    ensures { IfOk result (λ cells. cells ≡ unwrap_or change.old sector.now.cells) }
+{
+    match change.take() {
+        Some(cells) => Ok(cells),
+        None => sector.cells().try_clone(),
+    }
+}
+
+/// What the next window of each sector begins with, judged by copies of this version: copies of the
+/// cells that changed, which share what they hold. Where none did there is nothing, if this is the
+/// version that judges the windows but for its number.
+pub fn all_fresh(
+    alloc: Global,
+    sectors: &[Sector],
+    changes: &[Option<Cells>],
+    version: &Version,
+    is_same: bool,
+) -> Result<Vec<Option<Fresh>>, AllocError>
+    requires quiet { AreQuiet sectors.now changes.now }
+    requires same { is_same ≡ true
+        → All (λ s. record s.version { tick = version.now.tick } ≡ version.now) sectors.now }
+    ensures fresh { IfOk result (λ all. nexts version.now.tick sectors.now all.items
+        ≡ map (window_over version.now) (with_changes (map cells_of sectors.now) changes.now)) }
+    ensures quiet { IfOk result (λ all. AreQuiet sectors.now all.items) }
+{
+    let mut all = Vec::with_capacity(alloc, sectors.len())?;
+    for (at, sector) in sectors.iter().enumerate() {
+        all.push(fresh(alloc, sector, &changes[at], version, is_same)?)?;
+    }
+    Ok(all)
+}
+
+// What the next window of one sector begins with.
+fn fresh(
+    alloc: Global,
+    sector: &Sector,
+    change: &Option<Cells>,
+    version: &Version,
+    is_same: bool,
+) -> Result<Option<Fresh>, AllocError>
+    requires quiet { change.now ≡ None → sector.now.entries ≡ [] }
+    requires same { is_same ≡ true
+        → record sector.now.version { tick = version.now.tick } ≡ version.now }
+    ensures fresh { IfOk result (λ next. next_of version.now.tick sector.now next
+        ≡ window_over version.now (unwrap_or change.now sector.now.cells)) }
+    ensures quiet { IfOk result (λ next. next ≡ None → sector.now.entries ≡ []) }
+{
+    let cells = match change {
+        Some(cells) => cells,
+        None if is_same => return Ok(None),
+        None => sector.cells(),
+    };
+    let fresh = Fresh::new(alloc, cells.bounds(), cells.sector(), cells, version)?;
+    Ok(Some(fresh))
+}
+
+/// Puts what changed in the places of these cells. It takes no memory.
+pub fn change_all(cells: &mut [Cells], changes: Vec<Option<Cells>>)
+    requires { length changes.items ≤ length cells.old }
+    ensures { cells.new ≡ with_changes cells.old changes.items }
+{
+    for (at, change) in changes.into_iter().enumerate() {
+        if let Some(change) = change {
+            cells[at] = change;
+        }
+    }
+}

@@ -6,9 +6,9 @@ ghost use Rattle.vx_base.specs.Unread.{Gives};
 use crate::arguments::{action, at_end, byte, height, item, name, part, position};
 use crate::edit_reading::read_edit;
 use crate::line::Line;
-use crate::words::{Words, is};
+use crate::words::Words;
 use std::alloc::Global;
-use vx_base::Unread;
+use vx_base::{Unread, is_spelled};
 use vx_block::Part;
 use vx_geom::{Bounds, Pos};
 use vx_sector::Cmd;
@@ -68,10 +68,10 @@ fn line_in(alloc: Global, words: &mut Words) -> Result<Line, Unread>
 fn line_by(alloc: Global, first: &[u8], words: &mut Words) -> Result<Line, Unread>
     ensures { Gives said result (line_by first.now words.old) }
 {
-    if is(first, b"as") {
+    if is_spelled(first, b"as") {
         return as_line(words);
     }
-    if is(first, b"region") {
+    if is_spelled(first, b"region") {
         return region_line(alloc, words);
     }
     other_line(first, words).ok_or(Unread::Faulty)
@@ -86,19 +86,19 @@ fn other_line(first: &[u8], words: &mut Words) -> Option<Line>
     requires no_edit { bytes_eq first.now (codes "region") ≡ false }
     ensures { option_map said result ≡ line_by first.now words.old }
 {
-    if is(first, b"tick") {
+    if is_spelled(first, b"tick") {
         tick_line(words)
-    } else if is(first, b"set") {
+    } else if is_spelled(first, b"set") {
         set_line(words)
-    } else if is(first, b"player") {
+    } else if is_spelled(first, b"player") {
         player_line(words)
-    } else if is(first, b"world") {
+    } else if is_spelled(first, b"world") {
         world_line(words)
-    } else if is(first, b"explain") {
+    } else if is_spelled(first, b"explain") {
         explain_line(words)
-    } else if is(first, b"together") {
+    } else if is_spelled(first, b"together") {
         together_line(words)
-    } else if is(first, b"end") {
+    } else if is_spelled(first, b"end") {
         end_line(words)
     } else {
         None
@@ -204,19 +204,19 @@ fn as_line(words: &mut Words) -> Result<Line, Unread>
 fn command_of(verb: &[u8], words: &mut Words) -> Option<Cmd>
     ensures { result ≡ command_of verb.now words.old }
 {
-    if is(verb, b"look") {
+    if is_spelled(verb, b"look") {
         look_command(words)
-    } else if is(verb, b"place") {
+    } else if is_spelled(verb, b"place") {
         place_command(words)
-    } else if is(verb, b"break") {
+    } else if is_spelled(verb, b"break") {
         break_command(words)
-    } else if is(verb, b"turn") {
+    } else if is_spelled(verb, b"turn") {
         turn_command(words)
-    } else if is(verb, b"open") {
+    } else if is_spelled(verb, b"open") {
         open_command(words)
-    } else if is(verb, b"put") {
+    } else if is_spelled(verb, b"put") {
         put_command(words)
-    } else if is(verb, b"take") {
+    } else if is_spelled(verb, b"take") {
         take_command(words)
     } else {
         None

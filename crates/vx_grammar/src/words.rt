@@ -1,4 +1,4 @@
-ghost use Rattle.std.specs.Prelude.{◌≡◌, ◌<◌, ◌==◌, [], ◌∷◌, bytes_eq, length, position, MatchOption, IfSome};
+ghost use Rattle.std.specs.Prelude.{◌≡◌, ◌<◌, ◌==◌, [], ◌∷◌, length, position, MatchOption, IfSome};
 ghost use Rattle.std.specs.List.{position_or_len, before_first, after_first};
 ghost use Rattle.std.specs.Str.{IsUtf8};
 ghost use Rattle.vx_grammar.specs.Words.{space};
@@ -78,20 +78,4 @@ fn first_space(text: &[u8]) -> Option<usize>
     ensures { result ≡ position (λ b. b == space) text.now }
 {
     text.iter().position(|byte| *byte == b' ')
-}
-
-/// Whether the word is this text. Byte by byte, as words are short.
-#[inline(always)]
-pub fn is(word: &[u8], text: &[u8]) -> bool
-    ensures { result ≡ bytes_eq word.now text.now }
-{
-    if word.len() != text.len() {
-        return false;
-    }
-    for i in 0..text.len() {
-        if word[i] != text[i] {
-            return false;
-        }
-    }
-    true
 }

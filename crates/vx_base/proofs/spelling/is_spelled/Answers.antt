@@ -2,7 +2,7 @@
 use Rattle.std.proofs.Common.{◌≤◌, length, sym, ◌∙◌, rules}
 use Rattle.std.proofs.lemmas.List.{take_all}
 use Rattle.std.proofs.lemmas.Slice.Eq.{bytes_eq-Decides}
-use Rattle.vx_grammar.proofs.words.is.Goals as goal
+use Rattle.vx_base.proofs.spelling.is_spelled.Goals as goal
 
 pub returns : goal.returns
 returns c =

@@ -1,6 +1,8 @@
 ghost use Rattle.std.specs.Prelude.{◌≡◌, ◌≤◌, length, IfSome, Some};
 ghost use Rattle.vx_block.specs.Kind.{kind_word};
 
+use vx_base::is_spelled;
+
 /// What a cell is, whatever its state. Each kind has one word, with which the texts of its cells
 /// and parts begin.
 #[derive(Clone, Copy, Debug, PartialEq, Eq)]
@@ -22,6 +24,26 @@ pub enum Kind {
     StickyPiston,
     Head,
 }
+
+// All kinds, in the order in which they stand above.
+const KINDS: [Kind; 16] = [
+    Kind::Air,
+    Kind::Stone,
+    Kind::Dirt,
+    Kind::Planks,
+    Kind::Glass,
+    Kind::Obsidian,
+    Kind::Bedrock,
+    Kind::Chest,
+    Kind::Dust,
+    Kind::Torch,
+    Kind::Lever,
+    Kind::Repeater,
+    Kind::Lamp,
+    Kind::Piston,
+    Kind::StickyPiston,
+    Kind::Head,
+];
 
 impl Kind {
     /// The word of this kind, in lower case.
@@ -54,24 +76,11 @@ impl Kind {
         ensures found { IfSome result (λ k. kind_word k ≡ word.now) }
         ensures only { (k : Kind) → kind_word k ≡ word.now → result ≡ Some k }
     {
-        match word {
-            "air" => Some(Kind::Air),
-            "stone" => Some(Kind::Stone),
-            "dirt" => Some(Kind::Dirt),
-            "planks" => Some(Kind::Planks),
-            "glass" => Some(Kind::Glass),
-            "obsidian" => Some(Kind::Obsidian),
-            "bedrock" => Some(Kind::Bedrock),
-            "chest" => Some(Kind::Chest),
-            "dust" => Some(Kind::Dust),
-            "torch" => Some(Kind::Torch),
-            "lever" => Some(Kind::Lever),
-            "repeater" => Some(Kind::Repeater),
-            "lamp" => Some(Kind::Lamp),
-            "piston" => Some(Kind::Piston),
-            "sticky" => Some(Kind::StickyPiston),
-            "head" => Some(Kind::Head),
-            _ => None,
+        for kind in &KINDS {
+            if is_spelled(word.as_bytes(), kind.word().as_bytes()) {
+                return Some(*kind);
+            }
         }
+        None
     }
 }

@@ -122,3 +122,21 @@ unfolding read_word
 word_as_itself a most w word =
     ap (λ t. if t && list_all (passes a) w then Some (map lower w) else None) (amid_true (length w) most word.some word.short)
     ∙ ap (λ t. if t then Some (map lower w) else None) word.passed ∙ ap Some (all_small w word.small)
+
+-- a text of so many bytes that all pass, none of them a capital letter, is a word
+pub small_word : (a : Alphabet) (most : ℕ) (text : List ℕ) → 1 ≤ length text → length text ≤ most
+    → list_all (λ b. passes a b && not (is_capital b)) text ≡ true → IsWord (passes a) most text
+small_word a most text some short small =
+    let parts = each_of text small in
+    record { some = some; short = short; passed = parts.0; small = parts.1 }
+  where
+    each_of : (bs : List ℕ) → list_all (λ b. passes a b && not (is_capital b)) bs ≡ true
+        → (list_all (passes a) bs ≡ true) × (list_all (λ b. not (is_capital b)) bs ≡ true)
+    each_of [] small = (refl, refl)
+    each_of (b ∷ bs) small =
+        let parts = both (passes a b && not (is_capital b)) (list_all (λ c. passes a c && not (is_capital c)) bs) small in
+        let here = both (passes a b) (not (is_capital b)) parts.0 in
+        let further = each_of bs parts.1 in (
+          ap (λ t. t && list_all (passes a) bs) here.0 ∙ further.0,
+          ap (λ t. t && list_all (λ c. not (is_capital c)) bs) here.1 ∙ further.1,
+        )

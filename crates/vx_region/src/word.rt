@@ -1,6 +1,7 @@
-ghost use Rattle.std.specs.Prelude.{◌≡◌, ◌<◌, true, IfSome};
+ghost use Rattle.std.specs.Prelude.{◌≡◌, ◌≤◌, ◌<◌, ◌&&◌, true, not, length, IfSome};
+ghost use Rattle.std.specs.List.{list_all};
 ghost use Rattle.std.specs.Option.{option_map};
-ghost use Rattle.vx_region.specs.Words.{IsWord, is_amid, is_name_byte, is_id_byte, lower, read_word};
+ghost use Rattle.vx_region.specs.Words.{IsWord, is_amid, is_capital, is_name_byte, is_id_byte, lower, read_word};
 ghost use Rattle.vx_region.specs.Alphabet.{passes};
 
 use arrayvec::ArrayString;
@@ -35,6 +36,39 @@ pub fn read_word<const N: usize>(text: &str, alphabet: Alphabet) -> Option<Array
     if !(1..=N).contains(&text.len()) {
         return None;
     }
+    if are_small(text, alphabet) {
+        Some(read_small(text))
+    } else {
+        read_any(text, alphabet)
+    }
+}
+
+// Whether all bytes pass and none is a capital letter.
+fn are_small(text: &str, alphabet: Alphabet) -> bool
+    ensures { result ≡ list_all (λ b. passes alphabet b && not (is_capital b)) text.now }
+{
+    text.as_bytes()
+        .iter()
+        .all(|byte| alphabet.passes(*byte) && !is_capital(*byte))
+}
+
+// A text in lower case, copied whole.
+fn read_small<const N: usize>(text: &str) -> ArrayString<N>
+    requires { length text.now ≤ N }
+    ensures { result.bytes ≡ text.now }
+{
+    let mut word = ArrayString::new();
+    word.push_str(text);
+    word
+}
+
+// A text of any letters, which is read byte by byte.
+fn read_any<const N: usize>(text: &str, alphabet: Alphabet) -> Option<ArrayString<N>>
+    requires some { 1 ≤ length text.now }
+    requires short { length text.now ≤ N }
+    ensures value { option_map (λ w. w.bytes) result ≡ read_word (passes alphabet) N text.now }
+    ensures word { IfSome result (λ w. IsWord (passes alphabet) N w.bytes) }
+{
     let mut word = ArrayString::new();
     for byte in text.as_bytes() {
         if !alphabet.passes(*byte) {
@@ -43,6 +77,12 @@ pub fn read_word<const N: usize>(text: &str, alphabet: Alphabet) -> Option<Array
         word.push(char::from(lower(*byte)));
     }
     Some(word)
+}
+
+fn is_capital(byte: u8) -> bool
+    ensures { result ≡ is_capital byte }
+{
+    byte.is_ascii_uppercase()
 }
 
 #[tactic(auto, unfolding(crate::specs::Words::is_name_byte))]

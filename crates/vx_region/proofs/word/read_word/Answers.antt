@@ -1,25 +1,21 @@
-use Rattle.std.proofs.Common.{arith}
+use Rattle.std.proofs.Common.{arith, sym, ◌∙◌}
 use Rattle.std.proofs.lemmas.Bool.Decides.{nat_tests}
-use Rattle.vx_region.proofs.Spelling.{word_over, word_refused, word_whole}
+use Rattle.vx_region.specs.Alphabet.{passes}
+use Rattle.vx_region.specs.Words.{IsWord}
+use Rattle.vx_region.proofs.Spelling.{small_word, word_as_itself}
+use Rattle.vx_region.proofs.word.read_word.Given.{Over}
 use Rattle.vx_region.proofs.word.read_word.Goals as goal
 
-pub returns-then-not-passes-clause-value : goal.returns-then-not-passes-clause-value
-returns-then-not-passes-clause-value g c =
-    word_refused c.args.alphabet g.row.N c.loop-byte.byte-index c.args.text.now
-    (rw c.as_bytes-byte-items.ensures.value at c.loop-byte-test.true)
-    (rw c.as_bytes-byte-items.ensures.value at c.if-not-passes.ensures.value)
-    (rw c.as_bytes-byte-items.ensures.value at c.loop-byte.invariant.passed)
+module _ (g : Over) (c : goal.After-read_small g) where
+  -- the text is a word as it stands
+  word : IsWord (passes c.args.alphabet) g.row.N c.args.text.now
+  word =
+      small_word c.args.alphabet g.row.N c.args.text.now (grind (arith, nat_tests)) (grind (arith, nat_tests))
+      (sym c.are_small.ensures ∙ c.if-are_small.true)
 
-pub returns-clause-value : goal.returns-clause-value
-returns-clause-value g c =
-    word_whole c.args.alphabet g.row.N c.loop-byte.byte-index c.args.text.now c.loop-byte.word.bytes (grind (arith, nat_tests)) (grind (arith, nat_tests))
-    (rw c.as_bytes-byte-items.ensures.value at c.loop-byte-test.false)
-    (rw c.as_bytes-byte-items.ensures.value at c.loop-byte.invariant.word)
-    (rw c.as_bytes-byte-items.ensures.value at c.loop-byte.invariant.passed)
+pub returns-then-are_small-clause-value : goal.returns-then-are_small-clause-value
+returns-then-are_small-clause-value g c =
+    rw c.read_small.ensures (sym (word_as_itself c.args.alphabet g.row.N c.args.text.now (word g c)))
 
-pub returns-clause-word : goal.returns-clause-word
-returns-clause-word g c =
-    word_over c.args.alphabet g.row.N c.loop-byte.byte-index c.args.text.now c.loop-byte.word.bytes (grind (arith, nat_tests)) (grind (arith, nat_tests))
-    (rw c.as_bytes-byte-items.ensures.value at c.loop-byte-test.false)
-    (rw c.as_bytes-byte-items.ensures.value at c.loop-byte.invariant.word)
-    (rw c.as_bytes-byte-items.ensures.value at c.loop-byte.invariant.passed)
+pub returns-then-are_small-clause-word : goal.returns-then-are_small-clause-word
+returns-then-are_small-clause-word g c = rw c.read_small.ensures (word g c)

@@ -2,7 +2,7 @@ use Rattle.std.proofs.Common.{◌≡◌, ◌++◌, map, length, drop}
 use Rattle.std.specs.List.{list_all}
 use Rattle.vx_region.specs.Alphabet.{passes}
 use Rattle.vx_region.specs.Words.{lower}
-use Rattle.vx_region.proofs.word.read_word.Given as goal
+use Rattle.vx_region.proofs.word.read_any.Given as goal
 
 abbrev pub invariant-loop-byte : goal.invariant-loop-byte
 invariant-loop-byte g l = record {

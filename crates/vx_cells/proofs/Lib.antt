@@ -1,4 +1,5 @@
 pub mod CellLaws
+pub mod ChestParting
 pub mod CodeLemmas
 pub mod Copying
 pub mod Indices

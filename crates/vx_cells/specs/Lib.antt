@@ -1,5 +1,6 @@
 pub mod CellMarks
 pub mod CellsLaws
+pub mod ChestParts
 pub mod Chests
 pub mod Codes
 pub mod Laws

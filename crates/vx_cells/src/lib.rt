@@ -3,6 +3,8 @@
 
 mod cell_marks;
 mod cells;
+mod chest_part;
+mod chest_parts;
 mod chests;
 mod code;
 mod frozen;

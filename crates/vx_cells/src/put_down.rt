@@ -7,6 +7,7 @@ ghost use Rattle.vx_cells.specs.Codes.{code_count, cell_of};
 ghost use Rattle.vx_cells.specs.SectorCells.{is_chest};
 ghost use Rattle.vx_cells.specs.Stored.{AreMachineMarks};
 
+use crate::chest_parts::ChestParts;
 use crate::chests::Chests;
 use crate::code::is_chest;
 use crate::machine_marks::MachineMarks;
@@ -19,7 +20,7 @@ use vx_section::Sections;
 /// cell is or was one, so that copies go on sharing them.
 pub fn put_over(
     store: &mut Sections,
-    chests: &mut Arc<Chests>,
+    chests: &mut ChestParts,
     index: u32,
     code: u8,
 ) -> Result<(), AllocError>
@@ -27,17 +28,17 @@ pub fn put_over(
     requires codes { All (λ each. each < code_count) store.old }
     requires code { code < code_count }
     requires none { is_chest (cell_of (slice_index_or store.old index 0)) ≡ false
-        → slots_of_chest (arc_value chests.old) index ≡ None }
+        → slots_of_chest chests.old index ≡ None }
     requires some { is_chest (cell_of (slice_index_or store.old index 0)) ≡ true
-        → IsSome (slots_of_chest (arc_value chests.old) index) }
+        → IsSome (slots_of_chest chests.old index) }
     ensures store { OnOk result (store.new ≡ slice_set store.old index code) }
-    ensures chests { OnOk result (Changes (arc_value chests.old) (arc_value chests.new) index
+    ensures chests { OnOk result (Changes chests.old chests.new index
         (begun (is_chest (cell_of code)))) }
     ensures err { OnErr result ((store.new ≡ store.old)
-        × SameSlots (arc_value chests.old) (arc_value chests.new)) }
+        × SameSlots chests.old chests.new) }
 {
     if is_chest(code) || is_chest(store.get(index)) {
-        return put_down(store, Arc::make_mut(chests)?, index, code);
+        return chests.put_down(store, index, code);
     }
     store.set(index, code)
 }
@@ -48,7 +49,7 @@ pub fn put_marked(
     alloc: Global,
     marks: &mut Arc<MachineMarks>,
     store: &mut Sections,
-    chests: &mut Arc<Chests>,
+    chests: &mut ChestParts,
     index: u32,
     code: u8,
 ) -> Result<(), AllocError>
@@ -56,15 +57,15 @@ pub fn put_marked(
     requires codes { All (λ each. each < code_count) store.old }
     requires code { code < code_count }
     requires none { is_chest (cell_of (slice_index_or store.old index 0)) ≡ false
-        → slots_of_chest (arc_value chests.old) index ≡ None }
+        → slots_of_chest chests.old index ≡ None }
     requires some { is_chest (cell_of (slice_index_or store.old index 0)) ≡ true
-        → IsSome (slots_of_chest (arc_value chests.old) index) }
+        → IsSome (slots_of_chest chests.old index) }
     requires marks { AreMachineMarks store.old (arc_value marks.old) }
     ensures store { OnOk result (store.new ≡ slice_set store.old index code) }
-    ensures chests { OnOk result (Changes (arc_value chests.old) (arc_value chests.new) index
+    ensures chests { OnOk result (Changes chests.old chests.new index
         (begun (is_chest (cell_of code)))) }
     ensures err { OnErr result ((store.new ≡ store.old)
-        × SameSlots (arc_value chests.old) (arc_value chests.new)) }
+        × SameSlots chests.old chests.new) }
     ensures marks { AreMachineMarks store.new (arc_value marks.new) }
 {
     let marks = Arc::make_mut(marks)?;
@@ -74,9 +75,9 @@ pub fn put_marked(
     Ok(())
 }
 
-// Puts a byte down, in place of the one that was there. A chest begins empty, and where one was
-// and none is any more, its slots go.
-fn put_down(
+/// Puts a byte down, in place of the one that was there. A chest begins empty, and where one was
+/// and none is any more, its slots go.
+pub fn put_down(
     store: &mut Sections,
     chests: &mut Chests,
     index: u32,

@@ -9,7 +9,7 @@ ghost use Rattle.vx_marks.specs.Marks.{IsFirst};
 ghost use Rattle.vx_cells.specs.Codes.{code_count, cell_of};
 ghost use Rattle.vx_cells.specs.Listed.{place, components_of, devices_of};
 
-use crate::chests::Chests;
+use crate::chest_parts::ChestParts;
 use crate::code::{AIR, conducts, decode, encode, is_dust};
 use crate::machine_marks::MachineMarks;
 use crate::put_down::{put_marked, put_over};
@@ -30,9 +30,8 @@ pub(crate) struct Stored {
     bounds: Bounds,
     sector: u32,
     store: Sections,
-    // Apart, since most changes of a sector are none of a chest, and a sector may have many.
-    chests: Arc<Chests>,
-    // Apart, too: most changes leave them as they are.
+    chests: ChestParts,
+    // Apart, since most changes leave them as they are.
     marks: Arc<MachineMarks>,
 }
 
@@ -43,10 +42,10 @@ impl Model for Stored {
 
     ghost Value = { SectorCells };
 
-    ghost view = { λ a. stored a.bounds a.sector a.store (arc_value a.chests) };
+    ghost view = { λ a. stored a.bounds a.sector a.store a.chests };
 
     ghost invariant = { λ a.
-        IsKept a.bounds a.sector a.store (arc_value a.chests) (arc_value a.marks) };
+        IsKept a.bounds a.sector a.store a.chests (arc_value a.marks) };
 }
 
 impl Stored {
@@ -67,7 +66,7 @@ impl Stored {
             bounds,
             sector,
             store,
-            chests: Arc::new(alloc, Chests::new(alloc))?,
+            chests: ChestParts::new(alloc)?,
             marks: Arc::new(alloc, MachineMarks::new(count))?,
         })
     }
@@ -185,8 +184,7 @@ impl Stored {
         ensures err { OnErr result (self.new ≡ self.old) }
     {
         let index = self.bounds.index_in_sector(p);
-        Arc::make_mut(&mut self.chests)?.set(index, slot, content);
-        Ok(())
+        self.chests.set(index, slot, content)
     }
 
     /// The form of the section that holds the position.
@@ -268,7 +266,7 @@ impl Clone for Stored {
             bounds: self.bounds,
             sector: self.sector,
             store: self.store.clone()?,
-            chests: Arc::try_clone(&self.chests)?,
+            chests: self.chests.clone()?,
             marks: Arc::try_clone(&self.marks)?,
         })
     }

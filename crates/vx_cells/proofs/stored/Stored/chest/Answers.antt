@@ -1,6 +1,4 @@
-use Rattle.std.proofs.Common.{ap, ◌∙◌}
-use Rattle.std.specs.Arc.{arc_value}
-use Rattle.vx_cells.specs.Chests.{slots_of_chest}
+use Rattle.std.proofs.Common.{◌∙◌}
 use Rattle.vx_cells.proofs.Indices.{inside_from_holds}
 use Rattle.vx_cells.proofs.StoredCells.{chest-stored}
 use Rattle.vx_cells.proofs.stored.Stored.chest.Goals as goal
@@ -12,4 +10,4 @@ pub returns-clause-slots : goal.returns-clause-slots
 returns-clause-slots c =
     let s = c.self.inside in
     let within = c.index_in_sector.ensures.within in
-    rw (← c.self.view_is) (c.get.ensures ∙ ap (λ d. slots_of_chest d c.index_in_sector.result) c.deref.ensures ∙ chest-stored s.bounds s.sector s.store (arc_value s.chests) c.self.invariant.stored c.args.p _ c.index_in_sector.ensures.value within)
+    rw (← c.self.view_is) (c.get.ensures ∙ chest-stored s.bounds s.sector s.store s.chests c.self.invariant.stored c.args.p _ c.index_in_sector.ensures.value within)

@@ -3,7 +3,6 @@ use Rattle.std.proofs.lemmas.Int.{ints}
 use Rattle.vx_geom.specs.Sizes.{index_in_sector}
 use Rattle.vx_geom.proofs.SectorLemmas.{inside_at}
 use Rattle.vx_cells.specs.Codes.{cell_of}
-use Rattle.std.specs.Arc.{arc_value}
 use Rattle.vx_cells.proofs.Indices.{inside_from_holds, index_below}
 use Rattle.vx_cells.proofs.Sectioned.{index_by_sides, layer_within}
 use Rattle.vx_cells.proofs.StoredCells.{cell-stored}
@@ -30,4 +29,4 @@ returns-clause-cell c =
     let z : c.unsigned_abs-row.result ≡ unsigned_abs p.z = omega (arith, ints, inside.z_is, c.unsigned_abs-row.ensures.value) in
     let index = index_by_sides s.bounds p (length s.store) _ _ _ c.soundness.ensures c.self.invariant.stored.whole x y z in
     rw (← c.self.view_is) (ap cell_of (c.at.ensures ∙ ap (λ k. get_or s.store k 0) index)
-    ∙ cell-stored s.bounds s.sector s.store (arc_value s.chests) c.self.invariant.stored p (index_in_sector s.bounds p) refl within)
+    ∙ cell-stored s.bounds s.sector s.store s.chests c.self.invariant.stored p (index_in_sector s.bounds p) refl within)

@@ -1,6 +1,5 @@
 use Rattle.std.proofs.Common.{◌≡◌, ◌≢◌, Bool, ◌+◌, ◌-◌, ◌*◌, ◌/◌, ap, subst, sym, ◌∙◌, arith}
 use Rattle.std.proofs.lemmas.Int.{ints}
-use Rattle.std.specs.Arc.{arc_value}
 use Rattle.vx_block.specs.Components.{is_component}
 use Rattle.vx_geom.specs.declared.pos.Pos.{Pos}
 use Rattle.vx_geom.specs.Sizes.{span, is_inside, index_in_sector}
@@ -59,14 +58,14 @@ returns-in_err-found c =
     let at =
     c.index_in_sector-index.ensures.value
     ∙ ap (index_in_sector s.bounds) (place_is _ _ _ _ low.0 low.1 low.2 c.new-p.ensures) in
-    let test : Pos → Bool = λ p. is_component (cell_at (stored s.bounds s.sector s.store (arc_value s.chests)) p) in
+    let test : Pos → Bool = λ p. is_component (cell_at (stored s.bounds s.sector s.store s.chests) p) in
     let w = span s.bounds in
     rw (← c.self.view_is) (subst
     (IsFirst (λ x. test (place x c.args.y c.args.z)) (w * (c.args.x / w + 1)) c.args.x)
     (sym c.from_residual.ensures)
     (none_in_row s.bounds c.soundness.ensures c.args.x c.args.y c.args.z c.index_in_sector-index.result at
     c.deref.result.now.components.words test
-    (marked_at is_component s.bounds s.sector s.store c.deref.result.now.components.words (arc_value s.chests) (marks_are (goal.at.returns-in_err-found c).After-deref))
+    (marked_at is_component s.bounds s.sector s.store c.deref.result.now.components.words s.chests (marks_are (goal.at.returns-in_err-found c).After-deref))
     c.in_err-found.ensures))
 
 pub returns-then-column-span : goal.returns-then-column-span
@@ -80,8 +79,8 @@ returns-then-column-span c =
     let column = c.args.x + (c.in_ok-found.found - c.index_in_sector-index.result) in
     rw (← c.self.view_is)
     (found_in_row s.bounds c.soundness.ensures c.args.x c.args.y c.args.z c.index_in_sector-index.result at
-    c.deref.result.now.components.words (λ p. is_component (cell_at (stored s.bounds s.sector s.store (arc_value s.chests)) p))
-    (marked_at is_component s.bounds s.sector s.store c.deref.result.now.components.words (arc_value s.chests) (marks_are (goal.at.returns-then-column-span c).After-deref))
+    c.deref.result.now.components.words (λ p. is_component (cell_at (stored s.bounds s.sector s.store s.chests) p))
+    (marked_at is_component s.bounds s.sector s.store c.deref.result.now.components.words s.chests (marks_are (goal.at.returns-then-column-span c).After-deref))
     c.in_ok-found.found c.in_ok-found.ensures
     (subst (λ w. column / w ≡ c.args.x / w) c.span-span.ensures c.if-column-span.true))
 
@@ -96,7 +95,7 @@ returns-else-column-span c =
     let column = c.args.x + (c.in_ok-found.found - c.index_in_sector-index.result) in
     rw (← c.self.view_is)
     (found_past_row s.bounds c.soundness.ensures c.args.x c.args.y c.args.z c.index_in_sector-index.result at
-    c.deref.result.now.components.words (λ p. is_component (cell_at (stored s.bounds s.sector s.store (arc_value s.chests)) p))
-    (marked_at is_component s.bounds s.sector s.store c.deref.result.now.components.words (arc_value s.chests) (marks_are (goal.at.returns-else-column-span c).After-deref))
+    c.deref.result.now.components.words (λ p. is_component (cell_at (stored s.bounds s.sector s.store s.chests) p))
+    (marked_at is_component s.bounds s.sector s.store c.deref.result.now.components.words s.chests (marks_are (goal.at.returns-else-column-span c).After-deref))
     c.in_ok-found.found c.in_ok-found.ensures
     (subst (λ w. column / w ≢ c.args.x / w) c.span-span.ensures c.if-column-span.false))

@@ -2,7 +2,6 @@ use Rattle.std.proofs.Common.{◌≡◌, ◌*◌, length, IfOk, sym, subst, ◌�
 use Rattle.vx_block.specs.Components.{is_component}
 use Rattle.vx_geom.specs.Sizes.{sector_cells}
 use Rattle.vx_cells.specs.Listed.{components_of}
-use Rattle.std.specs.Arc.{arc_value}
 use Rattle.vx_cells.specs.Stored.{AreMarks}
 use Rattle.vx_cells.specs.declared.machine_marks.MachineMarks.{MachineMarks}
 use Rattle.vx_cells.proofs.StoredMarks.{marked_are}
@@ -22,6 +21,6 @@ returns c =
     let s = c.self.inside in
     let are = subst (λ (m : MachineMarks). AreMarks is_component s.store m.components.words) (sym c.deref.ensures) c.self.invariant.marks.components in
     rw (← c.self.view_is) (subst (λ all. IfOk c.places.result (λ found. found.items ≡ all))
-    (marked_are s.bounds s.sector s.store (arc_value s.chests) c.soundness.ensures c.self.invariant.sector_low
+    (marked_are s.bounds s.sector s.store s.chests c.soundness.ensures c.self.invariant.sector_low
     is_component c.deref.result.now.components.words are)
     c.places.ensures)

@@ -1,7 +1,6 @@
 use Rattle.std.proofs.Common.{nat_lt, length, ap, sym, subst, ◌∙◌}
 use Rattle.vx_block.specs.Components.{is_device}
 use Rattle.vx_cells.specs.Listed.{devices_of}
-use Rattle.std.specs.Arc.{arc_value}
 use Rattle.vx_cells.specs.Stored.{AreMarks}
 use Rattle.vx_cells.specs.declared.machine_marks.MachineMarks.{MachineMarks}
 use Rattle.vx_cells.proofs.StoredMarks.{marked_are}
@@ -16,5 +15,5 @@ returns c =
     rw (← c.self.view_is) (c.has_any.ensures s.bounds s.sector c.soundness.ensures kept.sector_low
     (are.long ∙ kept.stored.whole)
     ∙ ap (λ ps. nat_lt 0 (length ps))
-    (marked_are s.bounds s.sector s.store (arc_value s.chests) c.soundness.ensures kept.sector_low
+    (marked_are s.bounds s.sector s.store s.chests c.soundness.ensures kept.sector_low
     is_device c.deref.result.now.devices.words are))

@@ -1,7 +1,4 @@
-use Rattle.std.proofs.Common.{◌≡◌, ℕ, ◌∙◌, sym, ap, subst, true≢false}
-use Rattle.std.specs.Bool.{Decides}
-use Rattle.vx_cells.specs.Chests.{slots_of_chest}
-use Rattle.std.specs.Arc.{arc_value}
+use Rattle.std.proofs.Common.{◌∙◌, sym, ap, true≢false}
 use Rattle.vx_cells.proofs.StoredBlocks.{same-codes}
 use Rattle.vx_cells.proofs.StoredCells.{same-stored, same-sizes, other-sizes}
 use Rattle.vx_cells.proofs.stored.Stored.is_same.Goals as goal
@@ -22,11 +19,8 @@ returns-then-same c =
     let o = c.other.inside in
     let sizes = same-sizes s.bounds o.bounds c.if-ne.ensures in
     let codes = c.same.ensures.0 c.if-same.true in
-    let r = c.same-then-same.result in
-    let mine = subst (λ d. Decides r ((index : ℕ) → slots_of_chest d index ≡ slots_of_chest c.deref-then-same.result.now index)) c.deref.ensures c.same-then-same.ensures in
-    let chests = subst (λ d. Decides r ((index : ℕ) → slots_of_chest (arc_value s.chests) index ≡ slots_of_chest d index)) c.deref-then-same.ensures mine in
     rw (← c.self.view_is) (rw (← c.other.view_is)
-    (same-stored s.bounds o.bounds s.sector o.sector s.store o.store (arc_value s.chests) (arc_value o.chests) c.same-then-same.result c.self.invariant.stored c.other.invariant.stored sizes c.if-self-other.false codes chests))
+    (same-stored s.bounds o.bounds s.sector o.sector s.store o.store s.chests o.chests c.same-then-same.result c.self.invariant.stored c.other.invariant.stored sizes c.if-self-other.false codes c.same-then-same.ensures))
 
 pub returns-else-same : goal.returns-else-same
 returns-else-same c =
@@ -34,5 +28,5 @@ returns-else-same c =
     let o = c.other.inside in
     rw (← c.self.view_is) (rw (← c.other.view_is) (
       λ e. absurd (true≢false (sym e ∙ c.if-same.false)),
-      λ same. c.same.ensures.1 (same-codes s.bounds o.bounds s.store o.store (arc_value s.chests) (arc_value o.chests) c.self.invariant.stored c.other.invariant.stored (ap (λ v. v.blocks) same)),
+      λ same. c.same.ensures.1 (same-codes s.bounds o.bounds s.store o.store s.chests o.chests c.self.invariant.stored c.other.invariant.stored (ap (λ v. v.blocks) same)),
     ))

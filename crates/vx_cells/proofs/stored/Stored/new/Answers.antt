@@ -18,12 +18,12 @@ invariant_of-result c =
     let whole = whole_words v c.soundness.ensures in
     record {
       sector_low = c.requires;
-      stored = stored-fresh v n store _ codes (c.in_ok-new.ensures.ok ∙ c.new-2.ensures) refl;
+      stored = stored-fresh v n store _ codes c.in_ok-new.ensures refl;
       marks = subst (AreMachineMarks store) (sym c.in_ok-new-2.ensures.ok) (record {
-        components = blank_marks is_component n store c.new-4.result.components.words refl codes whole
-            (c.new-4.ensures.components ∙ ap (λ k. replicate (k / 64) 0) count);
-        devices = blank_marks is_device n store c.new-4.result.devices.words refl codes whole
-            (c.new-4.ensures.devices ∙ ap (λ k. replicate (k / 64) 0) count);
+        components = blank_marks is_component n store c.new-3.result.components.words refl codes whole
+            (c.new-3.ensures.components ∙ ap (λ k. replicate (k / 64) 0) count);
+        devices = blank_marks is_device n store c.new-3.result.devices.words refl codes whole
+            (c.new-3.ensures.devices ∙ ap (λ k. replicate (k / 64) 0) count);
       });
     }
 
@@ -32,4 +32,4 @@ returns c =
     let v = c.args.bounds in
     let codes =
     all_alike v c.soundness.ensures _ _ _ c.span-wide.ensures c.from.ensures c.height.ensures c.in_ok-store.store 0 c.in_ok-store.ensures in
-    fresh-stored v c.args.sector (sector_cells v) c.in_ok-store.store _ codes (c.in_ok-new.ensures.ok ∙ c.new-2.ensures) refl
+    fresh-stored v c.args.sector (sector_cells v) c.in_ok-store.store _ codes c.in_ok-new.ensures refl

@@ -1,4 +1,4 @@
-use Rattle.std.proofs.Common.{◌≡◌, ℕ, ◌<◌, List, length, get_or, set, Result, Ok, Err, OnOk, OnErr, refl, sym, ap, subst, ◌∙◌, arith}
+use Rattle.std.proofs.Common.{◌≡◌, ℕ, ◌<◌, List, length, get_or, Result, Ok, Err, OnOk, OnErr, refl, sym, ap, subst, ◌∙◌, arith}
 use Rattle.std.specs.Arc.{arc_value}
 use Rattle.vx_geom.specs.Sizes.{Sizes}
 use Rattle.vx_cells.specs.Chests.{ChestData, SameSlots}
@@ -46,10 +46,10 @@ invariant_of-self c =
     record {
       sector_low = kept.sector_low;
       stored = by_either c.put_over.result c.put_over.ensures.store c.put_over.ensures.chests c.put_over.ensures.err
-          (λ store chests. subst (λ codes. IsStored s.bounds codes (arc_value c.put_over.new.chests)) (sym store)
-          (put-held s.bounds s.sector s.store (arc_value s.chests) kept.stored c.args.p index
+          (λ store chests. subst (λ codes. IsStored s.bounds codes c.put_over.new.chests) (sym store)
+          (put-held s.bounds s.sector s.store s.chests kept.stored c.args.p index
           c.index_in_sector-index.ensures.value within _ _ _ refl chests c.encode-code.ensures.within))
-          (λ left. stored_left s.bounds s.store c.put_over.new.store (arc_value s.chests) _ kept.stored left.0 left.1);
+          (λ left. stored_left s.bounds s.store c.put_over.new.store s.chests _ kept.stored left.0 left.1);
       marks = by_either c.put_over.result c.put_over.ensures.store c.put_over.ensures.chests c.put_over.ensures.err
           (λ store chests. subst (λ codes. AreMachineMarks codes (arc_value s.marks)) (sym store) told)
           (λ left. subst (λ codes. AreMachineMarks codes (arc_value s.marks)) (sym left.0) kept.marks);
@@ -60,8 +60,8 @@ returns-then-stay-clause-ok c =
     let s = c.self.inside in
     let within = c.index_in_sector-index.ensures.within in
     on_ok c.put_over.result c.put_over.ensures.store c.put_over.ensures.chests (λ store chests.
-    ap (λ codes. stored s.bounds s.sector codes (arc_value c.put_over.new.chests)) store
-    ∙ rw (← c.self.view_is) (put-stored s.bounds s.sector s.store (arc_value s.chests) c.self.invariant.stored c.args.p _
+    ap (λ codes. stored s.bounds s.sector codes c.put_over.new.chests) store
+    ∙ rw (← c.self.view_is) (put-stored s.bounds s.sector s.store s.chests c.self.invariant.stored c.args.p _
     c.index_in_sector-index.ensures.value within
     _ _ _ refl chests c.args.cell c.encode-code.ensures.cell))
 
@@ -69,8 +69,8 @@ pub returns-then-stay-clause-err : goal.returns-then-stay-clause-err
 returns-then-stay-clause-err c =
     let s = c.self.inside in
     on_err c.put_over.result c.put_over.ensures.err (λ left.
-    ap (λ codes. stored s.bounds s.sector codes (arc_value c.put_over.new.chests)) left.0
-    ∙ stored-still s.bounds s.sector s.store (arc_value s.chests) (arc_value c.put_over.new.chests) left.1 ∙ c.self.view_is)
+    ap (λ codes. stored s.bounds s.sector codes c.put_over.new.chests) left.0
+    ∙ stored-still s.bounds s.sector s.store s.chests c.put_over.new.chests left.1 ∙ c.self.view_is)
 
 pub invariant_of-self-2 : goal.invariant_of-self-2
 invariant_of-self-2 c =
@@ -83,10 +83,10 @@ invariant_of-self-2 c =
     record {
       sector_low = kept.sector_low;
       stored = by_either c.put_marked.result c.put_marked.ensures.store c.put_marked.ensures.chests c.put_marked.ensures.err
-          (λ store chests. subst (λ codes. IsStored s.bounds codes (arc_value c.put_marked.new.chests)) (sym store)
-          (put-held s.bounds s.sector s.store (arc_value s.chests) kept.stored c.args.p index
+          (λ store chests. subst (λ codes. IsStored s.bounds codes c.put_marked.new.chests) (sym store)
+          (put-held s.bounds s.sector s.store s.chests kept.stored c.args.p index
           c.index_in_sector-index.ensures.value within _ _ _ refl chests c.encode-code.ensures.within))
-          (λ left. stored_left s.bounds s.store c.put_marked.new.store (arc_value s.chests) _ kept.stored left.0 left.1);
+          (λ left. stored_left s.bounds s.store c.put_marked.new.store s.chests _ kept.stored left.0 left.1);
       marks = c.put_marked.ensures.marks;
     }
 
@@ -95,8 +95,8 @@ returns-clause-ok c =
     let s = c.self.inside in
     let within = c.index_in_sector-index.ensures.within in
     on_ok c.put_marked.result c.put_marked.ensures.store c.put_marked.ensures.chests (λ store chests.
-    ap (λ codes. stored s.bounds s.sector codes (arc_value c.put_marked.new.chests)) store
-    ∙ rw (← c.self.view_is) (put-stored s.bounds s.sector s.store (arc_value s.chests) c.self.invariant.stored c.args.p _
+    ap (λ codes. stored s.bounds s.sector codes c.put_marked.new.chests) store
+    ∙ rw (← c.self.view_is) (put-stored s.bounds s.sector s.store s.chests c.self.invariant.stored c.args.p _
     c.index_in_sector-index.ensures.value within
     _ _ _ refl chests c.args.cell c.encode-code.ensures.cell))
 
@@ -104,5 +104,5 @@ pub returns-clause-err : goal.returns-clause-err
 returns-clause-err c =
     let s = c.self.inside in
     on_err c.put_marked.result c.put_marked.ensures.err (λ left.
-    ap (λ codes. stored s.bounds s.sector codes (arc_value c.put_marked.new.chests)) left.0
-    ∙ stored-still s.bounds s.sector s.store (arc_value s.chests) (arc_value c.put_marked.new.chests) left.1 ∙ c.self.view_is)
+    ap (λ codes. stored s.bounds s.sector codes c.put_marked.new.chests) left.0
+    ∙ stored-still s.bounds s.sector s.store s.chests c.put_marked.new.chests left.1 ∙ c.self.view_is)

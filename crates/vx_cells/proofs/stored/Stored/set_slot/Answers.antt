@@ -1,35 +1,43 @@
-use Rattle.std.proofs.Common.{◌≡◌, is_ok, sym, ap, subst, ◌∙◌, IsSome, ◌⊎◌, inl, inr}
-use Rattle.std.specs.Arc.{arc_value}
-use Rattle.vx_cells.specs.Chests.{ChestData, slots_of_chest, refilled, Changes}
-use Rattle.vx_cells.specs.Stored.{stored}
+use Rattle.std.proofs.Common.{ap, sym, subst, ◌∙◌}
+use Rattle.std.proofs.lemmas.Result.{on_ok_weaker, on_err_weaker}
+use Rattle.vx_cells.specs.Stored.{stored, IsStored}
+use Rattle.vx_cells.proofs.ChestParting.{either_way}
 use Rattle.vx_cells.proofs.Indices.{inside_from_holds}
-use Rattle.vx_cells.proofs.StoredCells.{chest-there, refilled-stored}
+use Rattle.vx_cells.proofs.StoredCells.{chest-there, refilled-stored, refilled-held}
 use Rattle.vx_cells.proofs.stored.Stored.set_slot.Goals as goal
 
 pub index_in_sector-index-requires : goal.index_in_sector-index-requires
 index_in_sector-index-requires c = let held = rw (← c.self.view_is) at c.requires.held in inside_from_holds _ c.args.p held
-
--- chests that are owned, or were copied, are the same
-owned : (a b : ChestData) → (b ≡ a) ⊎ (b ≡ a) → b ≡ a
-owned a b (inl same) = same
-owned a b (inr copied) = copied
 
 pub set-requires-clause-there : goal.set-requires-clause-there
 set-requires-clause-there c =
     let s = c.self.inside in
     let within = c.index_in_sector-index.ensures.within in
     let chest = rw (← c.self.view_is) at c.requires.chest in
-    subst (λ d. IsSome (slots_of_chest d c.index_in_sector-index.result)) (sym (owned _ _ c.in_ok-make_mut.ensures.value))
-    (chest-there s.bounds s.sector s.store (arc_value s.chests) c.self.invariant.stored c.args.p _ c.index_in_sector-index.ensures.value within chest)
+    chest-there s.bounds s.sector s.store s.chests c.self.invariant.stored c.args.p _ c.index_in_sector-index.ensures.value within chest
+
+pub invariant_of-self : goal.invariant_of-self
+invariant_of-self c =
+    let s = c.self.inside in
+    let kept = c.self.invariant in
+    record {
+      sector_low = kept.sector_low;
+      stored = either_way c.set.result c.set.ensures.ok c.set.ensures.err
+          (λ change. refilled-held s.bounds s.sector s.store s.chests kept.stored c.args.p _ c.index_in_sector-index.ensures.value
+          c.index_in_sector-index.ensures.within c.set.new.self c.args.slot c.args.content change c.requires.content)
+          (λ same. subst (λ d. IsStored s.bounds s.store d) (sym same) kept.stored);
+      marks = kept.marks;
+    }
 
 pub returns-clause-ok : goal.returns-clause-ok
 returns-clause-ok c =
     let s = c.self.inside in
-    let index = c.index_in_sector-index.result in
-    let within = c.index_in_sector-index.ensures.within in
-    let own = owned _ _ c.in_ok-make_mut.ensures.value in
-    let change : Changes (arc_value s.chests) c.set.new.self index (refilled c.args.slot c.args.content (slots_of_chest (arc_value s.chests) index)) =
-    subst (λ d. Changes d c.set.new.self index (refilled c.args.slot c.args.content (slots_of_chest d index))) own c.set.ensures in
-    ap (stored s.bounds s.sector s.store) (c.make_mut.follows.holds c.set.new.self (ap is_ok c.in_ok-make_mut.was))
-    ∙ rw (← c.self.view_is) (refilled-stored s.bounds s.sector s.store (arc_value s.chests) c.self.invariant.stored c.args.p _
-    c.index_in_sector-index.ensures.value within c.set.new.self c.args.slot c.args.content change)
+    on_ok_weaker c.set.result
+    (λ change. rw (← c.self.view_is) (refilled-stored s.bounds s.sector s.store s.chests c.self.invariant.stored c.args.p _
+    c.index_in_sector-index.ensures.value c.index_in_sector-index.ensures.within c.set.new.self c.args.slot c.args.content change))
+    c.set.ensures.ok
+
+pub returns-clause-err : goal.returns-clause-err
+returns-clause-err c =
+    let s = c.self.inside in
+    on_err_weaker c.set.result (λ same. ap (stored s.bounds s.sector s.store) same ∙ c.self.view_is) c.set.ensures.err

@@ -1,3 +1,4 @@
+pub mod Guessing
 pub mod Keeping
 pub mod Playing
 pub mod Whole

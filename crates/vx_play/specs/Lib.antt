@@ -1,3 +1,4 @@
 pub mod Games
+pub mod Guesses
 pub mod Laws
 pub mod Plays

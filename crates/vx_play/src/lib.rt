@@ -3,11 +3,13 @@
 #![tactic(auto)]
 
 pub mod laws;
+mod name_index;
 mod names;
 mod play;
 mod tick_error;
 mod ticked;
 
+pub use name_index::NameIndex;
 pub use names::number_of;
 pub use play::Play;
 pub use tick_error::TickError;

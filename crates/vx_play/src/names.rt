@@ -1,4 +1,4 @@
-ghost use Rattle.std.specs.Prelude.{◌≡◌, ◌<◌, bytes_eq, false, length, IfSome};
+ghost use Rattle.std.specs.Prelude.{◌≡◌, ◌<◌, length, IfSome};
 ghost use Rattle.vx_region.specs.Texts.{texts};
 ghost use Rattle.vx_play.specs.Plays.{number_from};
 
@@ -10,23 +10,9 @@ pub fn number_of(names: &[Name], name: &Name) -> Option<usize>
     ensures within { IfSome result (λ number. number < length names.now) }
 {
     for (number, other) in names.iter().enumerate() {
-        if is_same(other, name) {
+        if other == name {
             return Some(number);
         }
     }
     None
-}
-
-// Whether both names are one. Most that are not end in different bytes, and then no more is
-// compared.
-fn is_same(a: &Name, b: &Name) -> bool
-    ensures { result ≡ bytes_eq a.now.text.bytes b.now.text.bytes }
-{
-    end_alike(a, b) && a == b
-}
-
-fn end_alike(a: &Name, b: &Name) -> bool
-    ensures { result ≡ false → bytes_eq a.now.text.bytes b.now.text.bytes ≡ false }
-{
-    a.as_str().as_bytes().last() == b.as_str().as_bytes().last()
 }

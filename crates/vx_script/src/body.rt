@@ -25,7 +25,6 @@ use vx_geom::Pos;
 use vx_grammar::Line;
 use vx_json::{FateLine, Place};
 use vx_keeper::Places;
-use vx_play::number_of;
 use vx_policy::{Edit, EditRefusal};
 use vx_region::{Name, Subject};
 use vx_sector::{Cmd, Refusal, Reply};
@@ -140,10 +139,10 @@ fn command<A: Places + Send + Sync, B: Seats + Send + Sync, T: Threads + Wait + 
         → result ≡ Err (Fault.Syntax number) }
     ensures fault { IfErr result IsOfRun }
 {
-    let Some(seat) = number_of(session.opening().names(), name) else {
+    let Some(seat) = session.seat_of(name) else {
         return Err(Fault::Syntax(number));
     };
-    let answer = session.command(rt, seat, cmd)?;
+    let answer = session.command(rt, usize::from(seat), cmd)?;
     write_answer(&answer, writer)
 }
 
@@ -236,7 +235,7 @@ fn explain<A: Places + Send + Sync, B: Seats + Send + Sync, T: Threads + Wait + 
 fn has_player<A: Places, B: Seats>(session: &Session<A, B>, name: &Name) -> bool
     ensures { result ≡ is_named (names_of session.now) name.now.text.bytes }
 {
-    number_of(session.opening().names(), name).is_some()
+    session.seat_of(name).is_some()
 }
 
 fn write_verdict<W: Write>(verdict: Verdict, count: u64, writer: &mut W) -> Result<(), Fault>

@@ -1,3 +1,4 @@
+mod Asking
 mod AtOnce
 mod Begun
 mod Doing

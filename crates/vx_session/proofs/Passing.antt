@@ -19,7 +19,7 @@ use Rattle.vx_audit.specs.Marks.{mark_of}
 use Rattle.vx_audit.specs.declared.mark.Mark.{Mark}
 use Rattle.vx_audit.specs.declared.mark.Mark.TheVariants as mark
 use Rattle.vx_world.specs.Openings.{seats_from}
-use Rattle.vx_session.specs.Blocks.{AreCarriedOut, AreMade, AreNumbered, marks_asked}
+use Rattle.vx_session.specs.Blocks.{AreCarriedOut, AreMade, marks_asked}
 use Rattle.vx_session.specs.Traces.{IsCalled}
 use Rattle.vx_session.specs.declared.request.Request.{Request}
 use Rattle.vx_session.specs.Sessions.{SessionData, PassData, IsSession, Does, names_of, session_data}
@@ -62,9 +62,10 @@ pass_there f sizes keeper xs edits marks seat is named =
     omega (arith, named, as_many_passes f sizes keeper xs edits marks is)
 
 -- each pass is from the seat with the number of its place
-pub numbered : {X : Type 0} (f : X → PassData) (sizes : Sizes) (keeper : KeeperData) (xs : List X)
+numbered : {X : Type 0} (f : X → PassData) (sizes : Sizes) (keeper : KeeperData) (xs : List X)
     (edits : List Asked) (marks : List Mark)
-    → IsSession (session_data sizes keeper (map f xs) edits marks) → AreNumbered (map f xs)
+    → IsSession (session_data sizes keeper (map f xs) edits marks) → (k : ℕ) (d : PassData) → k < length (map f xs)
+    → (get_or (map f xs) k d).seat.number ≡ k
 numbered f sizes keeper xs edits marks is k d within =
     let seat_in : PassData → SeatData = λ pass. pass.seat in
     let named : k < length keeper.chronicle.opening.names =

@@ -3,7 +3,7 @@ use Rattle.std.proofs.Common.{◌≡◌, ◌≢◌, ◌⊎◌, ℕ, ◌+◌, ◌
 use Rattle.std.specs.List.{filter}
 use Rattle.std.proofs.lemmas.Bool.{eq-eqb}
 use Rattle.std.proofs.lemmas.Bool.Decides.{eqb_tells}
-use Rattle.std.proofs.lemmas.List.{take-append-drop}
+use Rattle.std.proofs.lemmas.List.{length-take-le, take-append-drop, take_more}
 use Rattle.std.proofs.lemmas.List.Elements.{filter-append, filter_more}
 use Rattle.vx_geom.specs.Sizes.{Sizes, sector_of}
 use Rattle.vx_sector.specs.Commands.{place_of}
@@ -11,7 +11,7 @@ use Rattle.vx_sector.specs.declared.reply.Reply.{Reply}
 use Rattle.vx_sector.specs.declared.refusal.Refusal.{Refusal}
 use Rattle.vx_record.specs.declared.call.Call.{Call}
 use Rattle.vx_session.specs.Traces.{IsCalled}
-use Rattle.vx_session.specs.Blocks.{PlayerData, asked_of, calls_of, answers_to, AreCalled, HasPlayed}
+use Rattle.vx_session.specs.Blocks.{asked_of, calls_of, answers_to, AreCalled}
 use Rattle.vx_session.specs.declared.request.Request.{Request}
 
 -- two numbers that differ are told apart
@@ -23,7 +23,7 @@ differ a b apart = of_case (eqb_tells a b)
     of_case (inr other) = other.0
 
 -- a request more of the seat is asked for from it
-asked_more : (seat i : ℕ) (requests : List Request) (d : Request) → i < length requests → (get_or requests i d).seat ≡ seat
+pub asked_more : (seat i : ℕ) (requests : List Request) (d : Request) → i < length requests → (get_or requests i d).seat ≡ seat
     → asked_of seat (take (i + 1) requests) ≡ asked_of seat (take i requests) ++ get_or requests i d ∷ []
 asked_more seat i requests d within own =
     let r = get_or requests i d in
@@ -31,7 +31,7 @@ asked_more seat i requests d within own =
     ∙ ap (λ b. asked_of seat (take i requests) ++ cond b (r ∷ []) []) (eq-eqb r.seat seat own)
 
 -- one of another seat is not
-asked_still : (seat i : ℕ) (requests : List Request) (d : Request) → i < length requests → (get_or requests i d).seat ≢ seat
+pub asked_still : (seat i : ℕ) (requests : List Request) (d : Request) → i < length requests → (get_or requests i d).seat ≢ seat
     → asked_of seat (take (i + 1) requests) ≡ asked_of seat (take i requests)
 asked_still seat i requests d within other =
     let r = get_or requests i d in
@@ -58,39 +58,24 @@ called_more sizes before now next [] call same called =
 called_more sizes before now next (c ∷ calls) call are called =
     (are.0, are.1, called_more sizes are.0 now next calls call are.2 called)
 
--- a request of his seat was carried out by a player
-pub played_more : (sizes : Sizes) (i : ℕ) (requests : List Request) (d : Request) (a : Result Reply Refusal) (old now next : PlayerData)
-    (after : List (List Call))
-    → i < length requests → (get_or requests i d).seat ≡ old.pass.seat.number
-    → HasPlayed sizes (take i requests) old now
-    → next.answers ≡ now.answers ++ a ∷ []
-    → IsCalled (sector_of sizes (place_of (get_or requests i d).cmd)) now.pass.lists
-    (record { cmd = (get_or requests i d).cmd; answer = a }) after
-    → next.pass.lists ≡ after
-    → HasPlayed sizes (take (i + 1) requests) old next
-played_more sizes i requests d a old now next after within own was told called left =
-    let r = get_or requests i d in
-    let asked = asked_of old.pass.seat.number (take i requests) in
-    let more = asked_more old.pass.seat.number i requests d within own in
-    let call : Call = record { cmd = r.cmd; answer = a } in
-    record {
-      count = omega (arith, was.count, ap length more, ap length told, length-append now.answers (a ∷ []), length-append asked (r ∷ []));
-      called = subst (AreCalled sizes old.pass.lists (calls_of (asked_of old.pass.seat.number (take (i + 1) requests)) next.answers)) (sym left)
-          (subst (λ calls. AreCalled sizes old.pass.lists calls after)
-          (sym ((λ k. calls_of (more k) (told k)) ∙ calls_more asked now.answers r a was.count))
-          (called_more sizes old.pass.lists now.pass.lists after (calls_of asked now.answers) call was.called called));
-    }
-
--- a request of another seat was passed over
-pub played_still : (sizes : Sizes) (i : ℕ) (requests : List Request) (d : Request) (old now : PlayerData)
-    → i < length requests → (get_or requests i d).seat ≢ old.pass.seat.number
-    → HasPlayed sizes (take i requests) old now → HasPlayed sizes (take (i + 1) requests) old now
-played_still sizes i requests d old now within other was =
-    let still = asked_still old.pass.seat.number i requests d within other in
-    record {
-      count = was.count ∙ ap length (sym still);
-      called = subst (λ qs. AreCalled sizes old.pass.lists (calls_of qs now.answers) now.pass.lists) (sym still) was.called;
-    }
+-- one more of the requests was carried out
+pub carried_more : (sizes : Sizes) (asked : List Request) (i : ℕ) (d : Request) (answers next : List (Result Reply Refusal))
+    (a : Result Reply Refusal) (before now after : List (List Call))
+    → i < length asked → length answers ≡ i
+    → AreCalled sizes before (calls_of (take i asked) answers) now
+    → next ≡ answers ++ a ∷ []
+    → IsCalled (sector_of sizes (place_of (get_or asked i d).cmd)) now (record { cmd = (get_or asked i d).cmd; answer = a }) after
+    → (length next ≡ i + 1) × AreCalled sizes before (calls_of (take (i + 1) asked) next) after
+carried_more sizes asked i d answers next a before now after within many was told called =
+    let r = get_or asked i d in
+    let front = take i asked in
+    let more = take_more asked i d within in
+    let even : length answers ≡ length front = many ∙ sym (length-take-le i asked (omega (arith, within))) in (
+      omega (arith, many, ap length told, length-append answers (a ∷ [])),
+      subst (λ calls. AreCalled sizes before calls after)
+          (sym ((λ k. calls_of (more k) (told k)) ∙ calls_more front answers r a even))
+          (called_more sizes before now after (calls_of front answers) (record { cmd = r.cmd; answer = a }) was called),
+    )
 
 -- of an answer more, a seat has it or has not
 pub answers_more : (seat : ℕ) (requests : List Request) (answers : List (Result Reply Refusal)) (r : Request) (a : Result Reply Refusal)

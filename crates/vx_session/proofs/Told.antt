@@ -5,10 +5,11 @@ use Rattle.std.proofs.Math.Seq.{map-set_same}
 use Rattle.std.proofs.lemmas.Bool.Decides.{eqb_tells}
 use Rattle.std.proofs.lemmas.Grind.{get_or-set_at}
 use Rattle.std.proofs.lemmas.List.{get_or-map, get_or-set_other, get_or_default, length-map, length-set, length-take-le, map-set, nil_from_length, take_more}
+use Rattle.std.proofs.lemmas.Simd.{map-map}
 use Rattle.vx_geom.specs.Sizes.{Sizes}
 use Rattle.vx_sector.specs.declared.reply.Reply.{Reply}
 use Rattle.vx_sector.specs.declared.refusal.Refusal.{Refusal}
-use Rattle.vx_session.specs.Blocks.{PlayerData, asked_of, calls_of, answers_to, AreCalled, AreCarriedOut, AreNumbered, AreTold, HasPlayed, HaveAllPlayed, HaveAnswers}
+use Rattle.vx_session.specs.Blocks.{PlayerData, asked_of, calls_of, answers_to, AreAsked, AreCalled, AreCarriedOut, AreTold, HasPlayed, HaveAllPlayed, HaveAnswers, HavePasses}
 use Rattle.vx_session.specs.Sessions.{PassData}
 use Rattle.vx_session.specs.declared.request.Request.{Request}
 use Rattle.vx_session.proofs.Requested.{answers_more, as_many, asked_left}
@@ -75,7 +76,7 @@ pub seat_there : (requests : List Request) (i : ℕ) (d : Request) (seat seats a
 seat_there requests i d seat seats all named same within own = omega (arith, own, same, named i d within)
 
 -- a player in a list of the program's, where f tells what is seen of each, is seen so in what is seen
-seen_there : {X : Type 0} (f : X → PlayerData) (players : List X) (seat : ℕ) (was : X) → seat < length players
+pub seen_there : {X : Type 0} (f : X → PlayerData) (players : List X) (seat : ℕ) (was : X) → seat < length players
     → was ≡ get_or players seat was → f was ≡ get_or (map f players) seat (f was)
 seen_there f players seat was there here = ap f here ∙ sym (get_or-map f players seat was (f was) there)
 
@@ -119,10 +120,10 @@ one_left f requests i d answers old players seat was within own many all told th
 
 -- in the end all was told: with each pass the requests of its seat were carried out, with these answers
 pub carried_out : (sizes : Sizes) (requests : List Request) (answers : List (Result Reply Refusal)) (old now new : List PlayerData)
-    → AreNumbered (map pass_of old) → length answers ≡ length requests
+    → length answers ≡ length requests
     → HaveAllPlayed sizes requests old now → AreTold requests answers now new
     → AreCarriedOut sizes requests answers (map pass_of old) (map pass_of new)
-carried_out sizes requests answers old now new numbered even played told = record {
+carried_out sizes requests answers old now new even played told = record {
   count = length-map new pass_of ∙ told.count ∙ played.count ∙ sym (length-map old pass_of);
   called = called;
 }
@@ -131,13 +132,12 @@ carried_out sizes requests answers old now new numbered even played told = recor
         → AreCalled sizes (get_or (map pass_of old) k d).lists (calls_of (asked_of k requests) (answers_to k requests answers))
         (get_or (map pass_of new) k d).lists
     called k d in_old =
-        let p : PlayerData = record { pass = d; answers = [] } in
+        let p : PlayerData = record { pass = d; asked = []; answers = [] } in
         let below : k < length old = omega (arith, in_old, length-map old pass_of) in
         let below_now : k < length now = omega (arith, below, played.count) in
         let before : get_or (map pass_of old) k d ≡ (get_or old k p).pass = get_or-map pass_of old k p d below in
         let after : get_or (map pass_of new) k d ≡ (get_or now k p).pass =
         ap (λ ps. get_or ps k d) told.passes ∙ get_or-map pass_of now k p d below_now in
-        let number : (get_or old k p).pass.seat.number ≡ k = ap (λ (q : PassData). q.seat.number) (sym before) ∙ numbered k d in_old in
         let left = (get_or new k p).answers in
         let had : (get_or now k p).answers ≡ answers_to k requests answers ++ left = told.told k p below_now in
         let own = played.played k p below in
@@ -145,7 +145,6 @@ carried_out sizes requests answers old now new numbered even played told = recor
         omega (
           arith,
           own.count,
-          ap (λ n. length (asked_of n requests)) number,
           ap length had,
           length-append (answers_to k requests answers) left,
           as_many k requests answers even,
@@ -156,8 +155,8 @@ carried_out sizes requests answers old now new numbered even played told = recor
         (sym before)
         (subst (λ (q : PassData). AreCalled sizes (get_or old k p).pass.lists (calls_of (asked_of k requests) (answers_to k requests answers)) q.lists)
         (sym after)
-        (subst (λ cs. AreCalled sizes (get_or old k p).pass.lists cs (get_or now k p).pass.lists)
-        (λ i. calls_of (asked_of (number i) requests) (all i)) own.called))
+        (subst (λ xs. AreCalled sizes (get_or old k p).pass.lists (calls_of (asked_of k requests) xs) (get_or now k p).pass.lists)
+        all own.called))
 
 -- an element of a list that has one at this place
 some_of : {X : Type 0} (xs : List X) (k : ℕ) → k < length xs → X
@@ -166,27 +165,33 @@ some_of (x ∷ xs) k within = x
 
 -- players who stand in a list of the program's, where f tells what is seen of each
 pub all_played : {X : Type 0} (f : X → PlayerData) (sizes : Sizes) (requests : List Request) (old new : List X)
-    → length new ≡ length old
-    → ((k : ℕ) (d : X) → k < length old → HasPlayed sizes requests (f (get_or old k d)) (f (get_or new k d)))
+    → length new ≡ length old → AreAsked requests (map f old)
+    → ((k : ℕ) (d : X) → k < length old → HasPlayed sizes (f (get_or old k d)).asked (f (get_or old k d)) (f (get_or new k d)))
     → HaveAllPlayed sizes requests (map f old) (map f new)
-all_played f sizes requests old new even each = record {
+all_played f sizes requests old new even asked each = record {
   count = length-map new f ∙ even ∙ sym (length-map old f);
   played = λ k d in_old.
       let below : k < length old = omega (arith, in_old, length-map old f) in
       let x = some_of old k below in
-      subst (λ p. HasPlayed sizes requests p (get_or (map f new) k d)) (sym (get_or-map f old k x d below))
-      (subst (λ p. HasPlayed sizes requests (f (get_or old k x)) p) (sym (get_or-map f new k x d (omega (arith, below, even)))) (each k x below));
+      let here = get_or-map f old k x d below in
+      let own : (f (get_or old k x)).asked ≡ asked_of k requests = ap (λ (p : PlayerData). p.asked) (sym here) ∙ asked k d in_old in
+      subst (λ p. HasPlayed sizes (asked_of k requests) p (get_or (map f new) k d)) (sym here)
+      (subst (λ p. HasPlayed sizes (asked_of k requests) (f (get_or old k x)) p) (sym (get_or-map f new k x d (omega (arith, below, even))))
+      (subst (λ qs. HasPlayed sizes qs (f (get_or old k x)) (f (get_or new k x))) own (each k x below)));
 }
 
 -- where all have played, there are as many answers of each seat as requests
-pub have_answers : (sizes : Sizes) (requests : List Request) (old new : List PlayerData) → AreNumbered (map pass_of old)
+pub have_answers : (sizes : Sizes) (requests : List Request) (old new : List PlayerData)
     → HaveAllPlayed sizes requests old new → HaveAnswers requests new
-have_answers sizes requests old new numbered played k d below =
-    let in_old : k < length old = omega (arith, below, played.count) in
-    let number : (get_or old k d).pass.seat.number ≡ k =
-    ap (λ (p : PassData). p.seat.number) (sym (get_or-map pass_of old k d d.pass in_old))
-    ∙ numbered k d.pass (omega (arith, in_old, length-map old pass_of)) in
-    (played.played k d in_old).count ∙ ap (λ n. length (asked_of n requests)) number
+have_answers sizes requests old new played k d below = (played.played k d (omega (arith, below, played.count))).count
+
+-- players who have their passes have their seats
+pub seats_by_passes : {X : Type 0} (f : X → PlayerData) (old new : List X) → HavePasses (map f old) (map f new)
+    → map (λ x. (f x).pass.seat) new ≡ map (λ x. (f x).pass.seat) old
+seats_by_passes f old new same =
+    let seat_in = λ (p : PassData). p.seat in
+    sym (map-map (λ (p : PlayerData). p.pass.seat) f new) ∙ sym (map-map seat_in pass_of (map f new)) ∙ ap (map seat_in) same
+    ∙ map-map seat_in pass_of (map f old) ∙ map-map (λ (p : PlayerData). p.pass.seat) f old
 
 -- two lists whose elements are seen alike, place by place, are seen alike
 pub seen_alike : {X Y : Type 0} (f : X → Y) (old new : List X) → length new ≡ length old

@@ -53,11 +53,6 @@ pub record AreMade (names : List (List ℕ)) (requests : List Request)
   pub answered : map (λ (call : EntryData). call.answer) calls ≡ answers
   pub seated : All (λ (call : EntryData). IsSeatOf names call.seat) calls
 
--- the pass of each place is from the seat with its number
-abbrev pub AreNumbered : List PassData → Type 0
-AreNumbered passes = (k : ℕ) (d : PassData) → k < length passes
-    → (slice_index_or passes k d).seat.number ≡ k
-
 -- with each pass the requests of its seat were carried out, and their answers were these
 pub record AreCarriedOut (sizes : Sizes) (requests : List Request)
     (answers : List (Result Reply Refusal)) (old new : List PassData) : Type 0 where
@@ -67,28 +62,42 @@ pub record AreCarriedOut (sizes : Sizes) (requests : List Request)
       (calls_of (asked_of k requests) (answers_to k requests answers))
       (slice_index_or new k d).lists
 
--- a player: what his pass has, and the answers that he was not told yet
+-- a player: what his pass has, what is asked of him, and the answers that he was not told yet
 pub record PlayerData : Type 0 where
   pub pass : PassData
+  pub asked : List Request
   pub answers : List (Result Reply Refusal)
 
 -- what is seen of a player
 abbrev pub player_data : {A B : Type 0} {P : _} {E : _} {N : _} {H : _} {S : _}
     → Player A B P E N H S → PlayerData
-player_data player = record { pass = pass_in player.pass; answers = player.answers.items }
+player_data player = record {
+  pass = pass_in player.pass;
+  asked = player.asked.items;
+  answers = player.answers.items;
+}
 
--- a player has carried out the requests of his seat, and has their answers
-pub record HasPlayed (sizes : Sizes) (requests : List Request) (old new : PlayerData) : Type 0 where
-  pub count : length new.answers ≡ length (asked_of old.pass.seat.number requests)
-  pub called : AreCalled sizes old.pass.lists
-      (calls_of (asked_of old.pass.seat.number requests) new.answers) new.pass.lists
+-- a player has carried out what was asked of him, and has the answers
+pub record HasPlayed (sizes : Sizes) (asked : List Request) (old new : PlayerData) : Type 0 where
+  pub count : length new.answers ≡ length asked
+  pub called : AreCalled sizes old.pass.lists (calls_of asked new.answers) new.pass.lists
 
--- so has each of the players
+-- of the player of each seat the requests of that seat are asked
+abbrev pub AreAsked : List Request → List PlayerData → Type 0
+AreAsked requests players = (k : ℕ) (d : PlayerData) → k < length players
+    → (slice_index_or players k d).asked ≡ asked_of k requests
+
+-- each of the players has carried out the requests of his seat
 pub record HaveAllPlayed (sizes : Sizes) (requests : List Request) (old new : List PlayerData)
     : Type 0 where
   pub count : length new ≡ length old
   pub played : (k : ℕ) (d : PlayerData) → k < length old
-      → HasPlayed sizes requests (slice_index_or old k d) (slice_index_or new k d)
+      → HasPlayed sizes (asked_of k requests) (slice_index_or old k d) (slice_index_or new k d)
+
+-- the passes of the players are as they were
+abbrev pub HavePasses : List PlayerData → List PlayerData → Type 0
+HavePasses old new = map (λ (player : PlayerData). player.pass) new
+    ≡ map (λ (player : PlayerData). player.pass) old
 
 -- of each seat there are as many answers as requests
 abbrev pub HaveAnswers : List Request → List PlayerData → Type 0
@@ -102,8 +111,7 @@ pub record AreTold (requests : List Request) (answers : List (Result Reply Refus
   pub count : length new ≡ length old
   pub told : (k : ℕ) (d : PlayerData) → k < length old → (slice_index_or old k d).answers
       ≡ answers_to k requests answers ++ (slice_index_or new k d).answers
-  pub passes : map (λ (player : PlayerData). player.pass) new
-      ≡ map (λ (player : PlayerData). player.pass) old
+  pub passes : HavePasses old new
 
 -- the mark of the call that is asked for
 abbrev pub mark_asked : Sizes → Request → Mark

@@ -8,6 +8,7 @@ use crate::session::Session;
 use std::alloc::{AllocError, Global};
 use vx_board::View;
 use vx_keeper::Places;
+use vx_play::NameIndex;
 use vx_record::Opening;
 use vx_world::{Blanks, Seats, World};
 
@@ -35,12 +36,14 @@ impl<A: Places, B: Seats> Session<A, B> {
         ensures edits { IfOk result (λ session. session.edits ≡ []) }
     {
         let bounds = opening.terrain().frozen().bounds();
+        let names = NameIndex::new(alloc, opening.names())?;
         let (world, keeper, passes) = World::<A, B>::new(alloc, opening, view, blanks)?;
         let players = players_of(alloc, passes)?;
         Ok(Session {
             bounds,
             world,
             keeper,
+            names,
             players,
             view: None,
             last: None,

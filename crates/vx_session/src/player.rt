@@ -1,6 +1,6 @@
 //! The players of a session, and what each of them does in a block of calls.
-ghost use Rattle.std.specs.Prelude.{◌≡◌, ◌<◌, ◌∷◌, [], None, IfOk, OnOk, length, map};
-ghost use Rattle.vx_session.specs.Blocks.{HasPlayed, player_data};
+ghost use Rattle.std.specs.Prelude.{◌≡◌, ◌<◌, ◌∷◌, ◌++◌, [], None, IfOk, OnOk, length, map};
+ghost use Rattle.vx_session.specs.Blocks.{calls_of, player_data, AreCalled, HasPlayed};
 
 use crate::calling::called;
 use crate::request::Request;
@@ -13,10 +13,11 @@ use vx_keeper::Places;
 use vx_sector::{Refusal, Reply};
 use vx_world::{Pass, Seats, World};
 
-/// A player: his pass, and of a block of calls the answers that he got and was not told yet, and
-/// why he stopped, where he did.
+/// A player: his pass, and of a block of calls what is asked of him, the answers that he got and
+/// was not told yet, and why he stopped, where he did.
 pub struct Player<A: Places, B: Seats> {
     pub(crate) pass: Pass<A, B>,
+    pub(crate) asked: Vec<Request>,
     pub(crate) answers: VecDeque<Result<Reply, Refusal>>,
     pub(crate) stopped: Option<SessionError>,
 }
@@ -26,6 +27,7 @@ impl<A: Places, B: Seats> Drop for Player<A, B> {
     fn drop(self) {
         let Player {
             pass: _pass,
+            asked: _asked,
             answers: _answers,
             stopped: _,
         } = self;
@@ -39,6 +41,7 @@ impl<A: Places, B: Seats> Player<A, B> {
     {
         Player {
             pass,
+            asked: Vec::new(alloc),
             answers: VecDeque::new(alloc),
             stopped: None,
         }
@@ -50,52 +53,50 @@ impl<A: Places, B: Seats> Player<A, B> {
     {
         let Player {
             pass,
+            asked: _asked,
             answers: _answers,
             stopped: _,
         } = self;
         pass
     }
 
-    /// Carries out those of the requests that are of his seat, in their order, in the world with
-    /// these bounds, and keeps the answers. What is left of an earlier block is let go.
-    pub fn play(
-        &mut self,
-        rt: &impl Wait,
-        bounds: &Bounds,
-        world: &World<A, B>,
-        requests: &[Request],
-    )
-        requires { world.now.bounds ≡ bounds.now }
-        ensures seat { self.new.pass.seat ≡ self.old.pass.seat }
-        ensures played { self.new.stopped ≡ None
-            → HasPlayed bounds.now requests.now (player_data self.old) (player_data self.new) }
+    /// Asks nothing of him any more.
+    pub fn ask_nothing(&mut self)
+        ensures asked { self.new.asked.items ≡ [] }
+        ensures pass { self.new.pass ≡ self.old.pass }
     {
-        self.answers.clear();
-        self.stopped = self.play_on(rt, bounds, world, requests).err();
+        self.asked.clear();
     }
 
-    // Carries them out where no answer is left; ends early where there is no room or no memory.
-    fn play_on(
-        &mut self,
-        rt: &impl Wait,
-        bounds: &Bounds,
-        world: &World<A, B>,
-        requests: &[Request],
-    ) -> Result<(), SessionError>
-        requires bounds { world.now.bounds ≡ bounds.now }
-        requires none { self.old.answers.items ≡ [] }
-        ensures seat { self.new.pass.seat ≡ self.old.pass.seat }
-        ensures played { OnOk result
-            (HasPlayed bounds.now requests.now (player_data self.old) (player_data self.new)) }
+    /// Asks one request more of him.
+    pub fn ask(&mut self, request: Request) -> Result<(), AllocError>
+        ensures asked { OnOk result (self.new.asked.items ≡ self.old.asked.items ++ request ∷ []) }
+        ensures pass { self.new.pass ≡ self.old.pass }
     {
-        for request in requests {
-            if request.seat == self.pass.seat().number {
-                self.answers.reserve(1)?;
-                let answer = called(bounds, world, rt, &mut self.pass, request.cmd)?;
-                self.answers.push_back_reserved(answer);
-            }
+        match self.asked.push(request) {
+            Ok(()) => Ok(()),
+            Err(_) => Err(AllocError),
         }
-        Ok(())
+    }
+
+    /// Carries out what is asked of him, in its order, in the world with these bounds, and keeps the
+    /// answers. What is left of an earlier block is let go.
+    pub fn play(&mut self, rt: &impl Wait, bounds: &Bounds, world: &World<A, B>)
+        requires { world.now.bounds ≡ bounds.now }
+        ensures seat { self.new.pass.seat ≡ self.old.pass.seat }
+        ensures played { self.new.stopped ≡ None → HasPlayed bounds.now self.old.asked.items
+            (player_data self.old) (player_data self.new) }
+    {
+        self.answers.clear();
+        self.stopped = carry_out(
+            rt,
+            bounds,
+            world,
+            &mut self.pass,
+            &self.asked,
+            &mut self.answers,
+        )
+        .err();
     }
 
     /// The first of the answers that he was not told yet.
@@ -106,6 +107,31 @@ impl<A: Places, B: Seats> Player<A, B> {
     {
         self.answers.pop_front().unwrap()
     }
+}
+
+// Carries out what is asked with the pass, and keeps the answers behind none; ends early where there
+// is no room or no memory.
+fn carry_out<A: Places, B: Seats>(
+    rt: &impl Wait,
+    bounds: &Bounds,
+    world: &World<A, B>,
+    pass: &mut Pass<A, B>,
+    asked: &[Request],
+    answers: &mut VecDeque<Result<Reply, Refusal>>,
+) -> Result<(), SessionError>
+    requires bounds { world.now.bounds ≡ bounds.now }
+    requires none { answers.old.items ≡ [] }
+    ensures seat { pass.new.seat ≡ pass.old.seat }
+    ensures count { OnOk result (length answers.new.items ≡ length asked.now) }
+    ensures called { OnOk result (AreCalled bounds.now pass.old.lists
+        (calls_of asked.now answers.new.items) pass.new.lists) }
+{
+    for request in asked {
+        answers.reserve(1)?;
+        let answer = called(bounds, world, rt, pass, request.cmd)?;
+        answers.push_back_reserved(answer);
+    }
+    Ok(())
 }
 
 /// A player for each of the passes, in their order.

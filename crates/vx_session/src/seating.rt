@@ -5,7 +5,6 @@ ghost use Rattle.vx_session.specs.Sessions.{names_of};
 
 use crate::session::Session;
 use vx_keeper::Places;
-use vx_play::number_of;
 use vx_region::Name;
 use vx_world::Seats;
 
@@ -14,7 +13,7 @@ impl<A: Places, B: Seats> Session<A, B> {
     pub fn seat_of(&self, name: &Name) -> Option<u8>
         ensures { result ≡ number_from 0 (names_of self.now) name.now.text.bytes }
     {
-        let place = number_of(self.keeper.opening().names(), name)?;
+        let place = self.names.number_of(name)?;
         Some(self.players[place].pass.seat().number)
     }
 }

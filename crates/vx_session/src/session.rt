@@ -19,6 +19,7 @@ use vx_audit::Mark;
 use vx_board::{Desk, DeskError, Edited, Listed, View};
 use vx_geom::{Bounds, Pos};
 use vx_keeper::{Keeper, Places};
+use vx_play::NameIndex;
 use vx_policy::{Edit, EditRefusal};
 use vx_record::Opening;
 use vx_sector::{Cmd, Refusal, Reply};
@@ -35,6 +36,7 @@ pub struct Session<A: Places, B: Seats> {
     pub(crate) bounds: Bounds,
     pub(crate) world: World<A, B>,
     pub(crate) keeper: Keeper<A>,
+    pub(crate) names: NameIndex,
     pub(crate) players: Vec<Player<A, B>>,
     pub(crate) view: Option<View<A>>,
     pub(crate) last: Option<Listed<A>>,
@@ -55,6 +57,7 @@ impl<A: Places, B: Seats> Model for Session<A, B> {
     ghost invariant = { λ s. IsSession (session_data s.bounds s.keeper
         (map player_in s.players.items) (edits_to s.last) s.marks.items)
         × (s.world.bounds ≡ s.bounds)
+        × (s.names ≡ s.keeper.chronicle.opening.names)
         × (0 < s.workers) × (s.workers ≤ MAX_WORKERS)
         × (A.parts ≡ A.all + B.all) × (B.parts ≡ 2 * B.all) };
 }
@@ -66,6 +69,7 @@ impl<A: Places, B: Seats> Drop for Session<A, B> {
             bounds: _,
             world: _world,
             keeper: _keeper,
+            names: _names,
             players: _players,
             view: _view,
             last: _last,
@@ -211,6 +215,7 @@ impl<A: Places, B: Seats> Session<A, B> {
             bounds: _,
             world,
             keeper,
+            names: _names,
             players,
             view: _view,
             last,

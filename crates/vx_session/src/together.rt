@@ -3,7 +3,7 @@ ghost use Rattle.std.specs.Prelude.{◌≡◌, ℕ, ◌<◌, ◌≤◌, ◌+◌,
 ghost use Rattle.std.specs.List.{All};
 ghost use Rattle.vx_audit.specs.Deeds as deeds;
 ghost use Rattle.vx_sector.specs.SectorData.{EntryData};
-ghost use Rattle.vx_session.specs.Blocks.{marks_asked, player_data, AreCarriedOut, AreMade, AreNumbered, AreTold, HasPlayed, HaveAllPlayed, HaveAnswers};
+ghost use Rattle.vx_session.specs.Blocks.{marks_asked, player_data, AreAsked, AreCarriedOut, AreMade, AreTold, HasPlayed, HaveAllPlayed, HaveAnswers, HavePasses};
 ghost use Rattle.vx_session.specs.Sessions.{Does, Stays, names_of, pass_in, player_in};
 
 use crate::halving::at_once;
@@ -12,7 +12,7 @@ use crate::player::Player;
 use crate::request::Request;
 use crate::session::Session;
 use crate::session_error::SessionError;
-use std::alloc::Global;
+use std::alloc::{AllocError, Global};
 use std::sync::Wait;
 use std::thread::Threads;
 use vx_audit::Mark;
@@ -63,7 +63,6 @@ fn answers_of<A: Places + Send + Sync, B: Seats + Send + Sync, T: Threads + Wait
     requests: &[Request],
 ) -> Result<Vec<Result<Reply, Refusal>>, SessionError>
     requires bounds { world.now.bounds ≡ bounds.now }
-    requires numbered { AreNumbered (map player_in players.old) }
     requires named { All (λ request. request.seat < length players.old) requests.now }
     ensures seats { map (λ player. (player_in player).seat) players.new
         ≡ map (λ player. (player_in player).seat) players.old }
@@ -73,9 +72,49 @@ fn answers_of<A: Places + Send + Sync, B: Seats + Send + Sync, T: Threads + Wait
 {
     // Before the calls: where they are answered, their answers have room.
     let mut answers = Vec::with_capacity(alloc, requests.len())?;
+    ask_all(players, requests)?;
     play_all(rt, bounds, world, players, requests)?;
     tell_all(players, requests, &mut answers);
     Ok(answers)
+}
+
+// Asks of each player what is asked for from his seat, and nothing else.
+fn ask_all<A: Places, B: Seats>(
+    players: &mut [Player<A, B>],
+    requests: &[Request],
+) -> Result<(), AllocError>
+    requires { All (λ request. request.seat < length players.old) requests.now }
+    ensures passes { HavePasses (map player_data players.old) (map player_data players.new) }
+    ensures asked { OnOk result (AreAsked requests.now (map player_data players.new)) }
+{
+    ask_nothing(players);
+    hand_out(players, requests)
+}
+
+// Asks nothing of any player.
+fn ask_nothing<A: Places, B: Seats>(players: &mut [Player<A, B>])
+    ensures passes { HavePasses (map player_data players.old) (map player_data players.new) }
+    ensures asked { AreAsked [] (map player_data players.new) }
+{
+    for player in players.iter_mut() {
+        player.ask_nothing();
+    }
+}
+
+// Asks each request of the player of its seat, where nothing is asked of any.
+fn hand_out<A: Places, B: Seats>(
+    players: &mut [Player<A, B>],
+    requests: &[Request],
+) -> Result<(), AllocError>
+    requires named { All (λ request. request.seat < length players.old) requests.now }
+    requires none { AreAsked [] (map player_data players.old) }
+    ensures passes { HavePasses (map player_data players.old) (map player_data players.new) }
+    ensures asked { OnOk result (AreAsked requests.now (map player_data players.new)) }
+{
+    for request in requests {
+        players[usize::from(request.seat)].ask(*request)?;
+    }
+    Ok(())
 }
 
 // Has each player do what is asked of him.
@@ -86,13 +125,14 @@ fn play_all<A: Places + Send + Sync, B: Seats + Send + Sync, T: Threads + Wait +
     players: &mut [Player<A, B>],
     requests: &[Request],
 ) -> Result<(), SessionError>
-    requires { world.now.bounds ≡ bounds.now }
+    requires bounds { world.now.bounds ≡ bounds.now }
+    requires asked { AreAsked requests.now (map player_data players.old) }
     ensures seats { map (λ player. (player_in player).seat) players.new
         ≡ map (λ player. (player_in player).seat) players.old }
     ensures played { OnOk result (HaveAllPlayed bounds.now requests.now
         (map player_data players.old) (map player_data players.new)) }
 {
-    play_each(rt, bounds, world, players, requests);
+    play_each(rt, bounds, world, players);
     match first_stop(players) {
         Some(error) => Err(error),
         None => Ok(()),
@@ -105,32 +145,27 @@ fn play_each<A: Places + Send + Sync, B: Seats + Send + Sync, T: Threads + Wait 
     bounds: &Bounds,
     world: &World<A, B>,
     players: &mut [Player<A, B>],
-    requests: &[Request],
 )
     requires { world.now.bounds ≡ bounds.now }
     ensures seats { (k : ℕ) (d : _) → k < length players.old
         → (slice_index_or players.new k d).pass.seat ≡ (slice_index_or players.old k d).pass.seat }
     ensures played { (k : ℕ) (d : _) → k < length players.old
         → (slice_index_or players.new k d).stopped ≡ None
-        → HasPlayed bounds.now requests.now (player_data (slice_index_or players.old k d))
+        → HasPlayed bounds.now (slice_index_or players.old k d).asked.items
+        (player_data (slice_index_or players.old k d))
         (player_data (slice_index_or players.new k d)) }
 {
     at_once(
         rt,
-        &|some| is_asked(some, requests),
-        &|player| player.play(rt, bounds, world, requests),
+        &|some| is_any_asked(some),
+        &|player| player.play(rt, bounds, world),
         players,
     );
 }
 
-// Whether something is asked of one of these players, who stand in the order of their seats.
-fn is_asked<A: Places, B: Seats>(players: &[Player<A, B>], requests: &[Request]) -> bool {
-    match (players.first(), players.last()) {
-        (Some(first), Some(last)) => requests.iter().any(|request| {
-            first.pass.seat().number <= request.seat && request.seat <= last.pass.seat().number
-        }),
-        _ => false,
-    }
+// Whether something is asked of one of these players.
+fn is_any_asked<A: Places, B: Seats>(players: &[Player<A, B>]) -> bool {
+    players.iter().any(|player| !player.asked.is_empty())
 }
 
 // Why the first of the players stopped who did, if one did.

@@ -19,5 +19,5 @@ pub returns-in-None-clause-played : goal.returns-in-None-clause-played
 returns-in-None-clause-played g c =
     let players = c.play_each.new.players in
     let same = c.play_each.auto.players in
-    all_played player_data c.args.bounds.now c.args.requests.now c.args.players.now players same
+    all_played player_data c.args.bounds.now c.args.requests.now c.args.players.now players same c.requires.asked
     (λ k d below. c.play_each.ensures.played k d below (c.in-None.ensures refl k d (omega (arith, below, same))))

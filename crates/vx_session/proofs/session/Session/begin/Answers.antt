@@ -25,6 +25,7 @@ invariant_of-result g c =
         learnt = (k.seen, refl {a = k.seen});
       },
       world.bounds ∙ sym bounds,
+      c.in_ok-names.ensures ∙ c.names.ensures ∙ ap (λ (h : ChronicleData). h.opening.names) (sym world.chronicle),
       c.requires.workers.0,
       c.requires.workers.1,
       c.requires.sectors.1,
@@ -41,7 +42,7 @@ returns-clause-nothing g c =
     sym (map-map pass_in (λ p. p.pass) players) ∙ ap (map pass_in) c.in_ok-players.ensures in
     let sectors = length k.chronicle.opening.terrain.sectors in
     record {
-      marks = c.new-2.ensures.items;
+      marks = c.new-3.ensures.items;
       said = subst (AreSaid c.bounds-bounds.result sectors []) (sym seen)
           (nothing_said c.bounds-bounds.result sectors g.A.Places.all (map pass_in passes)
           (All-map (λ (pass : PassData). pass.lists ≡ replicate g.A.Places.all []) pass_in passes world.empty));

@@ -1,15 +1,10 @@
 use Rattle.std.proofs.Common.{◌<◌, length, get_or, map, sym, ap, ◌∙◌, subst, arith}
 use Rattle.std.proofs.lemmas.List.{with_items_is}
-use Rattle.vx_session.specs.Blocks.{AreCarriedOut, AreNumbered}
+use Rattle.vx_session.specs.Blocks.{AreCarriedOut}
 use Rattle.vx_session.specs.Sessions.{SessionData, Does, IsSession, edits_to, names_of, player_in, session_data}
 use Rattle.vx_audit.specs.Deeds.{Together}
-use Rattle.vx_session.proofs.Passing.{as_many_passes, block_by, numbered, seats_stay}
+use Rattle.vx_session.proofs.Passing.{as_many_passes, block_by, seats_stay}
 use Rattle.vx_session.proofs.session.Session.together.Goals as goal
-
-pub answers_of-requires-clause-numbered : goal.answers_of-requires-clause-numbered
-answers_of-requires-clause-numbered g c κs within =
-    subst (λ ps. AreNumbered (map player_in ps)) (sym c.deref_mut.ensures.value)
-    (numbered player_in _ _ c.self.inside.players.items _ _ c.self.invariant.0)
 
 pub answers_of-requires-clause-named : goal.answers_of-requires-clause-named
 answers_of-requires-clause-named g c κs within = λ k d below.
@@ -31,6 +26,7 @@ invariant_of-self-in_err-answers g c =
       inv.3,
       inv.4,
       inv.5,
+      inv.6,
     )
 
 pub invariant_of-self-2 : goal.invariant_of-self-2
@@ -47,6 +43,7 @@ invariant_of-self-2 g c =
       inv.3,
       inv.4,
       inv.5,
+      inv.6,
     )
 
 pub returns-clause-called : goal.returns-clause-called

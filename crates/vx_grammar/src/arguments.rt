@@ -37,6 +37,7 @@ pub fn item(words: &mut Words) -> Option<u16>
 }
 
 /// Reads a position: x, y and z.
+#[inline(always)]
 #[tactic(auto, unfolding(crate::specs::Readings::position_at))]
 pub fn position(words: &mut Words) -> Option<Pos>
     ensures { Reads result words.new (position_at words.old) }
@@ -77,6 +78,7 @@ fn action_of(word: &str) -> Option<Action>
 }
 
 /// Reads a player's name.
+#[inline(always)]
 #[tactic(auto, unfolding(crate::specs::Readings::name_at))]
 pub fn name(words: &mut Words) -> Option<Name>
     ensures { Reads (option_map (λ name. name.text.bytes) result) words.new (name_at words.old) }

@@ -5,6 +5,7 @@ use std::str;
 
 /// The number of 32 bits that a word spells: decimal digits, leading zeros among them, with an
 /// optional `-`.
+#[inline(always)]
 pub fn read_i32(word: &[u8]) -> Option<i32>
     ensures { result ≡ i32_of word.now }
 {
@@ -15,6 +16,7 @@ pub fn read_i32(word: &[u8]) -> Option<i32>
 }
 
 // The number that one to three digits spell, as most numbers are; none for any other word.
+#[inline(always)]
 fn read_short(word: &[u8]) -> Option<u16>
     ensures { IfSome result (λ n. i32_of word.now ≡ Some (pos n)) }
 {
@@ -61,6 +63,7 @@ fn digit(byte: u8) -> Option<u16>
 }
 
 // The number that any word spells.
+#[inline(never)]
 fn read_any(word: &[u8]) -> Option<i32>
     ensures { result ≡ i32_of word.now }
 {

@@ -174,6 +174,7 @@ fn set_line(words: &mut Words) -> Option<Line>
 }
 
 // Reads a position and a part, which end the line.
+#[inline(always)]
 #[tactic(auto, unfolding(crate::specs::ScriptLines::placed_part))]
 fn placed_part(words: &mut Words) -> Option<(Pos, Part)>
     ensures { result ≡ placed_part words.old }

@@ -13,10 +13,11 @@ use vx_decide::{Decide, Rule};
 use vx_geom::{Bounds, Pos};
 use vx_piston::Move;
 use vx_policy::Version;
-use vx_tick::{Fate, fates_by};
+use vx_tick::{Fate, Phase, denials, fates_by};
 
-/// What becomes of these moves, each beside the position of its piston, in their order. What denies
-/// them is told in as many parts as a world of this size has sectors.
+/// What becomes of these moves, each beside the position of its piston, in their order. Where there
+/// are several threads, what denies them is told in as many parts as a world of this size has
+/// sectors.
 pub fn fates_in_parts<R: Threads + Sync, G: Gate + Sync>(
     workers: &Workers<'_, R, G>,
     alloc: Global,
@@ -27,12 +28,12 @@ pub fn fates_in_parts<R: Threads + Sync, G: Gate + Sync>(
     ensures { IfOk result (λ fates.
         AreFates version.now.policy moves.now moves.now fates.items) }
 {
-    let denials = denials(workers, alloc, bounds, &version.policy, moves)?;
+    let denials = denials_by(workers, alloc, bounds, &version.policy, moves)?;
     fates_by(alloc, moves, denials.as_slice())
 }
 
 // What denies each of the moves, if anything does.
-fn denials<R: Threads + Sync, D: Decide + Sync, G: Gate + Sync>(
+fn denials_by<R: Threads + Sync, D: Decide + Sync, G: Gate + Sync>(
     workers: &Workers<'_, R, G>,
     alloc: Global,
     bounds: Bounds,
@@ -42,6 +43,10 @@ fn denials<R: Threads + Sync, D: Decide + Sync, G: Gate + Sync>(
     ensures { IfOk result (λ denials.
         denials.items ≡ map (denial (D.policy policy.now)) moves.now) }
 {
+    if workers.is_one() {
+        workers.begin(bounds.sectors(), Phase::Fates);
+        return denials(alloc, policy, moves);
+    }
     bounds.soundness();
     let work = FatesWork {
         policy,

@@ -24,7 +24,7 @@ use vx_places::Places;
 use vx_policy::Version;
 use vx_power::Leveled;
 use vx_still::{Waking, Watch};
-use vx_tick::{Found, Plan, Start, finished, kept, undisturbed};
+use vx_tick::{Found, Phase, Plan, Start, finished, kept, undisturbed};
 
 // A further thread pays where it has so many components to look at, or so many moves to judge.
 const COMPONENTS_EACH: usize = 2_048;
@@ -123,8 +123,12 @@ fn found<R: Threads + Sync, G: Gate + Sync, L: Leveled + Sync>(
         found.restless.items ≡ restless_up_to map.now (sector_count map.now.sizes)) }
     ensures moves { IfOk result (λ found. AreMoves map.now found.moves.items) }
 {
-    let work = PartsWork::new(map, levels, places);
     let looking = workers.at_most(lookers(map, places));
+    if looking.is_one() {
+        looking.begin(map.bounds().sectors(), Phase::Parts);
+        return Found::at(alloc, map, levels, places);
+    }
+    let work = PartsWork::new(map, levels, places);
     let pieces = looking.all(alloc, &work)?;
     Found::joined(alloc, pieces)
 }

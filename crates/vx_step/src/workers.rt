@@ -3,10 +3,12 @@ ghost use Rattle.vx_step.specs.declared.workers.TheConstants.{MAX_WORKERS};
 ghost use Rattle.vx_step.specs.Shares.{AreFromTo};
 
 use crate::gate::Gate;
+use crate::point::Point;
 use crate::shares::in_parts;
 use crate::work::Work;
 use std::alloc::{AllocError, Global};
 use std::thread::Threads;
+use vx_tick::Phase;
 
 /// A tick is worked by at most so many threads.
 pub const MAX_WORKERS: usize = 8;
@@ -35,6 +37,18 @@ impl<'a, R: Threads + Sync, G: Gate + Sync> Workers<'a, R, G> {
             rt: self.rt,
             count: self.count.min(count).max(1),
             gate: self.gate,
+        }
+    }
+
+    /// Whether there is one alone, to whom no sectors are shared out.
+    pub fn is_one(&self) -> bool {
+        self.count == 1
+    }
+
+    /// Calls the gate for each of so many sectors, where one thread begins a phase of all of them.
+    pub fn begin(&self, sectors: u32, phase: Phase) {
+        for sector in 0..sectors {
+            self.gate.at(sector, Point::Working(phase));
         }
     }
 

@@ -5,7 +5,7 @@ use Rattle.vx_cause.specs.Judging.{denial}
 use Rattle.vx_geom.specs.Sizes.{sector_count}
 use Rattle.vx_step.specs.Shares.{first_of, AreFromTo}
 use Rattle.vx_step.proofs.Sharing.{even_parts}
-use Rattle.vx_step.proofs.ending_parts.denials.Goals as goal
+use Rattle.vx_step.proofs.ending_parts.denials_by.Goals as goal
 
 pub returns : goal.returns
 returns g c =
@@ -18,5 +18,5 @@ returns g c =
     (even_parts (denial (g.D.Decide.policy c.args.policy.now)) (λ v. v.items) moves n pieces some
     (subst (λ k. AreFromTo (λ i v. v.items ≡ map (denial (g.D.Decide.policy c.args.policy.now))
     (between (first_of (length moves) k i) (first_of (length moves) k (i + 1)) moves)) 0 k pieces)
-    c.sectors.ensures c.in_ok-pieces.ensures))
+    c.sectors-2.ensures c.in_ok-pieces.ensures))
     c.joined.ensures

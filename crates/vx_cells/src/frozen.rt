@@ -198,7 +198,7 @@ impl<'a> Frozen<'a> {
             if let Some(found) = self.component_in_sector(x, y, z) {
                 return if found < end { Some(found) } else { None };
             }
-            x = span * (x / span + 1);
+            x = span * (self.bounds.sides(x) + 1);
         }
         None
     }

@@ -224,9 +224,8 @@ impl Stored {
         let p = Pos::new(x as i32, y as i32, z as i32);
         let index = self.bounds.index_in_sector(p);
         let found = self.marks.components.first_in_word(index)?;
-        let span = self.bounds.span();
         let column = x + (found - index);
-        if column / span == x / span {
+        if self.bounds.sides(column) == self.bounds.sides(x) {
             Some(column)
         } else {
             None

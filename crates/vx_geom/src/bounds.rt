@@ -86,6 +86,24 @@ impl Bounds {
         u32::from(self.h)
     }
 
+    /// How many columns the world has from west to east: 16 to 512.
+    pub fn columns(&self) -> u32
+        ensures value { result ≡ self.now.sx * span self.now }
+        ensures most { result ≤ MAX_COLUMNS_EACH_WAY }
+    {
+        self.soundness();
+        u32::from(self.sx) * self.span()
+    }
+
+    /// How many rows of columns it has from north to south: 16 to 512.
+    pub fn rows(&self) -> u32
+        ensures value { result ≡ self.now.sz * span self.now }
+        ensures most { result ≤ MAX_COLUMNS_EACH_WAY }
+    {
+        self.soundness();
+        u32::from(self.sz) * self.span()
+    }
+
     /// How many sectors there are: 1 to 256.
     pub fn sectors(&self) -> u32
         ensures { result ≡ sector_count self.now }
@@ -220,9 +238,9 @@ impl Bounds {
         (sector + 2 * (u32::from(self.sx) + 1) + 1).min(self.sectors())
     }
 
-    // How many whole sides of a sector so many columns are. Each width stands as a number, so that
-    // the machine need not divide.
-    fn sides(&self, columns: u32) -> u32
+    /// How many whole sides of a sector so many columns are.
+    // Each width stands as a number, so that the machine need not divide.
+    pub fn sides(&self, columns: u32) -> u32
         ensures { result ≡ columns / span self.now }
     {
         self.soundness();

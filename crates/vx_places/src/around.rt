@@ -1,6 +1,5 @@
 //! What of each coordinate lies within so many steps.
-ghost use Rattle.std.specs.Prelude.{◌≡◌, ◌*◌, ◌<◌, ◌≤◌, pos, ◌-ℤ◌, unsigned_abs};
-ghost use Rattle.vx_geom.specs.Sizes.{span};
+ghost use Rattle.std.specs.Prelude.{◌≡◌, ◌≤◌, pos, ◌-ℤ◌, unsigned_abs};
 ghost use Rattle.vx_geom.specs.declared.bounds.TheConstants.{HIGH_HEIGHT, MAX_COLUMNS_EACH_WAY};
 ghost use Rattle.vx_places.specs.Around.{least_within, end_within};
 
@@ -47,22 +46,4 @@ pub fn layers(bounds: Bounds) -> u32
 {
     bounds.soundness();
     bounds.height()
-}
-
-/// How many columns a world has from west to east.
-pub fn columns(bounds: Bounds) -> u32
-    ensures value { result ≡ bounds.sx * span bounds }
-    ensures most { result ≤ MAX_COLUMNS_EACH_WAY }
-{
-    bounds.soundness();
-    bounds.west(bounds.sectors() - 1) + bounds.span()
-}
-
-/// How many rows it has from north to south.
-pub fn rows(bounds: Bounds) -> u32
-    ensures value { result ≡ bounds.sz * span bounds }
-    ensures most { result ≤ MAX_COLUMNS_EACH_WAY }
-{
-    bounds.soundness();
-    bounds.north(bounds.sectors() - 1) + bounds.span()
 }

@@ -8,7 +8,7 @@ ghost use Rattle.vx_cells.specs.Maps.{cell_on};
 ghost use Rattle.vx_places.specs.Around.{is_component_around, at_number, layer_of, row_of, Adds};
 ghost use Rattle.vx_places.specs.Places.{marked_in, is_at, steps_between, HasRoom};
 
-use crate::around::{columns, end_within, layers, least_within, rows, steps_along};
+use crate::around::{end_within, layers, least_within, steps_along};
 use std::alloc::{AllocError, Global};
 use std::marker::Model;
 use vx_cells::{Frozen, marked_places};
@@ -146,7 +146,7 @@ impl Places {
             (at_number layer_of (is_component_around (cell_on map.now) p steps) y)
             self.old self.new) }
     {
-        let count = rows(self.bounds());
+        let count = self.bounds().rows();
         let left = steps - steps_along(p.y, y);
         let first = least_within(p.z, left, count);
         for z in first..end_within(p.z, left, count) {
@@ -175,7 +175,7 @@ impl Places {
             (at_number layer_of (is_component_around (cell_on map.now) p steps) y) z)
             self.old self.new) }
     {
-        let count = columns(self.bounds());
+        let count = self.bounds().columns();
         let left = steps - steps_along(p.y, y) - steps_along(p.z, z);
         let end = end_within(p.x, left, count);
         let mut next = least_within(p.x, left, count);

@@ -1,4 +1,4 @@
-use Rattle.std.proofs.Common.{◌≡◌, ◌≢◌, Bool, ◌+◌, ◌-◌, ◌*◌, ◌/◌, ap, subst, sym, ◌∙◌, arith}
+use Rattle.std.proofs.Common.{Bool, ◌+◌, ◌*◌, ◌/◌, ap, subst, sym, ◌∙◌, arith}
 use Rattle.std.proofs.lemmas.Int.{ints}
 use Rattle.vx_block.specs.Components.{is_component}
 use Rattle.vx_geom.specs.declared.pos.Pos.{Pos}
@@ -68,34 +68,32 @@ returns-in_err-found c =
     (marked_at is_component s.bounds s.sector s.store c.deref.result.now.components.words s.chests (marks_are (goal.at.returns-in_err-found c).After-deref))
     c.in_err-found.ensures))
 
-pub returns-then-column-span : goal.returns-then-column-span
-returns-then-column-span c =
+pub returns-then-sides : goal.returns-then-sides
+returns-then-sides c =
     let s = c.self.inside in
     let held = rw (← c.self.view_is) at c.requires in
     let low = low_inside _ _ _ _ c.soundness.ensures (inside_from_holds _ (place c.args.x c.args.y c.args.z) held) in
     let at =
     c.index_in_sector-index.ensures.value
     ∙ ap (index_in_sector s.bounds) (place_is _ _ _ _ low.0 low.1 low.2 c.new-p.ensures) in
-    let column = c.args.x + (c.in_ok-found.found - c.index_in_sector-index.result) in
     rw (← c.self.view_is)
     (found_in_row s.bounds c.soundness.ensures c.args.x c.args.y c.args.z c.index_in_sector-index.result at
     c.deref.result.now.components.words (λ p. is_component (cell_at (stored s.bounds s.sector s.store s.chests) p))
-    (marked_at is_component s.bounds s.sector s.store c.deref.result.now.components.words s.chests (marks_are (goal.at.returns-then-column-span c).After-deref))
+    (marked_at is_component s.bounds s.sector s.store c.deref.result.now.components.words s.chests (marks_are (goal.at.returns-then-sides c).After-deref))
     c.in_ok-found.found c.in_ok-found.ensures
-    (subst (λ w. column / w ≡ c.args.x / w) c.span-span.ensures c.if-column-span.true))
+    (sym c.sides.ensures ∙ c.if-sides.true ∙ c.sides-2.ensures))
 
-pub returns-else-column-span : goal.returns-else-column-span
-returns-else-column-span c =
+pub returns-else-sides : goal.returns-else-sides
+returns-else-sides c =
     let s = c.self.inside in
     let held = rw (← c.self.view_is) at c.requires in
     let low = low_inside _ _ _ _ c.soundness.ensures (inside_from_holds _ (place c.args.x c.args.y c.args.z) held) in
     let at =
     c.index_in_sector-index.ensures.value
     ∙ ap (index_in_sector s.bounds) (place_is _ _ _ _ low.0 low.1 low.2 c.new-p.ensures) in
-    let column = c.args.x + (c.in_ok-found.found - c.index_in_sector-index.result) in
     rw (← c.self.view_is)
     (found_past_row s.bounds c.soundness.ensures c.args.x c.args.y c.args.z c.index_in_sector-index.result at
     c.deref.result.now.components.words (λ p. is_component (cell_at (stored s.bounds s.sector s.store s.chests) p))
-    (marked_at is_component s.bounds s.sector s.store c.deref.result.now.components.words s.chests (marks_are (goal.at.returns-else-column-span c).After-deref))
+    (marked_at is_component s.bounds s.sector s.store c.deref.result.now.components.words s.chests (marks_are (goal.at.returns-else-sides c).After-deref))
     c.in_ok-found.found c.in_ok-found.ensures
-    (subst (λ w. column / w ≢ c.args.x / w) c.span-span.ensures c.if-column-span.false))
+    (λ same. c.if-sides.false (c.sides.ensures ∙ same ∙ sym c.sides-2.ensures)))

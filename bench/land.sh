@@ -9,9 +9,10 @@
 #   idle      20,000 ticks of 64 sectors with 100,000 blocks
 #   dust      200 ticks of 48,000 dust in rings, each beside a clock
 #   commands  400,000 commands without regions, among 50, and a fifth of them for chests; 100,000 among 500
-#   sweeps    seven, each with a row a point: regions at a place, regions over pistons, edits between ticks, sectors, dust that
-#             is awake, rings of dust whose source goes out, pistons; or one of them: place, pistons, edits_a_tick, sectors,
-#             awake, loops, machines
+#   sweeps    eight, each with a row a point: regions at a place, regions over pistons, edits
+#             between ticks, sectors, dust that is awake, rings of dust whose source goes out,
+#             pistons, chests in a sector; or one of them: place, pistons, edits_a_tick, sectors,
+#             awake, loops, machines, storage
 # Options:
 #   --server  the program to measure; without it the built server of this repository
 #   --plain   the program beside it; without it bench/plain.rs is compiled (rustc -O)
@@ -33,7 +34,7 @@ old=
 plots=
 workloads=
 sweeps=
-all_sweeps="place pistons edits_a_tick sectors awake loops machines"
+all_sweeps="place pistons edits_a_tick sectors awake loops machines storage"
 while [ $# -gt 0 ]; do
   case $1 in
     --server) server=$2; shift ;;
@@ -42,7 +43,9 @@ while [ $# -gt 0 ]; do
     --plots) plots=$2; shift ;;
     crowded | plots | works | edits | idle | dust | commands) workloads="$workloads $1" ;;
     sweeps) sweeps=$all_sweeps ;;
-    place | pistons | edits_a_tick | sectors | awake | loops | machines) sweeps="$sweeps $1" ;;
+    place | pistons | edits_a_tick | sectors | awake | loops | machines | storage)
+      sweeps="$sweeps $1"
+      ;;
     *) echo "no such workload or option: $1" >&2; exit 2 ;;
   esac
   shift
@@ -135,6 +138,10 @@ sweep_named() {
     awake) sweep awake sweep_awake "% of 4,800 dust awake, 1,000 ticks" 0.1 0.3 1 3 10 30 100 ;;
     loops) sweep loops sweep_loops "of 961 rings of 24 dust run, 200 ticks" 1 4 16 64 256 961 ;;
     machines) sweep machines sweep_machines "pistons, 200 ticks" 10 100 1000 4000 12000 ;;
+    storage)
+      sweep storage sweep_storage "chests in a sector, a change before each of 20,000 ticks" \
+        16 64 256 1000 4000 16000 40000
+      ;;
   esac
 }
 

@@ -305,6 +305,21 @@ def sweep_machines(r, count):
     return world(8) + list(clocked_pistons(r, count, 256, layers=(0, 8))) + ["tick"], ticks(200)
 
 
+def sweep_storage(r, count):
+    """So many chests in one sector, and 20,000 ticks, before each of which an item is put into a
+    slot, or, at each fifth, taken out of the slot that it was put into before."""
+    at = [f"{cell % 32} {cell // 1024} {cell // 32 % 32}" for cell in r.sample(range(65536), count)]
+    body = []
+    for n in range(20_000):
+        if n % 5 < 4:
+            chest, slot = r.choice(at), r.randrange(27)
+            body.append(f"as ann put {chest} {slot} 7 1")
+        else:
+            body.append(f"as ann take {chest} {slot} 1")
+        body.append("tick")
+    return world(1) + [f"set {p} chest" for p in at] + ["tick"], body
+
+
 SCRIPTS = {
     "crowded": crowded,
     "plots": plots,
@@ -323,6 +338,7 @@ SCRIPTS = {
     "sweep_awake": sweep_awake,
     "sweep_loops": sweep_loops,
     "sweep_machines": sweep_machines,
+    "sweep_storage": sweep_storage,
 }
 
 

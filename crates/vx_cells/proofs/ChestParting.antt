@@ -17,8 +17,8 @@ pub parts_taken : (old new : Vec ChestData) → (new ≡ old) ⊎ (AllZip (λ p 
 parts_taken old new (inl same) = ap (λ (v : Vec ChestData). v.items) same
 parts_taken old new (inr copied) = same_from_all_zip (λ p q. q ≡ p) old.items new.items copied.0 (λ p q same. same)
 
--- each part is one of the 64
-pub part_below : (index : ℕ) → part_of index < 64
+-- each part is one of the 61
+pub part_below : (index : ℕ) → part_of index < 61
 unfolding part_of
 part_below index = omega arith
 
@@ -171,7 +171,7 @@ empty_part zero k part there = cc
 empty_part (suc n) zero part there = let same : [] ≡ part = cc in sym same
 empty_part (suc n) (suc k) part there = empty_part n k part there
 
-pub parted_empty : (parts : List ChestData) (n : ℕ) → parts ≡ replicate n [] → n ≡ 64 → AreParted parts
+pub parted_empty : (parts : List ChestData) (n : ℕ) → parts ≡ replicate n [] → n ≡ 61 → AreParted parts
 parted_empty parts n are count = record {
   count = ap length are ∙ length-replicate n [] ∙ count;
   own = λ k part index there other. ap (λ d. slots_of_chest d index) (empty_part n k part (ap (λ ps. slice_get ps k) (sym are) ∙ there));

@@ -5,14 +5,14 @@ use Rattle.vx_cells.specs.Chests.{ChestData, slots_of_chest}
 
 -- the number of the part in which the chest at an index stands
 unfoldable pub part_of : ℕ → ℕ
-part_of index = index % 64
+part_of index = index % 61
 
 -- the chests of all parts
 abbrev pub chests_of : List ChestData → ChestData
 chests_of parts = flat_map (λ part. part) parts
 
--- there are 64 parts, and each chest stands in its own part alone
+-- there are 61 parts, and each chest stands in its own part alone
 pub record AreParted (parts : List ChestData) : Type 0 where
-  pub count : length parts ≡ 64
+  pub count : length parts ≡ 61
   pub own : (k : ℕ) (part : ChestData) (index : ℕ) → slice_get parts k ≡ Some part
       → part_of index ≢ k → slots_of_chest part index ≡ None

@@ -14,8 +14,8 @@ use std::marker::Model;
 use std::sync::Arc;
 use vx_section::Sections;
 
-// The chests stand in so many parts.
-const PARTS: u32 = 64;
+// The chests stand in so many parts: a prime, so that rows, walls and columns spread over all.
+const PARTS: u32 = 61;
 
 /// The slots of the chests in one sector by their indices, in parts by the rest that an index
 /// leaves. Copies share all parts, and a change copies one of them.
@@ -107,7 +107,7 @@ impl Clone for ChestParts {
 #[tactic(auto, unfolding(crate::specs::ChestParts::part_of))]
 fn part_of(index: u32) -> usize
     ensures value { result ≡ part_of index }
-    ensures within { result < 64 }
+    ensures within { result < 61 }
 {
     (index % PARTS) as usize
 }

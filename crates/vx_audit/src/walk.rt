@@ -21,6 +21,8 @@ use vx_windows::MAX_PLAYERS;
 #[derive(Drop)]
 pub(crate) struct Walk<'a> {
     lefts: Vec<&'a [Entry]>,
+    // Where it is set, nothing is left of any window; where it is not, all are looked at.
+    none_left: bool,
     ticks: &'a [Tick],
     pending: &'a [Vec<Entry>],
     version: &'a Version,
@@ -30,11 +32,11 @@ pub(crate) struct Walk<'a> {
 }
 
 impl<'a> Model for Walk<'a> {
-    ghost use Rattle.std.specs.Prelude.{map};
+    ghost use Rattle.std.specs.Prelude.{◌≡◌, true, map};
     ghost use Rattle.vx_sector.specs.SectorData.{entry_of};
     ghost use Rattle.vx_windows.specs.Sectors.{entries_in};
     ghost use Rattle.vx_record.specs.Records.{tick_in};
-    ghost use Rattle.vx_audit.specs.Walks.{WalkData};
+    ghost use Rattle.vx_audit.specs.Walks.{AreDone, WalkData};
 
     ghost Value = { WalkData };
 
@@ -45,6 +47,9 @@ impl<'a> Model for Walk<'a> {
       last = a.version.now;
       edits = a.edits;
     } };
+
+    ghost invariant = { λ a. a.none_left ≡ true
+        → AreDone (map (λ left. map entry_of left.now) a.lefts.items) };
 }
 
 impl<'a> Walk<'a> {
@@ -64,6 +69,7 @@ impl<'a> Walk<'a> {
         let first = Windows::first(ticks, windows);
         Ok(Walk {
             lefts: all_left(alloc, &first)?,
+            none_left: false,
             ticks,
             pending: windows,
             version,
@@ -76,7 +82,14 @@ impl<'a> Walk<'a> {
     pub(crate) fn is_end(&self) -> bool
         ensures { result ≡ true → IsEnd self.now }
     {
-        self.ticks.is_empty() && are_done(&self.lefts)
+        self.ticks.is_empty() && self.is_done()
+    }
+
+    // Whether nothing is left of the windows at hand.
+    fn is_done(&self) -> bool
+        ensures { result ≡ true → AreDone self.now.lefts }
+    {
+        self.none_left || are_done(&self.lefts)
     }
 
     // Goes on by the marks of the next deed, if the record has it next, and hands out the marks
@@ -120,6 +133,7 @@ impl<'a> Walk<'a> {
             return false;
         }
         *left = rest;
+        self.none_left = false;
         true
     }
 
@@ -128,6 +142,7 @@ impl<'a> Walk<'a> {
         ensures { IfSome result (λ others. GoesOnBlock self.old marks.now self.new others.now) }
     {
         let others = count_block(&mut self.counts, marks)?;
+        self.none_left = false;
         if !take_counted(&mut self.lefts, &self.counts) {
             return None;
         }
@@ -156,11 +171,18 @@ impl<'a> Walk<'a> {
         };
         // Read, so that the proof has a name for it.
         let _ = tick.number;
-        if !are_done(&self.lefts) || version_of(ticks, self.version).edits != self.edits {
+        if !self.is_done() || version_of(ticks, self.version).edits != self.edits {
             return false;
         }
         self.ticks = ticks;
-        begin_windows(&mut self.lefts, &Windows::first(ticks, self.pending))
+        let next = Windows::first(ticks, self.pending);
+        if next.is_quiet() && next.count() == self.lefts.len() {
+            // They are what is left of those before: nothing of any.
+            self.none_left = true;
+            return true;
+        }
+        self.none_left = false;
+        begin_windows(&mut self.lefts, &next)
     }
 }
 

@@ -1,9 +1,9 @@
-ghost use Rattle.std.specs.Prelude.{◌≡◌, [], length, map, slice_index_or};
+ghost use Rattle.std.specs.Prelude.{◌≡◌, true, [], length, map, slice_index_or};
 ghost use Rattle.vx_sector.specs.SectorData.{entry_of};
 ghost use Rattle.vx_windows.specs.Sectors.{entries_in};
 ghost use Rattle.vx_record.specs.Records.{tick_in};
 ghost use Rattle.vx_audit.specs.Shown.{shown};
-ghost use Rattle.vx_audit.specs.Walks.{windows_in};
+ghost use Rattle.vx_audit.specs.Walks.{AreDone, windows_in};
 
 use vx_record::{ClosedWindows, Tick};
 use vx_sector::Entry;
@@ -34,6 +34,16 @@ impl<'a> Windows<'a> {
         match *self {
             Windows::Closed(windows) => windows.count(),
             Windows::Open(windows) => windows.len(),
+        }
+    }
+
+    /// Whether none has an entry; the open ones are not looked at, and may have none either.
+    pub(crate) fn is_quiet(&self) -> bool
+        ensures { result ≡ true → AreDone (shown self.now) }
+    {
+        match *self {
+            Windows::Closed(windows) => windows.is_quiet(),
+            Windows::Open(_) => false,
         }
     }
 

@@ -1,4 +1,5 @@
-ghost use Rattle.std.specs.Prelude.{◌≡◌, ◌≤◌, map, length, slice_index_or, vec_capacity, []};
+ghost use Rattle.std.specs.List.{All};
+ghost use Rattle.std.specs.Prelude.{◌≡◌, ◌≤◌, true, map, length, slice_index_or, vec_capacity, []};
 ghost use Rattle.vx_sector.specs.SectorData.{entry_of};
 ghost use Rattle.vx_windows.specs.Sectors.{entries_in};
 ghost use Rattle.vx_record.specs.Kept.{busy_count};
@@ -52,6 +53,13 @@ impl ClosedWindows {
         ensures { result ≡ length self.now }
     {
         self.sectors
+    }
+
+    /// Whether no window has an entry; it looks at none.
+    pub fn is_quiet(&self) -> bool
+        ensures { result ≡ true → All (λ window. window ≡ []) self.now }
+    {
+        self.kept.is_empty()
     }
 
     /// The record of the window of that number; empty where there is none.

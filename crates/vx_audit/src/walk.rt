@@ -174,15 +174,15 @@ impl<'a> Walk<'a> {
         if !self.is_done() || version_of(ticks, self.version).edits != self.edits {
             return false;
         }
-        self.ticks = ticks;
         let next = Windows::first(ticks, self.pending);
-        if next.is_quiet() && next.count() == self.lefts.len() {
-            // They are what is left of those before: nothing of any.
-            self.none_left = true;
-            return true;
+        if next.count() != self.lefts.len() {
+            return false;
         }
-        self.none_left = false;
-        begin_windows(&mut self.lefts, &next)
+        self.ticks = ticks;
+        // Nothing was left of the windows before, so what has no entries stands as it is.
+        self.none_left = next.is_quiet();
+        next.put_into(&mut self.lefts);
+        true
     }
 }
 
@@ -212,25 +212,10 @@ fn all_left<'a>(alloc: Global, windows: &Windows<'a>) -> Result<Vec<&'a [Entry]>
     ensures { IfOk result (λ lefts.
         map (λ left. map entry_of left.now) lefts.items ≡ shown windows.now) }
 {
-    let mut lefts = Vec::with_capacity(alloc, windows.count())?;
-    for at in 0..windows.count() {
-        lefts.push(windows.window(at))?;
-    }
+    let none: &'a [Entry] = &[];
+    let mut lefts = vec![in alloc; none; windows.count()]?;
+    windows.put_into(&mut lefts);
     Ok(lefts)
-}
-
-// Puts these windows in the place of what was left of those before, if there are as many.
-fn begin_windows<'a>(lefts: &mut [&'a [Entry]], windows: &Windows<'a>) -> bool
-    ensures { result ≡ true
-        → map (λ left. map entry_of left.now) lefts.new ≡ shown windows.now }
-{
-    if lefts.len() != windows.count() {
-        return false;
-    }
-    for at in 0..windows.count() {
-        lefts[at] = windows.window(at);
-    }
-    true
 }
 
 // Whether nothing is left of any.

@@ -1,4 +1,4 @@
-ghost use Rattle.std.specs.Prelude.{◌≡◌, true, [], length, map, slice_index_or};
+ghost use Rattle.std.specs.Prelude.{◌≡◌, true, length, map};
 ghost use Rattle.vx_sector.specs.SectorData.{entry_of};
 ghost use Rattle.vx_windows.specs.Sectors.{entries_in};
 ghost use Rattle.vx_record.specs.Records.{tick_in};
@@ -47,23 +47,26 @@ impl<'a> Windows<'a> {
         }
     }
 
-    /// The entries of the window of that number; none where there is no such window.
-    pub(crate) fn window(&self, at: usize) -> &'a [Entry]
-        ensures { map entry_of result.now ≡ slice_index_or (shown self.now) at [] }
+    /// Puts the entries of each window in the place of its number, where as many places are empty.
+    /// Of closed windows it goes to those alone that have entries.
+    pub(crate) fn put_into(&self, places: &mut [&'a [Entry]])
+        requires as_many { length places.old ≡ length (shown self.now) }
+        requires empty { AreDone (map (λ place. map entry_of place.now) places.old) }
+        ensures { map (λ place. map entry_of place.now) places.new ≡ shown self.now }
     {
         match *self {
-            Windows::Closed(windows) => windows.window(at),
-            Windows::Open(windows) => open_window(windows, at),
+            Windows::Closed(windows) => windows.put_into(places),
+            Windows::Open(windows) => put_open(windows, places),
         }
     }
 }
 
-// The entries of the open window of that number.
-fn open_window(windows: &[Vec<Entry>], at: usize) -> &[Entry]
-    ensures { map entry_of result.now ≡ slice_index_or (map entries_in windows.now) at [] }
+// Puts the entries of each open window in the place of its number.
+fn put_open<'a>(windows: &'a [Vec<Entry>], places: &mut [&'a [Entry]])
+    requires { length places.old ≡ length windows.now }
+    ensures { map (λ place. map entry_of place.now) places.new ≡ map entries_in windows.now }
 {
-    match windows.get(at) {
-        Some(window) => window,
-        None => &[],
+    for (at, window) in windows.iter().enumerate() {
+        places[at] = window;
     }
 }

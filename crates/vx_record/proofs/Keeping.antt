@@ -4,7 +4,7 @@ use Rattle.std.specs.List.{All, count_by, enumerate_from, filter}
 use Rattle.std.specs.List.Sorted.{IsNonDecreasingBy, IsPartitionPoint}
 use Rattle.std.proofs.Math.Dec.{ltb}
 use Rattle.std.proofs.lemmas.Bool.{cases_lt, ltb-false, ltb-true}
-use Rattle.std.proofs.lemmas.List.{length-set, length-replicate, get_or-map, get_or-set_same, get_or-set_other, set_at, set-append_left, replicate_more, take_more}
+use Rattle.std.proofs.lemmas.List.{length-set, length-replicate, length-take-le, get_or-map, get_or-set_same, get_or-set_other, get_or-take, get_or_default, set_at, set_comm, set-append_left, replicate_more, take_more}
 use Rattle.std.proofs.lemmas.List.Elements.{All-tail, All-push}
 use Rattle.std.proofs.lemmas.List.FromFn.{length-enumerate_from, get_or-enumerate_from}
 use Rattle.std.proofs.lemmas.List.Quantifiers.{all_pairs_push}
@@ -137,6 +137,44 @@ kept_more n (window ∷ kept) last below is_last =
     (kept_more n kept last (All-tail (λ w. w.sector < n) window kept below) is_last)
     ∙ set-append_left (windows_kept n kept) (entries_in last.entries ∷ []) window.sector (entries_in window.entries)
     (omega (arith, as_many n kept, below 0 window (omega arith)))
+
+-- a window that is kept is of a later sector than those before it
+pub later_than : (sectors : ℕ) (kept : List KeptWindow) (i : ℕ) (window : KeptWindow)
+    → AreInOrder sectors kept → i < length kept → window ≡ get_or kept i window
+    → All (λ w. w.sector < window.sector) (take i kept)
+later_than sectors kept i window order within here k d before =
+    let early : k < i = omega (arith, before, length-take-le i kept (omega (arith, within))) in
+    subst (λ w. w.sector < window.sector) (sym (get_or-take i kept k d early))
+    (subst (λ w. (get_or kept k d).sector < w.sector) (get_or_default kept i d window within ∙ sym here)
+    (order.0 k i d early within))
+
+-- its sector is one of so many
+pub is_below : (sectors : ℕ) (kept : List KeptWindow) (i : ℕ) (window : KeptWindow)
+    → AreInOrder sectors kept → i < length kept → window ≡ get_or kept i window
+    → window.sector < sectors
+is_below sectors kept i window order within here =
+    subst (λ w. w.sector < sectors) (sym here) (order.1 i window within)
+
+-- a window of a later sector than those before it is put in its place
+pub put_last : (n : ℕ) (kept : List KeptWindow) (last : KeptWindow)
+    → All (λ w. w.sector < last.sector) kept
+    → windows_kept n (kept ++ last ∷ []) ≡ set (windows_kept n kept) last.sector (entries_in last.entries)
+put_last n [] last before = refl
+put_last n (window ∷ kept) last before =
+    ap (λ ws. set ws window.sector (entries_in window.entries))
+    (put_last n kept last (All-tail (λ w. w.sector < last.sector) window kept before))
+    ∙ set_comm (windows_kept n kept) last.sector window.sector
+    (entries_in last.entries) (entries_in window.entries)
+    (λ same. absurd (omega (arith, same, before 0 window (omega arith))))
+
+-- places that are all empty
+pub all_empty : (places : List (List EntryData)) → All (λ place. place ≡ []) places
+    → places ≡ replicate (length places) []
+all_empty [] empty = refl
+all_empty (place ∷ places) empty =
+    let first : place ≡ [] = empty 0 place (omega arith) in
+    let others = all_empty places (All-tail (λ es. es ≡ []) place places empty) in
+    λ i. first i ∷ others i
 
 -- how many have entries, counted one by one
 count_each : {X : Type 0} (entries : X → List EntryData) (xs : List X)

@@ -72,4 +72,17 @@ impl ClosedWindows {
             _ => &[],
         }
     }
+
+    /// Puts the entries of each window in the place of its number, where as many places are empty.
+    /// It goes to those alone that have entries.
+    pub fn put_into<'a>(&'a self, places: &mut [&'a [Entry]])
+        requires as_many { length places.old ≡ length self.now }
+        requires empty { All (λ place. place ≡ [])
+            (map (λ place. map entry_of place.now) places.old) }
+        ensures { map (λ place. map entry_of place.now) places.new ≡ self.now }
+    {
+        for window in &self.kept {
+            places[window.sector] = &window.entries;
+        }
+    }
 }

@@ -1,4 +1,5 @@
 pub mod Bytes
 pub mod Lists
 pub mod Named
+pub mod Parts
 pub mod Signed

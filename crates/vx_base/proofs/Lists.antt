@@ -2,7 +2,7 @@
 -- The item of the step is given by `slice_get xs i ≡ Some x`, as the getters of the crates above say it. With the invariant
 -- `list_any p (drop l.i xs) ≡ list_any p xs` a return of true is `sym (any_here ..) ∙ invariant`, the next step
 -- `sym (any_next ..) ∙ invariant`, and the end `sym (any_end ..) ∙ invariant`; the same for `find`.
-use Rattle.std.proofs.Common.{◌≡◌, ℕ, zero, suc, ◌+◌, ◌≤◌, Bool, true, false, ◌||◌, cond, List, [], ◌∷◌, ◌++◌, length, drop, None, Some, refl, sym, ap, ◌∙◌, inl, inr, add-one}
+use Rattle.std.proofs.Common.{◌≡◌, ◌≢◌, ℕ, zero, suc, ◌+◌, ◌<◌, ◌≤◌, Bool, true, false, ◌||◌, cond, List, [], ◌∷◌, ◌++◌, length, drop, slice_set, slice_index_or, None, Some, arith, refl, sym, ap, ◌∙◌, inl, inr, add-one}
 use Rattle.std.specs.List.{slice_get, list_any, find}
 use Rattle.std.proofs.lemmas.Bool.{cases_Bool, or_from}
 use Rattle.std.proofs.lemmas.List.{at_drop_all}
@@ -73,3 +73,34 @@ none_found p (y ∷ xs) none =
       | inl passes ↦ let here : Some y ≡ None = rw passes at none in cc
       | inr fails ↦ or_from _ _ fails (none_found p xs (rw fails at none))
     ]
+
+-- what stands at a place was read there
+pub read_is : {X : Type 0} (xs : List X) (k : ℕ) (x : X) → k < length xs → x ≡ slice_index_or xs k x → slice_get xs k ≡ Some x
+read_is [] k x within read = absurd (omega arith)
+read_is (y ∷ xs) zero x within read = ap Some (sym read)
+read_is (y ∷ xs) (suc k) x within read = read_is xs k x (omega arith) read
+
+-- something stands at each place of a list
+pub item_there : {X : Type 0} (xs : List X) (k : ℕ) → k < length xs → (x : X) × (slice_get xs k ≡ Some x)
+item_there [] k within = absurd (omega arith)
+item_there (x ∷ xs) zero within = (x, refl)
+item_there (x ∷ xs) (suc k) within = item_there xs k (omega arith)
+
+-- what is read where something was put, and elsewhere
+pub set_here : {X : Type 0} (xs : List X) (k : ℕ) (x : X) → k < length xs → slice_get (slice_set xs k x) k ≡ Some x
+set_here [] k x within = absurd (omega arith)
+set_here (y ∷ xs) zero x within = refl
+set_here (y ∷ xs) (suc k) x within = set_here xs k x (omega arith)
+
+pub set_beside : {X : Type 0} (xs : List X) (k j : ℕ) (x : X) → j ≢ k → slice_get (slice_set xs k x) j ≡ slice_get xs j
+set_beside [] k j x other = refl
+set_beside (y ∷ xs) zero zero x other = absurd (other refl)
+set_beside (y ∷ xs) zero (suc j) x other = refl
+set_beside (y ∷ xs) (suc k) zero x other = refl
+set_beside (y ∷ xs) (suc k) (suc j) x other = set_beside xs k j x (λ same. other (ap suc same))
+
+-- what was read at a place and is put back there changes nothing
+pub set_back : {X : Type 0} (xs : List X) (k : ℕ) (x : X) → x ≡ slice_index_or xs k x → slice_set xs k x ≡ xs
+set_back [] k x read = refl
+set_back (y ∷ xs) zero x read = ap (λ z. z ∷ xs) read
+set_back (y ∷ xs) (suc k) x read = ap (λ ys. y ∷ ys) (set_back xs k x read)

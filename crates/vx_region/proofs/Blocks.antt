@@ -6,6 +6,7 @@ use Rattle.std.specs.Option.{IfSome}
 use Rattle.std.proofs.lemmas.List.Edits.{remove-append_left, remove-append_right}
 use Rattle.std.proofs.lemmas.Map.Entries.{entries_from_clone}
 use borrow.Author.Tests.{ltb-true, ltb-false}
+use Rattle.vx_base.proofs.Lists.{read_is}
 use Rattle.vx_region.specs.Blocks.{BlockData, joined, with_entries, AreInPlace, HaveMore, Holds, entry_at, written_at}
 use Rattle.vx_region.specs.Regions.{RegionData, Entry}
 
@@ -20,12 +21,6 @@ pub within_list : {X : Type 0} (es : List X) (i : ℕ) (e : X) → slice_get es 
 within_list [] i e there = cc
 within_list (d ∷ es) zero e there = omega arith
 within_list (d ∷ es) (suc i) e there = omega (arith, within_list es i e there)
-
--- what stands at a place was read there
-pub read_is : {X : Type 0} (es : List X) (i : ℕ) (e : X) → i < length es → e ≡ slice_index_or es i e → slice_get es i ≡ Some e
-read_is [] i e within read = absurd (omega arith)
-read_is (d ∷ es) zero e within read = ap Some (sym read)
-read_is (d ∷ es) (suc i) e within read = read_is es i e (omega arith) read
 
 -- a region written over at a place, its number kept
 set_is : (es : List Entry) (i : ℕ) (e : Entry) (w : RegionData) → i < length es → e ≡ slice_index_or es i e → slice_set es i (e.0, w) ≡ written_at es i w

@@ -4,6 +4,7 @@ ghost use Rattle.std.specs.Map.{lookup};
 ghost use Rattle.vx_region.specs.IdIndex.{same_id};
 ghost use Rattle.vx_region.specs.IdParts.{part_of, ids_of, AreParted, HaveChanged};
 ghost use Rattle.vx_region.specs.IdUpdates.{IsUpdated};
+ghost use Rattle.vx_region.specs.declared.id_numbers.TheConstants.{PARTS};
 
 use crate::id::Id;
 use crate::id_part::IdPart;
@@ -105,7 +106,7 @@ impl Clone for IdNumbers {
 #[tactic(auto, unfolding(crate::specs::IdParts::part_of))]
 fn part_of(id: &Id) -> usize
     ensures value { result ≡ part_of id.now.text.bytes }
-    ensures within { result < 64 }
+    ensures within { result < PARTS }
 {
     let mut part = 0;
     for byte in id.as_str().as_bytes() {

@@ -1,5 +1,6 @@
 use Rattle.std.proofs.Common.{◌≡◌, ◌+◌, ◌-◌, ◌/◌, ◌<◌, length, slice_get, Some, arith}
-use Rattle.vx_region.proofs.Blocks.{read_is, starts_at, search_ends}
+use Rattle.vx_base.proofs.Lists.{read_is}
+use Rattle.vx_region.proofs.Blocks.{starts_at, search_ends}
 use Rattle.vx_region.proofs.region_list.block_of.Goals as goal
 
 pub loop-high-preserved-then-start-place : goal.loop-high-preserved-then-start-place

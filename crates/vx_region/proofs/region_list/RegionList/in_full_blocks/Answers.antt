@@ -1,6 +1,7 @@
 use Rattle.std.proofs.Common.{◌≡◌, ◌/◌, List, Some, slice_get, subst}
 use Rattle.vx_region.specs.Blocks.{BlockData}
-use Rattle.vx_region.proofs.Blocks.{read_is, shown}
+use Rattle.vx_base.proofs.Lists.{read_is}
+use Rattle.vx_region.proofs.Blocks.{shown}
 use Rattle.vx_region.proofs.region_list.RegionList.in_full_blocks.Goals as goal
 
 pub returns : goal.returns

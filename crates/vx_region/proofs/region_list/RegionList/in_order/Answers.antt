@@ -1,7 +1,8 @@
 use Rattle.std.proofs.Common.{◌≡◌, List, Some, slice_get, sym, subst}
 use Rattle.vx_region.specs.Blocks.{BlockData}
 use Rattle.vx_region.specs.Regions.{Entry}
-use Rattle.vx_region.proofs.Blocks.{read_is, found_in}
+use Rattle.vx_base.proofs.Lists.{read_is}
+use Rattle.vx_region.proofs.Blocks.{found_in}
 use Rattle.vx_region.proofs.Places.{found_at}
 use Rattle.vx_region.proofs.region_list.RegionList.in_order.Goals as goal
 

@@ -1,6 +1,7 @@
 use Rattle.std.proofs.Common.{◌≡◌, slice_get, Some, sym, ◌∙◌}
 use Rattle.vx_region.specs.Blocks.{Holds}
-use Rattle.vx_region.proofs.Blocks.{read_is, holds_there, entry_is, block_read}
+use Rattle.vx_base.proofs.Lists.{read_is}
+use Rattle.vx_region.proofs.Blocks.{holds_there, entry_is, block_read}
 use Rattle.vx_region.proofs.region_list.RegionList.nth.Goals as goal
 
 pub returns : goal.returns

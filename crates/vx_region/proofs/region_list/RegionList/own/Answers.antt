@@ -3,7 +3,8 @@ use Rattle.std.specs.Option.{IfSome}
 use Rattle.vx_region.specs.Blocks.{joined, Holds}
 use Rattle.vx_region.specs.Forest.{IsAscending}
 use Rattle.vx_region.specs.Regions.{Entry}
-use Rattle.vx_region.proofs.Blocks.{read_is, holds_there}
+use Rattle.vx_base.proofs.Lists.{read_is}
+use Rattle.vx_region.proofs.Blocks.{holds_there}
 use Rattle.vx_region.proofs.Places.{list_read, list_written, list_in_place, list_counted}
 use Rattle.vx_region.proofs.region_list.RegionList.own.Goals as goal
 

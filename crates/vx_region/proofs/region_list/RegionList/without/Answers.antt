@@ -1,6 +1,7 @@
 use Rattle.std.proofs.Common.{◌≡◌, ◌∙◌, ◌++◌, ◌+◌, ◌-◌, suc, List, Some, slice_get, take, drop, length, remove, append_assoc, ap}
 use Rattle.vx_region.specs.Blocks.{BlockData, Holds, joined}
-use Rattle.vx_region.proofs.Blocks.{read_is, holds_there, block_removed, rest_of}
+use Rattle.vx_base.proofs.Lists.{read_is}
+use Rattle.vx_region.proofs.Blocks.{holds_there, block_removed, rest_of}
 use Rattle.vx_region.proofs.region_list.RegionList.without.Goals as goal
 
 pub returns : goal.returns

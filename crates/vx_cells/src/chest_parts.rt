@@ -5,6 +5,7 @@ ghost use Rattle.vx_cells.specs.ChestParts.{chests_of, part_of, AreParted};
 ghost use Rattle.vx_cells.specs.Chests.{slots_of_chest, Changes, SameSlots, begun, refilled};
 ghost use Rattle.vx_cells.specs.Codes.{code_count, cell_of};
 ghost use Rattle.vx_cells.specs.SectorCells.{is_chest};
+ghost use Rattle.vx_cells.specs.declared.chest_parts.TheConstants.{PARTS};
 ghost use Rattle.vx_cells.specs.declared.stack.TheConstants.{SLOTS};
 
 use crate::chest_part::ChestPart;
@@ -107,7 +108,7 @@ impl Clone for ChestParts {
 #[tactic(auto, unfolding(crate::specs::ChestParts::part_of))]
 fn part_of(index: u32) -> usize
     ensures value { result ≡ part_of index }
-    ensures within { result < 61 }
+    ensures within { result < PARTS }
 {
     (index % PARTS) as usize
 }

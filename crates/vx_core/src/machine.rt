@@ -11,7 +11,7 @@ use std::marker::Model;
 use vx_board::{DeskError, Naming};
 use vx_play::{Play, Ticked};
 use vx_policy::Edit;
-use vx_record::{Chronicle, ClosedWindows, Opening, Tick, busy};
+use vx_record::{Chronicle, ClosedWindows, Opening, Tick, busy_windows};
 use vx_sector::{Cmd, Refusal};
 use vx_tick::Phase;
 use vx_windows::MAX_TICKS;
@@ -174,7 +174,7 @@ impl<J: Naming> Machine<J> {
         let Ok(Ticked { windows, fates }) = self.play.tick(alloc) else {
             return Err(AllocError);
         };
-        let room = Vec::with_capacity(alloc, busy(&windows))?;
+        let room = Vec::with_capacity(alloc, busy_windows(&windows))?;
         self.ticks.push(Tick {
             number,
             version,

@@ -256,8 +256,15 @@ impl<A: Places> Keeper<A> {
         self.soundness();
         are_sectors(sectors);
         self.archive.reserve()?;
-        let is_same = version.edits == self.known.version().edits;
-        Ready::new(alloc, self.known.bounds(), sectors, version, is_same, work)
+        let is_same_policy = version.edits == self.known.version().edits;
+        Ready::new(
+            alloc,
+            self.known.bounds(),
+            sectors,
+            version,
+            is_same_policy,
+            work,
+        )
     }
 
     /// Makes the tick: closes the windows of these sectors, adds them with what becomes of the

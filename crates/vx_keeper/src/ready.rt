@@ -43,18 +43,18 @@ impl Ready {
         bounds: Bounds,
         sectors: &[Sector],
         version: Version,
-        is_same: bool,
+        is_same_policy: bool,
         work: Work,
     ) -> Result<Ready, AllocError>
         requires placed { AreSectors bounds (map cells_of sectors.now) }
-        requires same { is_same ≡ true
+        requires same { is_same_policy ≡ true
             → All (λ s. record s.version { tick = version.tick } ≡ version) sectors.now }
         ensures { IfOk result (λ ready. IsReady bounds sectors.now work version ready) }
     {
         let Work { plan, watch } = work;
         let told = plan.fates.as_slice().to_vec(alloc)?;
         let changes = cells_after(alloc, bounds, sectors, plan.puts.as_slice())?;
-        let fresh = all_fresh(alloc, sectors, &changes, &version, is_same)?;
+        let fresh = all_fresh(alloc, sectors, &changes, &version, is_same_policy)?;
         let windows = Vec::with_capacity(alloc, sectors.len())?;
         let kept = Vec::with_capacity(alloc, busy_sectors(sectors))?;
         Ok(Ready {

@@ -55,9 +55,3 @@ one_guessed names guesses mark guess are is other = first_at names (set guesses 
         subst (λ k. IsGuess names (get_or (set guesses mark guess) k 0)) (sym same)
         (subst (IsGuess names) (sym (get_or-set_same guesses mark guess 0 (omega (arith, below, same, length-set guesses mark guess)))) is)
     by below (inr apart) = subst (IsGuess names) (sym (get_or-set_other guesses mark other guess 0 apart)) (are other)
-
--- what stands at a place was read there
-pub read_is : {X : Type 0} (xs : List X) (k : ℕ) (x : X) → k < length xs → x ≡ slice_index_or xs k x → slice_get xs k ≡ Some x
-read_is [] k x within read = absurd (omega arith)
-read_is (y ∷ xs) zero x within read = ap Some (sym read)
-read_is (y ∷ xs) (suc k) x within read = read_is xs k x (omega arith) read

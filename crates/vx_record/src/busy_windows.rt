@@ -7,7 +7,7 @@ ghost use Rattle.vx_record.specs.Kept.{busy_count, is_busy};
 use vx_sector::{Entry, Sector};
 
 /// How many of these windows have entries.
-pub fn busy(windows: &[Vec<Entry>]) -> usize
+pub fn busy_windows(windows: &[Vec<Entry>]) -> usize
     ensures { result ≡ busy_count (map entries_in windows.now) }
 {
     windows.iter().filter(|window| is_busy(window)).count()

@@ -55,7 +55,8 @@ impl ClosedWindows {
         self.sectors
     }
 
-    /// Whether no window has an entry; it looks at none.
+    /// Whether it is known that no window has an entry; it looks at none. Only costs rest on the
+    /// answer that it is not known.
     pub fn is_quiet(&self) -> bool
         ensures { result ≡ true → All (λ window. window ≡ []) self.now }
     {

@@ -24,7 +24,7 @@ mod spare;
 mod tick;
 
 pub use archive::Archive;
-pub use busy_windows::{busy, busy_sectors};
+pub use busy_windows::{busy_sectors, busy_windows};
 pub use call::Call;
 pub use caller::Caller;
 pub use chronicle::Chronicle;

@@ -109,7 +109,7 @@ impl Sector {
 
     /// Begins the next window of a sector in which nothing was recorded, over its cells as they
     /// are, judged by the same policy under the number of the next version. It takes no memory, and
-    /// what was kept of decisions stays.
+    /// what was kept of decisions stays, which that policy makes as before.
     #[tactic(auto, unfolding(crate::specs::Windows::renewed))]
     pub fn go_on(&mut self, tick: u64)
         requires { self.old.entries ≡ [] }

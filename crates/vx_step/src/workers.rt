@@ -40,7 +40,8 @@ impl<'a, R: Threads + Sync, G: Gate + Sync> Workers<'a, R, G> {
         }
     }
 
-    /// Whether there is one alone, to whom no sectors are shared out.
+    /// Whether there is one alone, to whom no sectors are shared out. No clause says so: only costs
+    /// rest on it.
     pub fn is_one(&self) -> bool {
         self.count == 1
     }

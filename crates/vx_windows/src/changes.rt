@@ -15,8 +15,9 @@ use vx_sector::{Fresh, Sector};
 
 /// The cells of the sectors after these are put down one after another, in order: those of each
 /// sector in which one is put down or a command was recorded, and nothing for the others, which
-/// keep theirs. The sectors stay as they are, and share with these cells what is the same.
-/// Positions outside the world are left out.
+/// keep theirs. No clause tells for which of them there is nothing: only costs rest on it. The
+/// sectors stay as they are, and share with these cells what is the same. Positions outside the
+/// world are left out.
 pub fn cells_after(
     alloc: Global,
     bounds: Bounds,
@@ -104,10 +105,10 @@ pub fn all_fresh(
     sectors: &[Sector],
     changes: &[Option<Cells>],
     version: &Version,
-    is_same: bool,
+    is_same_policy: bool,
 ) -> Result<Vec<Option<Fresh>>, AllocError>
     requires quiet { AreQuiet sectors.now changes.now }
-    requires same { is_same ≡ true
+    requires same { is_same_policy ≡ true
         → All (λ s. record s.version { tick = version.now.tick } ≡ version.now) sectors.now }
     ensures fresh { IfOk result (λ all. nexts version.now.tick sectors.now all.items
         ≡ map (window_over version.now) (with_changes (map cells_of sectors.now) changes.now)) }
@@ -115,7 +116,7 @@ pub fn all_fresh(
 {
     let mut all = Vec::with_capacity(alloc, sectors.len())?;
     for (at, sector) in sectors.iter().enumerate() {
-        all.push(fresh(alloc, sector, &changes[at], version, is_same)?)?;
+        all.push(fresh(alloc, sector, &changes[at], version, is_same_policy)?)?;
     }
     Ok(all)
 }
@@ -126,10 +127,10 @@ fn fresh(
     sector: &Sector,
     change: &Option<Cells>,
     version: &Version,
-    is_same: bool,
+    is_same_policy: bool,
 ) -> Result<Option<Fresh>, AllocError>
     requires quiet { change.now ≡ None → sector.now.entries ≡ [] }
-    requires same { is_same ≡ true
+    requires same { is_same_policy ≡ true
         → record sector.now.version { tick = version.now.tick } ≡ version.now }
     ensures fresh { IfOk result (λ next. next_of version.now.tick sector.now next
         ≡ window_over version.now (unwrap_or change.now sector.now.cells)) }
@@ -137,7 +138,7 @@ fn fresh(
 {
     let cells = match change {
         Some(cells) => cells,
-        None if is_same => return Ok(None),
+        None if is_same_policy => return Ok(None),
         None => sector.cells(),
     };
     let fresh = Fresh::new(alloc, cells.bounds(), cells.sector(), cells, version)?;

@@ -2,7 +2,8 @@ use Rattle.std.proofs.Common.{◌≡◌, ◌≢◌, ◌⊎◌, inl, inr, refl, a
 use Rattle.std.proofs.lemmas.Bool.{cases_eq}
 use Rattle.vx_cells.specs.ChestParts.{part_of, chests_of}
 use Rattle.vx_cells.specs.Chests.{slots_of_chest}
-use Rattle.vx_cells.proofs.ChestParting.{read_is, part_below, alike_by_part, part_by_alike}
+use Rattle.vx_base.proofs.Lists.{read_is}
+use Rattle.vx_cells.proofs.ChestParting.{part_below, alike_by_part, part_by_alike}
 use Rattle.vx_cells.proofs.chest_parts.same_parts.Goals as goal
 
 pub returns-then-not-same : goal.returns-then-not-same

@@ -2,7 +2,8 @@ use Rattle.std.proofs.Common.{◌≡◌, List, slice_get, Some, sym, ◌∙◌, 
 use Rattle.vx_region.specs.declared.name.Name.{Name}
 use Rattle.vx_region.specs.Texts.{texts}
 use Rattle.vx_play.specs.Guesses.{IsGuess}
-use Rattle.vx_play.proofs.Guessing.{at_guess, read_is}
+use Rattle.vx_base.proofs.Lists.{read_is}
+use Rattle.vx_play.proofs.Guessing.{at_guess}
 use Rattle.vx_play.proofs.name_index.NameIndex.number_of.Goals as goal
 
 pub returns-then-eq-clause-value : goal.returns-then-eq-clause-value

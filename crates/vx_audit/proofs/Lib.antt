@@ -5,6 +5,7 @@ pub mod Filtered
 pub mod Marking
 pub mod Matching
 pub mod Ordering
+pub mod Owning
 pub mod Premises
 pub mod Recording
 pub mod Standing

@@ -2,6 +2,7 @@ pub mod Audits
 pub mod Counts
 pub mod Deeds
 pub mod Marks
+pub mod Owners
 pub mod Recorded
 pub mod Records
 pub mod Shown

@@ -13,5 +13,5 @@ mod windows;
 
 pub use difference::Difference;
 pub use following::follow;
-pub use laws::blocks_have_an_order;
+pub use laws::{blocks_have_an_order, records_have_leave};
 pub use mark::Mark;

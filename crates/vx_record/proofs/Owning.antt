@@ -22,7 +22,7 @@ use Rattle.vx_tick.specs.Ticks.{fates_on, stepped, IsTick}
 use Rattle.vx_tick.proofs.Making.{moves_are_asked, asked_are_moves, stays_filled}
 use Rattle.vx_tick.proofs.OneTick.{stepped_is_tick}
 use Rattle.vx_record.specs.Chronicles.{TickData, ChronicleData, AreWindows, map_acted, map_ticked, map_after, IsTickOn, AreTicks}
-use Rattle.vx_record.specs.Owners.{standing, IsTickOf, map_before, IsRecorded, IsAskedOn, EachCommandHasLeave, IsStepByStep, IsByMove, ChangesHaveLeave, CommandsDeniedByThePolicy, MovesDeniedByThePolicy}
+use Rattle.vx_record.specs.Owners.{IsTickOf, map_before, IsRecorded, IsAskedOn, IsDeniedBy, ChangesByLeave, ChangesHaveLeave, CommandsDeniedByThePolicy, MovesDeniedByThePolicy}
 use Rattle.vx_record.proofs.Mapped.{acted_filled, commands_have_leave, acted_step_by_step}
 use Rattle.vx_record.proofs.Stepped.{stepped_stands}
 
@@ -35,6 +35,10 @@ module _ (names : List (List ℕ)) where
       (stays_filled rs acted (stepped rs acted) (fates_on rs acted) (stepped_is_tick rs acted)
       (acted_filled names rs m tick filled is.windows)).0
 
+  pub all_filled : (m : MapData) (n : ℕ) (ticks : List TickData) → IsFilled m → AreTicks names m n ticks → IsFilled (map_after m ticks)
+  all_filled m n [] filled are = filled
+  all_filled m n (tick ∷ ticks) filled are = all_filled (map_ticked m tick) (n + 1) ticks (ticked_filled m n tick filled are.0) are.1
+
   pub reaches : (m : MapData) (n : ℕ) (before : List TickData) (tick : TickData) (later : List TickData) → IsFilled m
       → AreTicks names m n (before ++ tick ∷ later)
       → IsFilled (map_after m before) × IsTickOn names (map_after m before) (n + length before) tick
@@ -42,6 +46,36 @@ module _ (names : List (List ℕ)) where
   reaches m n (t ∷ before) tick later filled are =
       let rest = reaches (map_ticked m t) (n + 1) before tick later (ticked_filled m n t filled are.0) are.1 in
       (rest.0, subst (λ k. IsTickOn names (map_after (map_ticked m t) before) k tick) (omega arith) rest.1)
+
+-- an entry of windows is answered by the rules, on cells of its sector
+module _ (names : List (List ℕ)) (rs : Regions) where
+  answered_in : (cells : SectorCells) (window : List EntryData) (e : EntryData) → IsWindow rs cells window → IsAmong window e
+      → (on : SectorCells) × (e.answer ≡ rules_answer rs on e.seat e.cmd)
+  answered_in cells [] e w among = absurd among
+  answered_in cells (d ∷ window) e w (inl same) =
+      (cells, subst (λ (x : EntryData). x.answer ≡ rules_answer rs cells x.seat x.cmd) same w.1)
+  answered_in cells (d ∷ window) e w (inr further) =
+      answered_in (cells_by cells d.cmd d.answer) window e w.2 further
+
+  window_of : (cs : List SectorCells) (windows : List (List EntryData)) (window : List EntryData)
+      → AreWindows names rs cs windows → IsAmong windows window → (cells : SectorCells) × IsWindow rs cells window
+  window_of [] [] window are among = absurd among
+  window_of [] (w ∷ windows) window are among = absurd are
+  window_of (d ∷ cs) [] window are among = absurd are
+  window_of (d ∷ cs) (w ∷ windows) window are (inl same) = (d, subst (IsWindow rs d) same are.0)
+  window_of (d ∷ cs) (w ∷ windows) window are (inr further) = window_of cs windows window are.2 further
+
+  answered : (cs : List SectorCells) (windows : List (List EntryData)) (window : List EntryData) (e : EntryData) → AreWindows names rs cs windows
+      → IsAmong windows window → IsAmong window e → (on : SectorCells) × (e.answer ≡ rules_answer rs on e.seat e.cmd)
+  answered cs windows window e are there among =
+      let w = window_of cs windows window are there in answered_in w.0 window e w.1 among
+
+-- a command on record in windows over a map is denied by a rule exactly where the policy that judges them says so
+pub window_commands_denied : (names : List (List ℕ)) (m : MapData) (tick : TickData) (entry : EntryData) (rule : Rule)
+    → AreWindows names tick.version.policy m.sectors tick.windows → IsRecorded tick entry → IsDeniedBy tick.version.policy entry rule
+window_commands_denied names m tick entry rule are recorded =
+    let by = answered names tick.version.policy m.sectors tick.windows recorded.window entry are recorded.there recorded.among in
+    rw by.1 (denied_by_the_policy tick.version.policy by.0 entry.seat entry.cmd rule)
 
 module _ (c : ChronicleData) (before : List TickData) (tick : TickData) (is : IsTickOf c before tick) where
   abbrev names : List (List ℕ)
@@ -67,8 +101,7 @@ module _ (c : ChronicleData) (before : List TickData) (tick : TickData) (is : Is
   step : IsTick rs acted (stepped rs acted) (fates_on rs acted)
   step = stepped_is_tick rs acted
 
-  changes : (p : Pos) → EachCommandHasLeave names m tick p × IsStepByStep m tick p
-      × ((standing (map_ticked m tick) p ≡ standing acted p) ⊎ IsByMove m tick p)
+  changes : (p : Pos) → ChangesByLeave names m tick p
   changes p = (
     commands_have_leave names m tick at.0 at.1.windows p,
     acted_step_by_step names m tick at.0 at.1.windows p,
@@ -83,28 +116,6 @@ module _ (c : ChronicleData) (before : List TickData) (tick : TickData) (is : Is
       })
     ],
   )
-
-  -- an entry of a window is answered by the rules, on cells of its sector
-  answered_in : (cells : SectorCells) (window : List EntryData) (e : EntryData) → IsWindow rs cells window → IsAmong window e
-      → (on : SectorCells) × (e.answer ≡ rules_answer rs on e.seat e.cmd)
-  answered_in cells [] e w among = absurd among
-  answered_in cells (d ∷ window) e w (inl same) =
-      (cells, subst (λ (x : EntryData). x.answer ≡ rules_answer rs cells x.seat x.cmd) same w.1)
-  answered_in cells (d ∷ window) e w (inr further) =
-      answered_in (cells_by cells d.cmd d.answer) window e w.2 further
-
-  window_of : (cs : List SectorCells) (windows : List (List EntryData)) (window : List EntryData)
-      → AreWindows names rs cs windows → IsAmong windows window → (cells : SectorCells) × IsWindow rs cells window
-  window_of [] [] window are among = absurd among
-  window_of [] (w ∷ windows) window are among = absurd are
-  window_of (d ∷ cs) [] window are among = absurd are
-  window_of (d ∷ cs) (w ∷ windows) window are (inl same) = (d, subst (IsWindow rs d) same are.0)
-  window_of (d ∷ cs) (w ∷ windows) window are (inr further) = window_of cs windows window are.2 further
-
-  answered : (e : EntryData) → IsRecorded tick e → (on : SectorCells) × (e.answer ≡ rules_answer rs on e.seat e.cmd)
-  answered e recorded =
-      let w = window_of m.sectors tick.windows recorded.window at.1.windows recorded.there in
-      answered_in w.0 recorded.window e w.1 recorded.among
 
   -- a fate that is told is that of a move
   of_move : (all moves : List Moving) (fates : List (Pos × Fate)) (q : Pos) (fate : Fate) → AreFates rs all moves fates
@@ -163,8 +174,7 @@ changes_have_leave c before tick p is = changes c before tick is p
 
 pub commands_denied_by_the_policy : CommandsDeniedByThePolicy
 commands_denied_by_the_policy c before tick entry rule is recorded =
-    let by = answered c before tick is entry recorded in
-    rw by.1 (denied_by_the_policy tick.version.policy by.0 entry.seat entry.cmd rule)
+    window_commands_denied c.opening.names (map_before c before) tick entry rule (at c before tick is).1.windows recorded
 
 pub moves_denied_by_the_policy : MovesDeniedByThePolicy
 moves_denied_by_the_policy c before tick q p rule is = moves_denied c before tick is q p rule

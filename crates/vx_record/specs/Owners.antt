@@ -127,25 +127,33 @@ pub record IsByMove (m : MapData) (tick : TickData) (p : Pos) : Type 0 where
   pub permitted : (q : Pos) → IsAmong move.cells q
       → IsPermit (pushing_verdict tick.version.policy move.at q)
 
--- each command of a tick leaves what stands at a place, and what a chest there holds, or it is a
--- player's command that the policy of the tick permits to that player there; these commands, one
--- after another, are all that changes it before the machines; and the machines leave it, or change
--- it by a machine's move all of whose cells the policy permits to that machine
-abbrev pub ChangesHaveLeave : Type 0
-ChangesHaveLeave = (c : ChronicleData) (before : List TickData) (tick : TickData) (p : Pos)
-    → IsTickOf c before tick → let m = map_before c before in
-    EachCommandHasLeave c.opening.names m tick p
+-- each command of a tick leaves what stands at p, and what a chest there holds, or it is a player's
+-- command that the policy of the tick permits to that player there; these commands, one after
+-- another, are all that changes it before the machines; and the machines leave it, or change it by a
+-- machine's move all of whose cells the policy permits to that machine
+abbrev pub ChangesByLeave : List (List ℕ) → MapData → TickData → Pos → Type 0
+ChangesByLeave names m tick p =
+    EachCommandHasLeave names m tick p
     × IsStepByStep m tick p
     × ((standing (map_ticked m tick) p ≡ standing (map_acted m tick) p) ⊎ IsByMove m tick p)
 
--- a command on record is denied by a rule exactly where the policy of the tick denies its player
--- the action at that place, by that rule
+-- so does each tick of a run, at each position
+abbrev pub ChangesHaveLeave : Type 0
+ChangesHaveLeave = (c : ChronicleData) (before : List TickData) (tick : TickData) (p : Pos)
+    → IsTickOf c before tick → ChangesByLeave c.opening.names (map_before c before) tick p
+
+-- the command of an entry is denied by a rule exactly where the policy denies its player the action
+-- at that place, by that rule
+abbrev pub IsDeniedBy : Regions → EntryData → Rule → Type 0
+IsDeniedBy policy entry rule = (entry.answer ≡ Err (refusal.Denied rule))
+    ↔ ((action : Action) × (action_of entry.cmd ≡ Some action)
+    × (judged policy entry.seat action (place_of entry.cmd) ≡ Deny rule))
+
+-- so is each command on record, by the policy of the tick
 abbrev pub CommandsDeniedByThePolicy : Type 0
 CommandsDeniedByThePolicy = (c : ChronicleData) (before : List TickData) (tick : TickData)
     (entry : EntryData) (rule : Rule) → IsTickOf c before tick → IsRecorded tick entry
-    → (entry.answer ≡ Err (refusal.Denied rule))
-    ↔ ((action : Action) × (action_of entry.cmd ≡ Some action)
-    × (judged tick.version.policy entry.seat action (place_of entry.cmd) ≡ Deny rule))
+    → IsDeniedBy tick.version.policy entry rule
 
 -- a piston's move is told as denied at a cell by a rule exactly where it asks for the move as the
 -- machines begin, and that is the first of its cells that the policy of the tick denies to it, by

@@ -1,14 +1,21 @@
 -- What a header says keeps each sector of its world in its place.
-use Rattle.std.proofs.Common.{◌≡◌, ℕ, Bool, true, false, [], ◌∷◌, ◌++◌, Option, Some, None, option_map, if◌then◌else◌, not, ◌&&◌, ◌≤◌, ◌%◌, ◌⊎◌, inl, inr, is_some, refl, subst, arith}
+use Rattle.std.proofs.Common.{◌≡◌, ℕ, zero, suc, Bool, true, false, [], ◌∷◌, ◌++◌, Option, Some, None, option_map, if◌then◌else◌, not, ◌&&◌, ◌≤◌, ◌%◌, ◌⊎◌, inl, inr, is_some, refl, subst, arith}
+use Rattle.std.specs.List.{All}
 use Rattle.std.specs.Option.{option_and_then, MatchOption}
 use Rattle.std.proofs.lemmas.Bool.{and_parts, or_cases, eqb-true, leb-true}
+use Rattle.std.proofs.lemmas.List.{length-replicate}
+use Rattle.std.proofs.lemmas.List.Elements.{All-nil, All-push, All-replicate}
 use Rattle.vx_geom.specs.declared.bounds.TheConstants.{MAX_SECTORS_EACH_WAY, MAX_CHUNKS_EACH_WAY, LOW_HEIGHT, HIGH_HEIGHT}
-use Rattle.vx_geom.specs.Sizes.{AreSizes}
+use Rattle.vx_geom.specs.Sizes.{Sizes, AreSizes, sector_cells, sector_count}
 use Rattle.vx_grammar.specs.ScriptLines.{is_height, Nothing, World, Player, Set, Act, Region, Tick, Explain, Together, End}
 use Rattle.vx_block.specs.Part.{part_cell}
+use Rattle.vx_block.specs.declared.cell.Cell.TheVariants.{Air}
 use Rattle.vx_cells.specs.Maps.{MapData}
-use Rattle.vx_cells.specs.Wholes.{bare, with_cell_on, IsMap}
-use Rattle.vx_cells.proofs.Setting.{air_is_map, cell_keeps_map}
+use Rattle.vx_cells.specs.MapLaws.{IsFilled}
+use Rattle.vx_cells.specs.SectorCells.{IsSlot, IsBlock, IsWhole, placed, only_air}
+use Rattle.vx_cells.specs.Wholes.{airs, bare, with_cell_on}
+use Rattle.vx_cells.proofs.Putting.{put_stays_filled}
+use Rattle.vx_cells.proofs.Setting.{air_is_map}
 use Rattle.vx_play.specs.Plays.{is_named}
 use Rattle.vx_region.specs.Words.{is_amid}
 use Rattle.vx_script.specs.Headers.{with_size, with_cell_set, header_after}
@@ -52,6 +59,17 @@ sizes_are_sound sx sz s h v said =
     by true false c d one two three four said = cc
     by false b c d one two three four said = cc
 
+-- a world of air alone has something at each place
+airs_whole : (sizes : Sizes) (n : ℕ) → All IsWhole (airs sizes n)
+airs_whole sizes zero = All-nil IsWhole
+airs_whole sizes (suc n) = All-push IsWhole (airs sizes n) (only_air sizes n) (airs_whole sizes n) (record {
+  whole = length-replicate (sector_cells sizes) (placed Air);
+  each = All-replicate IsBlock (sector_cells sizes) (placed Air) (record { slots = refl; each = All-nil IsSlot });
+})
+
+air_filled : (sizes : Sizes) → AreSizes sizes → IsFilled (bare sizes)
+air_filled sizes valid = record { map = air_is_map sizes valid; each = airs_whole sizes (sector_count sizes) }
+
 pub headers_keep_terrain : HeadersKeepTerrain
 unfolding header_after with_cell_set
 headers_keep_terrain Nothing o next sizes terrain made = let same : o ≡ next = cc in subst IsOpening same terrain
@@ -59,7 +77,7 @@ headers_keep_terrain (World sizes) o next valid terrain made = by o.terrain made
   where
     by : (z : Option MapData) → with_size o sizes z ≡ Some next → IsOpening next
     by (Some z) made = cc
-    by None made = let same : record o { terrain = Some (bare sizes) } ≡ next = cc in subst IsOpening same (air_is_map sizes valid)
+    by None made = let same : record o { terrain = Some (bare sizes) } ≡ next = cc in subst IsOpening same (air_filled sizes valid)
 headers_keep_terrain (Player name) o next sizes terrain made = by (is_some o.terrain && not (is_named o.names name)) made
   where
     by : (b : Bool) → (if b then Some (record o { names = o.names ++ name ∷ [] }) else None) ≡ Some next → IsOpening next
@@ -67,11 +85,11 @@ headers_keep_terrain (Player name) o next sizes terrain made = by (is_some o.ter
     by true made = let same : record o { names = o.names ++ name ∷ [] } ≡ next = cc in subst IsOpening same terrain
 headers_keep_terrain (Set p part) o next sizes terrain made = by o.terrain terrain made
   where
-    with_terrain : (old : MapData) → IsMap old → (g : Option MapData) → with_cell_on old p (part_cell part) ≡ g → option_map (λ g. record o { terrain = Some g }) g ≡ Some next → IsOpening next
+    with_terrain : (old : MapData) → IsFilled old → (g : Option MapData) → with_cell_on old p (part_cell part) ≡ g → option_map (λ g. record o { terrain = Some g }) g ≡ Some next → IsOpening next
     with_terrain old whole None is made = cc
-    with_terrain old whole (Some g) is made = let same : record o { terrain = Some g } ≡ next = cc in subst IsOpening same (cell_keeps_map old g p (part_cell part) whole is)
+    with_terrain old whole (Some g) is made = let same : record o { terrain = Some g } ≡ next = cc in subst IsOpening same (put_stays_filled old g p (part_cell part) whole is).0
 
-    by : (z : Option MapData) → MatchOption z (Unit {0}) IsMap
+    by : (z : Option MapData) → MatchOption z (Unit {0}) IsFilled
         → option_map (λ g. record o { terrain = Some g }) (option_and_then (λ g. with_cell_on g p (part_cell part)) z) ≡ Some next → IsOpening next
     by None whole made = cc
     by (Some old) whole made = with_terrain old whole (with_cell_on old p (part_cell part)) refl made

@@ -2,12 +2,13 @@ use Rattle.std.specs.Prelude.{◌≡◌, ℕ, Some}
 use Rattle.std.specs.Option.{MatchOption}
 use Rattle.vx_geom.specs.Sizes.{Sizes, AreSizes}
 use Rattle.vx_grammar.specs.ScriptLines.{Said, World, sizes_of}
-use Rattle.vx_cells.specs.Wholes.{IsMap}
+use Rattle.vx_cells.specs.MapLaws.{IsFilled}
 use Rattle.vx_script.specs.Headers.{Opening, header_after}
 
--- an opening has each sector of its size in its place, once the size was said
+-- an opening has each sector of its size in its place, and something at each place of it, once the
+-- size was said
 abbrev pub IsOpening : Opening → Type 0
-IsOpening o = MatchOption o.terrain (Unit {0}) IsMap
+IsOpening o = MatchOption o.terrain (Unit {0}) IsFilled
 
 -- the sizes that a `world` line can say are those of a world
 abbrev pub SizesAreSound : Type 0
@@ -18,7 +19,7 @@ abbrev pub HasSizes : Said → Type 0
 HasSizes (World sizes) = AreSizes sizes
 HasSizes said = Unit {0}
 
--- each line of a header keeps an opening's sectors in their places
+-- each line of a header keeps an opening so
 abbrev pub HeadersKeepTerrain : Type 0
 HeadersKeepTerrain = (said : Said) (o next : Opening) → HasSizes said → IsOpening o
     → header_after o said ≡ Some next → IsOpening next

@@ -1,5 +1,5 @@
 ghost use Rattle.vx_script.specs.FirstFault.{FaultsAreOfTheScript, FirstFault};
-ghost use Rattle.vx_script.specs.Laws.{ScriptFaults, ScriptsWriteOneText};
+ghost use Rattle.vx_script.specs.Laws.{ScriptFaults, ScriptsHaveLeave, ScriptsWriteOneText};
 ghost use Rattle.vx_script.specs.Openings.{SizesAreSound, HeadersKeepTerrain};
 ghost use Rattle.vx_script.specs.Played.{ScriptsAreGames};
 
@@ -30,7 +30,15 @@ pub fn scripts_are_games()
     ensures { ScriptsAreGames }
 {}
 
-/// Whatever a header says, its world has each sector in its place.
+/// What an owner may rely on in all that a script does, in each of its ticks and behind the last
+/// one: what stands at a place, whatever signals it gets, and what a chest there holds changes only
+/// by a player's command there that the policy of that tick permits to that player, or by a
+/// machine's move that it permits to that machine.
+pub fn scripts_have_leave()
+    ensures { ScriptsHaveLeave }
+{}
+
+/// Whatever a header says, its world has each sector in its place, and something at each place.
 pub fn headers_stay_whole()
     ensures sizes { SizesAreSound }
     ensures header { HeadersKeepTerrain }

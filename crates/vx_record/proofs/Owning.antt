@@ -1,5 +1,5 @@
 -- What holds of each tick of a run.
-use Rattle.std.proofs.Common.{◌≡◌, ◌⊎◌, ◌↔◌, ℕ, ◌+◌, List, [], ◌∷◌, ◌++◌, length, Some, refl, sym, ap, ◌∙◌, subst, inl, inr, arith}
+use Rattle.std.proofs.Common.{◌≡◌, ℕ, ◌+◌, List, [], ◌∷◌, ◌++◌, length, Some, refl, sym, ap, ◌∙◌, subst, inl, inr, arith}
 use Rattle.vx_geom.specs.declared.pos.Pos.{Pos}
 use Rattle.vx_cells.specs.MapLaws.{IsFilled}
 use Rattle.vx_cells.specs.Maps.{MapData}
@@ -22,7 +22,7 @@ use Rattle.vx_tick.specs.Ticks.{fates_on, stepped, IsTick}
 use Rattle.vx_tick.proofs.Making.{moves_are_asked, asked_are_moves, stays_filled}
 use Rattle.vx_tick.proofs.OneTick.{stepped_is_tick}
 use Rattle.vx_record.specs.Chronicles.{TickData, ChronicleData, AreWindows, map_acted, map_ticked, map_after, IsTickOn, AreTicks}
-use Rattle.vx_record.specs.Owners.{IsTickOf, map_before, IsRecorded, IsAskedOn, IsDeniedBy, ChangesByLeave, ChangesHaveLeave, CommandsDeniedByThePolicy, MovesDeniedByThePolicy}
+use Rattle.vx_record.specs.Owners.{IsTickOf, map_before, IsRecorded, IsDeniedBy, IsMoveDeniedBy, ChangesByLeave, ChangesHaveLeave, CommandsDeniedByThePolicy, MovesDeniedByThePolicy}
 use Rattle.vx_record.proofs.Mapped.{acted_filled, commands_have_leave, acted_step_by_step}
 use Rattle.vx_record.proofs.Stepped.{stepped_stands}
 
@@ -149,8 +149,7 @@ module _ (c : ChronicleData) (before : List TickData) (tick : TickData) (is : Is
       let same : (q, by) ≡ (p, rule) = cc in
       ap (λ (d : Pos × Rule). Denied d.0 d.1) same
 
-  moves_denied : (q p : Pos) (rule : Rule) → IsAmong tick.fates (q, Denied p rule)
-      ↔ ((move : Moving) × (move.at ≡ q) × IsAskedOn acted move × IsFirstDenied rs q move.cells p rule)
+  moves_denied : (q p : Pos) (rule : Rule) → IsMoveDeniedBy m tick q p rule
   moves_denied q p rule = (
     λ told.
         let by = of_move step.moves step.moves (fates_on rs acted) q (Denied p rule) step.told

@@ -155,12 +155,16 @@ CommandsDeniedByThePolicy = (c : ChronicleData) (before : List TickData) (tick :
     (entry : EntryData) (rule : Rule) → IsTickOf c before tick → IsRecorded tick entry
     → IsDeniedBy tick.version.policy entry rule
 
--- a piston's move is told as denied at a cell by a rule exactly where it asks for the move as the
--- machines begin, and that is the first of its cells that the policy of the tick denies to it, by
+-- the move of the piston at q is told as denied at p by a rule exactly where it asks for the move as
+-- the machines begin, and that is the first of its cells that the policy of the tick denies to it, by
 -- that rule
+abbrev pub IsMoveDeniedBy : MapData → TickData → Pos → Pos → Rule → Type 0
+IsMoveDeniedBy m tick q p rule = IsAmong tick.fates (q, Denied p rule)
+    ↔ ((move : Moving) × (move.at ≡ q) × IsAskedOn (map_acted m tick) move
+    × IsFirstDenied tick.version.policy q move.cells p rule)
+
+-- so is each move in a tick
 abbrev pub MovesDeniedByThePolicy : Type 0
 MovesDeniedByThePolicy = (c : ChronicleData) (before : List TickData) (tick : TickData)
     (q p : Pos) (rule : Rule) → IsTickOf c before tick
-    → IsAmong tick.fates (q, Denied p rule)
-    ↔ ((move : Moving) × (move.at ≡ q) × IsAskedOn (map_acted (map_before c before) tick) move
-    × IsFirstDenied tick.version.policy q move.cells p rule)
+    → IsMoveDeniedBy (map_before c before) tick q p rule

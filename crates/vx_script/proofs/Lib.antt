@@ -1,9 +1,11 @@
 pub mod Blocks
 pub mod Doing
 pub mod FateLines
+pub mod Filled
 pub mod FirstFaults
 pub mod Going
 pub mod HeaderLines
+pub mod Leave
 pub mod Lines
 pub mod OneText
 pub mod Openings

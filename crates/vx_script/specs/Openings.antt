@@ -1,9 +1,11 @@
-use Rattle.std.specs.Prelude.{◌≡◌, ℕ, Some}
+use Rattle.std.specs.Prelude.{◌≡◌, ⊤, ℕ, List, Some, Ok}
 use Rattle.std.specs.Option.{MatchOption}
 use Rattle.vx_geom.specs.Sizes.{Sizes, AreSizes}
 use Rattle.vx_grammar.specs.ScriptLines.{Said, World, sizes_of}
 use Rattle.vx_cells.specs.MapLaws.{IsFilled}
-use Rattle.vx_script.specs.Headers.{Opening, header_after}
+use Rattle.vx_region.specs.Regions.{Regions}
+use Rattle.vx_record.specs.Openings.{OpeningData}
+use Rattle.vx_script.specs.Headers.{Opening, HeaderEnd, Faulty, Bare, Begins, says_of, no_opening, header_after, header_end, begun}
 
 -- an opening has each sector of its size in its place, and something at each place of it, once the
 -- size was said
@@ -23,3 +25,17 @@ HasSizes said = Unit {0}
 abbrev pub HeadersKeepTerrain : Type 0
 HeadersKeepTerrain = (said : Said) (o next : Opening) → HasSizes said → IsOpening o
     → header_after o said ≡ Some next → IsOpening next
+
+-- something stands at each place of the world that is made there, if one is
+abbrev pub OpensFilled : Regions → Opening → ℕ → Type 0
+OpensFilled rs o n = (opening : OpeningData) → begun rs o n ≡ Ok opening → IsFilled opening.terrain
+
+abbrev pub EndsFilled : Regions → HeaderEnd → Type 0
+EndsFilled rs (Faulty cause) = ⊤
+EndsFilled rs (Bare o n) = OpensFilled rs o n
+EndsFilled rs (Begins o n first lines) = OpensFilled rs o n
+
+-- so whatever a script says, something stands at each place of its world
+abbrev pub ScriptsOpenFilled : Type 0
+ScriptsOpenFilled = (rs : Regions) (script : List ℕ)
+    → EndsFilled rs (header_end no_opening 1 (says_of script))

@@ -1,6 +1,6 @@
 ghost use Rattle.vx_script.specs.FirstFault.{FaultsAreOfTheScript, FirstFault};
 ghost use Rattle.vx_script.specs.Laws.{ScriptFaults, ScriptsHaveLeave, ScriptsWriteOneText};
-ghost use Rattle.vx_script.specs.Openings.{SizesAreSound, HeadersKeepTerrain};
+ghost use Rattle.vx_script.specs.Openings.{SizesAreSound, HeadersKeepTerrain, ScriptsOpenFilled};
 ghost use Rattle.vx_script.specs.Played.{ScriptsAreGames};
 
 /// Whether a script faults, and how, its lines alone decide.
@@ -30,10 +30,12 @@ pub fn scripts_are_games()
     ensures { ScriptsAreGames }
 {}
 
-/// What an owner may rely on in all that a script does, in each of its ticks and behind the last
-/// one: what stands at a place, whatever signals it gets, and what a chest there holds changes only
-/// by a player's command there that the policy of that tick permits to that player, or by a
-/// machine's move that it permits to that machine.
+/// What an owner may rely on in all that a script without fault does, in each of its ticks and
+/// behind the last one: what stands at a place, whatever signals it gets, and what a chest there
+/// holds changes only by a player's command there that the policy of that tick permits to that
+/// player, or by a machine's move all of whose cells it permits to that machine; and a command, or a
+/// move, is denied exactly where that policy denies it, and by that rule. It is said of the record
+/// in which the text ends, where that is asked for.
 pub fn scripts_have_leave()
     ensures { ScriptsHaveLeave }
 {}
@@ -42,4 +44,5 @@ pub fn scripts_have_leave()
 pub fn headers_stay_whole()
     ensures sizes { SizesAreSound }
     ensures header { HeadersKeepTerrain }
+    ensures script { ScriptsOpenFilled }
 {}

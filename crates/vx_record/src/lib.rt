@@ -3,7 +3,7 @@
 #![tactic(auto)]
 
 mod archive;
-mod busy_windows;
+mod busy;
 mod call;
 mod caller;
 mod chronicle;
@@ -24,7 +24,7 @@ mod spare;
 mod tick;
 
 pub use archive::Archive;
-pub use busy_windows::{busy_sectors, busy_windows};
+pub use busy::{busy_sectors, busy_windows};
 pub use call::Call;
 pub use caller::Caller;
 pub use chronicle::Chronicle;

@@ -5,7 +5,7 @@ use Rattle.vx_sector.specs.SectorData.{SectorData}
 use Rattle.vx_windows.specs.Sectors.{entries_of}
 use Rattle.vx_record.specs.Kept.{is_busy}
 use Rattle.vx_record.proofs.Keeping.{counted}
-use Rattle.vx_record.proofs.busy_windows.busy_sectors.Goals as goal
+use Rattle.vx_record.proofs.busy.busy_sectors.Goals as goal
 
 pub returns : goal.returns
 returns c =

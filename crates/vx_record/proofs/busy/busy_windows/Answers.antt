@@ -5,7 +5,7 @@ use Rattle.vx_sector.specs.declared.entry.Entry.{Entry}
 use Rattle.vx_windows.specs.Sectors.{entries_in}
 use Rattle.vx_record.specs.Kept.{is_busy}
 use Rattle.vx_record.proofs.Keeping.{counted}
-use Rattle.vx_record.proofs.busy_windows.busy_windows.Goals as goal
+use Rattle.vx_record.proofs.busy.busy_windows.Goals as goal
 
 pub returns : goal.returns
 returns c =

@@ -30,12 +30,13 @@ pub fn scripts_are_games()
     ensures { ScriptsAreGames }
 {}
 
-/// What an owner may rely on in all that a script without fault does, in each of its ticks and
-/// behind the last one: what stands at a place, whatever signals it gets, and what a chest there
-/// holds changes only by a player's command there that the policy of that tick permits to that
-/// player, or by a machine's move all of whose cells it permits to that machine; and a command, or a
-/// move, is denied exactly where that policy denies it, and by that rule. It is said of the record
-/// in which the text ends, where that is asked for.
+/// What an owner may rely on in all that a script without fault does. Its text tells the replies of
+/// a game whose steps are the lines behind the header. In each tick of that game, and behind the
+/// last one, what stands at a place, whatever signals it gets, and what a chest there holds changes
+/// only by a player's command there that the policy of that tick permits to that player, or by a
+/// machine's move all of whose cells it permits to that machine. A command, or a move, is denied
+/// exactly where that policy denies it, and by that rule. The text shows the record of the game
+/// where that is asked for.
 pub fn scripts_have_leave()
     ensures { ScriptsHaveLeave }
 {}

@@ -3,9 +3,10 @@
 -- `list_any p (drop l.i xs) ≡ list_any p xs` a return of true is `sym (any_here ..) ∙ invariant`, the next step
 -- `sym (any_next ..) ∙ invariant`, and the end `sym (any_end ..) ∙ invariant`; the same for `find`.
 use Rattle.std.proofs.Common.{◌≡◌, ◌≢◌, ℕ, zero, suc, ◌+◌, ◌<◌, ◌≤◌, Bool, true, false, ◌||◌, cond, List, [], ◌∷◌, ◌++◌, length, drop, slice_set, slice_index_or, None, Some, arith, refl, sym, ap, ◌∙◌, inl, inr, add-one}
-use Rattle.std.specs.List.{slice_get, list_any, find}
+use Rattle.std.specs.List.{slice_get, list_any, find, AllByRecursion}
 use Rattle.std.proofs.lemmas.Bool.{cases_Bool, or_from}
 use Rattle.std.proofs.lemmas.List.{at_drop_all}
+use Rattle.std.proofs.lemmas.Option.{slice_get_within}
 
 drop_suc : {X : Type 0} (xs : List X) (i : ℕ) (x : X) → slice_get xs i ≡ Some x → drop i xs ≡ x ∷ drop (suc i) xs
 drop_suc [] i x item = cc
@@ -92,6 +93,10 @@ set_here [] k x within = absurd (omega arith)
 set_here (y ∷ xs) zero x within = refl
 set_here (y ∷ xs) (suc k) x within = set_here xs k x (omega arith)
 
+-- where something stood before
+pub set_found : {X : Type 0} (xs : List X) (k : ℕ) (x y : X) → slice_get xs k ≡ Some x → slice_get (slice_set xs k y) k ≡ Some y
+set_found xs k x y found = set_here xs k y (slice_get_within xs k x found)
+
 pub set_beside : {X : Type 0} (xs : List X) (k j : ℕ) (x : X) → j ≢ k → slice_get (slice_set xs k x) j ≡ slice_get xs j
 set_beside [] k j x other = refl
 set_beside (y ∷ xs) zero zero x other = absurd (other refl)
@@ -104,3 +109,8 @@ pub set_back : {X : Type 0} (xs : List X) (k : ℕ) (x : X) → x ≡ slice_inde
 set_back [] k x read = refl
 set_back (y ∷ xs) zero x read = ap (λ z. z ∷ xs) read
 set_back (y ∷ xs) (suc k) x read = ap (λ ys. y ∷ ys) (set_back xs k x read)
+
+-- where P tells Q, Q holds of all of which P does
+pub all_weaker : {X : Type 0} (P Q : X → Type 0) → ((x : X) → P x → Q x) → (xs : List X) → AllByRecursion P xs → AllByRecursion Q xs
+all_weaker P Q tells [] all = tt
+all_weaker P Q tells (x ∷ xs) all = (tells x all.0, all_weaker P Q tells xs all.1)

@@ -1,5 +1,5 @@
 -- Each sector of a world stands in its place.
-use Rattle.std.proofs.Common.{◌≡◌, ℕ, zero, suc, ◌+◌, ◌<◌, true, List, [], ◌∷◌, ◌++◌, length, set, slice_get, Some, refl, sym, ap, ◌∙◌, arith}
+use Rattle.std.proofs.Common.{◌≡◌, ℕ, zero, suc, ◌+◌, true, List, [], ◌∷◌, ◌++◌, length, set, slice_get, Some, refl, sym, ap, ◌∙◌, arith}
 use Rattle.std.proofs.lemmas.Bool.{eq-eqb}
 use Rattle.std.proofs.lemmas.List.{length-append}
 use Rattle.vx_geom.specs.declared.pos.Pos.{Pos}
@@ -37,9 +37,3 @@ airs_placed sizes (suc n) = from_push sizes 0 (airs sizes n) (only_air sizes n) 
 pub holds_found : (c : SectorCells) (p : Pos) (k : ℕ) → sector_of c.bounds p ≡ Some k → c.sector ≡ k → holds c p ≡ true
 unfolding holds
 holds_found c p k found same = rw found (eq-eqb c.sector k same)
-
--- there is something at each place within
-pub found_within : {X : Type 0} (xs : List X) (i : ℕ) → i < length xs → (x : X) × (slice_get xs i ≡ Some x)
-found_within [] i within = absurd (omega arith)
-found_within (x ∷ xs) zero within = (x, refl)
-found_within (x ∷ xs) (suc i) within = found_within xs i (omega arith)

@@ -1,11 +1,12 @@
 -- What is read on a map after a cell was put down.
-use Rattle.std.proofs.Common.{◌≡◌, ◌≢◌, ℕ, zero, suc, Bool, true, false, List, [], ◌∷◌, nat_eq, set, slice_get, Option, Some, None, is_some, if◌then◌else◌, refl, sym, ap, ◌∙◌, subst, arith}
+use Rattle.std.proofs.Common.{◌≡◌, ◌≢◌, ℕ, Bool, true, false, List, nat_eq, set, slice_get, Option, Some, None, is_some, if◌then◌else◌, refl, sym, ap, ◌∙◌, subst, arith}
 use Rattle.std.specs.List.{All}
 use Rattle.std.specs.Option.{option_and_then}
 use Rattle.std.proofs.lemmas.Bool.{eqb-true, eq-eqb, false≢true}
 use Rattle.std.proofs.lemmas.List.{length-set, length-replicate}
 use Rattle.std.proofs.lemmas.List.Elements.{All-replicate, All-set}
 use Rattle.std.proofs.lemmas.Option.{slice_get_within, get_or_from_slice_get}
+use Rattle.vx_base.proofs.Lists.{item_there, set_found, set_beside}
 use Rattle.vx_block.specs.declared.cell.Cell.{Cell}
 use Rattle.vx_geom.specs.declared.pos.Pos.{Pos}
 use Rattle.vx_geom.specs.Sizes.{AreSizes, is_inside, sector_number, sector_of}
@@ -16,7 +17,6 @@ use Rattle.vx_cells.specs.Wholes.{set_in, with_cell_on}
 use Rattle.vx_cells.proofs.CellLaws.{set_block_is_read, other_blocks_stay}
 use Rattle.vx_cells.proofs.Indices.{numbered, number_below}
 use Rattle.vx_cells.proofs.MapLemmas.{placed_at, is_held}
-use Rattle.vx_cells.proofs.Placed.{found_within}
 use Rattle.vx_cells.proofs.Setting.{cell_keeps_map, cell_is_set}
 
 pub cell_of_block : CellOfBlock
@@ -67,21 +67,6 @@ at_each : {X : Type 0} (P : X → Type 0) (xs : List X) (i : ℕ) (x : X)
 at_each P xs i x each found =
     subst P (get_or_from_slice_get xs i x x found) (each i x (slice_get_within xs i x found))
 
--- what is found in a list after another element was put into it
-found_same : {X : Type 0} (xs : List X) (i : ℕ) (x y : X) → slice_get xs i ≡ Some x
-    → slice_get (set xs i y) i ≡ Some y
-found_same [] i x y found = cc
-found_same (z ∷ xs) zero x y found = refl
-found_same (z ∷ xs) (suc i) x y found = found_same xs i x y found
-
-found_other : {X : Type 0} (xs : List X) (i j : ℕ) (y : X) → j ≢ i
-    → slice_get (set xs i y) j ≡ slice_get xs j
-found_other [] i j y differ = refl
-found_other (z ∷ xs) zero zero y differ = absurd (differ refl)
-found_other (z ∷ xs) zero (suc j) y differ = refl
-found_other (z ∷ xs) (suc i) zero y differ = refl
-found_other (z ∷ xs) (suc i) (suc j) y differ = found_other xs i j y (λ same. differ (ap suc same))
-
 -- a sector in which a cell was put down has something at each place
 block_placed : (cell : Cell) → IsBlock (placed cell)
 block_placed cell = record { slots = length-replicate (slot_count cell) None; each = All-replicate IsSlot (slot_count cell) None tt }
@@ -118,7 +103,7 @@ module _ (m next : MapData) (p : Pos) (cell : Cell) (filled : IsFilled m) (put :
       → block_on next q ≡ block_at (with_cell put.sector p cell) q
   after_there q is =
       sector_after q (Some put.number) is
-      ∙ ap (λ c. block_in c q) (found_same m.sectors put.number put.sector (with_cell put.sector p cell) put.there)
+      ∙ ap (λ c. block_in c q) (set_found m.sectors put.number put.sector (with_cell put.sector p cell) put.there)
 
   before_at : (q : Pos) (k : Option ℕ) → sector_of m.sizes q ≡ k
       → block_in (sector_at m.sectors k) q ≡ block_on m q
@@ -145,7 +130,7 @@ module _ (m next : MapData) (p : Pos) (cell : Cell) (filled : IsFilled m) (put :
         ∙ before_at q (Some put.number) of
     at_number k false is other =
         sector_after q (Some k) is
-        ∙ ap (λ c. block_in c q) (found_other m.sectors put.number k (with_cell put.sector p cell)
+        ∙ ap (λ c. block_in c q) (set_beside m.sectors put.number k (with_cell put.sector p cell)
         (λ same. false≢true (sym other ∙ eq-eqb k put.number same)))
         ∙ before_at q (Some k) is
 
@@ -174,7 +159,7 @@ put_stays_filled m next p cell filled made =
 module _ (m : MapData) (p : Pos) (cell : Cell) (filled : IsFilled m) where
   has_sector : is_inside m.sizes p ≡ true → (c : SectorCells) × (slice_get m.sectors (sector_number m.sizes p) ≡ Some c)
   has_sector inside =
-      found_within m.sectors (sector_number m.sizes p)
+      item_there m.sectors (sector_number m.sizes p)
       (omega (arith, filled.map.all, number_below m.sizes p filled.map.valid inside))
 
   -- so there a cell is put down

@@ -5,10 +5,10 @@ use Rattle.std.specs.Option.{is_none, unwrap_or}
 use Rattle.std.proofs.lemmas.Bool.{cases_Bool, cases_lt, and_parts, ltb-true}
 use Rattle.std.proofs.lemmas.List.{length-map, length_push}
 use Rattle.std.proofs.lemmas.Option.{get_or_from_slice_get, slice_get-map, slice_get_past}
+use Rattle.vx_base.proofs.Lists.{item_there}
 use Rattle.vx_board.specs.Accepted.{most_edits}
 use Rattle.vx_cells.specs.SectorCells.{SectorCells}
 use Rattle.vx_cells.specs.Wholes.{IsMap}
-use Rattle.vx_cells.proofs.Placed.{found_within}
 use Rattle.vx_policy.specs.Refusals.{refusal}
 use Rattle.vx_region.specs.Regions.{Regions}
 use Rattle.vx_sector.specs.SectorData.{SectorData, SeatData}
@@ -130,7 +130,7 @@ has_room o events whole =
         → length (entries_at k ticks (map entries_of play.sectors)) ≤ most_entries
     each play ticks f sound k = elim (cases_lt k (length play.sectors)) [
       | inl within ↦
-          let found = found_within play.sectors k within in
+          let found = item_there play.sectors k within in
           let s = found.0 in
           let open_entries : unwrap_or (slice_get (map entries_of play.sectors) k) [] ≡ s.entries =
           ap (λ o. unwrap_or o []) (slice_get-map entries_of play.sectors k ∙ ap (option_map entries_of) found.1) in

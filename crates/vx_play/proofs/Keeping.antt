@@ -1,10 +1,11 @@
 -- In every game something stands at each place of the map, and heads stay with their pistons.
-use Rattle.std.proofs.Common.{◌≡◌, ◌≢◌, ℕ, zero, suc, Bool, true, false, nat_eq, List, [], ◌∷◌, map, set, slice_get, Option, Some, None, option_map, refl, sym, ap, ◌∙◌, subst}
+use Rattle.std.proofs.Common.{◌≡◌, ◌≢◌, ℕ, Bool, true, false, nat_eq, List, [], ◌∷◌, map, set, slice_get, Option, Some, None, option_map, refl, sym, ap, ◌∙◌, subst}
 use Rattle.std.specs.List.{All}
 use Rattle.std.proofs.lemmas.Bool.{eqb-true, eq-eqb, false≢true}
 use Rattle.std.proofs.lemmas.List.{map-set}
 use Rattle.std.proofs.lemmas.List.Elements.{All-set}
 use Rattle.std.proofs.lemmas.Option.{slice_get-map}
+use Rattle.vx_base.proofs.Lists.{set_found, set_beside}
 use Rattle.vx_geom.specs.declared.pos.Pos.{Pos}
 use Rattle.vx_geom.specs.Dirs.{opposite}
 use Rattle.vx_geom.specs.Neighbor.{neighbor}
@@ -31,19 +32,6 @@ use Rattle.vx_play.specs.Games.{Step, Command, Accepted, Tick, after_step, playe
 use Rattle.vx_play.specs.Laws.{GamesStayFilled, GamesStayPaired}
 use Rattle.vx_windows.proofs.Sparing.{of_found}
 use Rattle.vx_play.proofs.Whole.{cells_opened, commands_keep_worlds, ticks_are_steps}
-
--- what is found in a list after another element was put into it
-found_same : {X : Type 0} (xs : List X) (i : ℕ) (x y : X) → slice_get xs i ≡ Some x → slice_get (set xs i y) i ≡ Some y
-found_same [] i x y found = cc
-found_same (z ∷ xs) zero x y found = refl
-found_same (z ∷ xs) (suc i) x y found = found_same xs i x y found
-
-found_other : {X : Type 0} (xs : List X) (i j : ℕ) (y : X) → j ≢ i → slice_get (set xs i y) j ≡ slice_get xs j
-found_other [] i j y differ = refl
-found_other (z ∷ xs) zero zero y differ = absurd (differ refl)
-found_other (z ∷ xs) zero (suc j) y differ = refl
-found_other (z ∷ xs) (suc i) zero y differ = refl
-found_other (z ∷ xs) (suc i) (suc j) y differ = found_other xs i j y (λ same. differ (ap suc same))
 
 left_as_is : (before after : Cell) → after ≡ before → IsLeftExtended before after
 left_as_is before after same = (λ so. same, λ so. same)
@@ -110,10 +98,10 @@ module _ (play : PlayData) (seat : SeatData) (cmd : Cmd) (filled : IsFilled (map
         let held = is_held (map_of play) q k (of ∙ ap Some is) s.cells filled.map found in
         subst (λ n. IsLeftExtended (cell_in (slice_get cells n) q) (cell_in (slice_get after n) q)) (sym is)
         (subst (λ c. IsLeftExtended (cell_in c q) (cell_in (slice_get after k) q)) (sym found)
-        (subst (λ c. IsLeftExtended (cell_in (Some s.cells) q) (cell_in c q)) (sym (found_same cells k s.cells (cells_left s seat cmd) found))
+        (subst (λ c. IsLeftExtended (cell_in (Some s.cells) q) (cell_in c q)) (sym (set_found cells k s.cells (cells_left s seat cmd) found))
         (extended_pistons_stay s seat cmd q sizes whole held)))
     left_in_sector q j false of other =
-        left_as_is _ _ (ap (λ c. cell_in c q) (found_other cells k j (cells_left s seat cmd) (λ same. false≢true (sym other ∙ eq-eqb j k same))))
+        left_as_is _ _ (ap (λ c. cell_in c q) (set_beside cells k j (cells_left s seat cmd) (λ same. false≢true (sym other ∙ eq-eqb j k same))))
 
     left_at : (q : Pos) (j : Option ℕ) → sector_of play.sizes q ≡ j → IsLeftExtended (cell_in (sector_at cells j) q) (cell_in (sector_at after j) q)
     left_at q None of = left_as_is _ _ refl

@@ -3,6 +3,7 @@ use Rattle.std.proofs.Common.{◌≡◌, ◌≢◌, ℕ, false, List, [], ◌∷
 use Rattle.std.proofs.lemmas.Bool.{cases_Bool}
 use Rattle.std.proofs.lemmas.List.{map-set, length-map}
 use Rattle.std.proofs.lemmas.Option.{slice_get-map}
+use Rattle.vx_base.proofs.Lists.{item_there}
 use Rattle.vx_geom.specs.declared.pos.Pos.{Pos}
 use Rattle.vx_geom.specs.Sizes.{sector_count, sector_of, is_inside}
 use Rattle.vx_geom.proofs.SectorLemmas.{held_at, in_sector}
@@ -25,7 +26,7 @@ use Rattle.vx_play.specs.Plays.{PlayData, IsWorld, sector_asked, answered, answe
 use Rattle.vx_windows.specs.Sectors.{cells_of, opened_by}
 use Rattle.vx_play.specs.Laws.{WorldsBeginWhole, CommandsKeepWorlds, TicksKeepWorlds, TicksAreSteps, OutOfWorldIsOutside}
 use Rattle.vx_cells.proofs.MapLemmas.{placed_at}
-use Rattle.vx_cells.proofs.Placed.{holds_found, found_within}
+use Rattle.vx_cells.proofs.Placed.{holds_found}
 use Rattle.vx_cells.proofs.Setting.{again}
 use Rattle.vx_tick.specs.Ticks.{IsTick}
 use Rattle.vx_tick.proofs.OneTick.{stepped_is_tick, steps_keep_maps}
@@ -108,7 +109,7 @@ met_inside : (play : PlayData) (seat : SeatData) (cmd : Cmd) (k : ℕ) → IsWor
     → (answered_at play.sectors seat cmd (Some k)).0 ≢ Err OutOfWorld
 met_inside play seat cmd k whole found same =
     let below = (in_sector play.sizes (place_of cmd) k whole.valid (held_at play.sizes (place_of cmd) k whole.valid found)).0 in
-    let there = found_within play.sectors k (omega (arith, below, whole.all, length-map play.sectors cells_of)) in
+    let there = item_there play.sectors k (omega (arith, below, whole.all, length-map play.sectors cells_of)) in
     let placed = placed_at play.sizes 0 k (map cells_of play.sectors) there.0.cells whole.each (slice_get-map cells_of play.sectors k ∙ ap (option_map cells_of) there.1) in
     let number : there.0.cells.sector ≡ k = omega (arith, placed.1) in
     let held = holds_found there.0.cells (place_of cmd) k (ap (λ sizes. sector_of sizes (place_of cmd)) placed.0 ∙ found) number in

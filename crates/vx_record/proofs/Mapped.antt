@@ -1,7 +1,8 @@
 -- What the windows of a tick leave on its map.
-use Rattle.std.proofs.Common.{◌≡◌, ◌<◌, ℕ, zero, suc, List, [], ◌∷◌, ◌++◌, length, slice_get, Option, Some, None, refl, sym, ap, ◌∙◌, subst, inl, inr, arith}
+use Rattle.std.proofs.Common.{◌≡◌, ℕ, zero, suc, List, [], ◌∷◌, ◌++◌, length, slice_get, Option, Some, None, refl, sym, ap, ◌∙◌, subst, inl, inr}
 use Rattle.std.specs.List.{All}
 use Rattle.std.proofs.lemmas.List.Elements.{All-nil, All-cons, All-head, All-tail}
+use Rattle.vx_base.proofs.Lists.{item_there}
 use Rattle.vx_geom.specs.declared.pos.Pos.{Pos}
 use Rattle.vx_geom.specs.Sizes.{Sizes, AreSizes, sector_of}
 use Rattle.vx_cells.specs.MapLaws.{block_in, block_on, IsFilled}
@@ -15,12 +16,6 @@ use Rattle.vx_record.specs.Chronicles.{TickData, AreSeated, all_after, map_acted
 use Rattle.vx_windows.proofs.Sparing.{of_found}
 use Rattle.vx_record.specs.Owners.{as_built, EachCommandHasLeave, IsByWindow, IsStepByStep}
 use Rattle.vx_record.proofs.Commanded.{window_keeps, entry_leaves}
-
--- a number below their count is that of a sector
-sector_found : (cs : List SectorCells) (k : ℕ) → k < length cs → (c : SectorCells) × (slice_get cs k ≡ Some c)
-sector_found [] k below = absurd (omega arith)
-sector_found (c ∷ cs) zero below = (c, refl)
-sector_found (c ∷ cs) (suc k) below = sector_found cs k (omega arith)
 
 module _ (names : List (List ℕ)) (policy : Regions) where
   -- the window of the sector of a number
@@ -129,5 +124,5 @@ module _ (names : List (List ℕ)) (m : MapData) (tick : TickData) (filled : IsF
       by : (k : Option ℕ) → sector_of m.sizes p ≡ k → IsStepByStep m tick p
       by None number = inr (number, ap (stands_in after) number ∙ sym (ap (stands_in m.sectors) number))
       by (Some k) number =
-          let there = sector_found m.sectors k (is_there m.sizes m.sectors p k number filled.map) in
+          let there = item_there m.sectors k (is_there m.sizes m.sectors p k number filled.map) in
           inl (found k there.0 number there.1)

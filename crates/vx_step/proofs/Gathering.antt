@@ -2,7 +2,7 @@
 use Rattle.std.proofs.Common.{◌≡◌, ℕ, zero, suc, ◌+◌, ◌<◌, ◌≤◌, true, if◌then◌else◌, List, [], ◌∷◌, ◌++◌, length, take, drop, get_or, set, slice_get, Option, Some, None, unwrap_or, refl, sym, ap, ap₂, ◌∙◌, subst, arith}
 use Rattle.std.proofs.lemmas.List.{append_assoc, append-nil, drop_all, length-take-le, take_all, take_more}
 use Rattle.std.proofs.lemmas.Option.{get_or_from_slice_get}
-use Rattle.vx_base.proofs.Lists.{drop_at}
+use Rattle.vx_base.proofs.Lists.{drop_at, item_there}
 use Rattle.vx_geom.specs.declared.pos.Pos.{Pos}
 use Rattle.vx_geom.specs.Places.{position_in_sector, positions_from, positions}
 use Rattle.vx_geom.specs.Sizes.{Sizes, AreSizes, sector_cells, sector_count, sector_of}
@@ -12,7 +12,7 @@ use Rattle.vx_cells.specs.Maps.{MapData, cell_on}
 use Rattle.vx_cells.specs.SectorCells.{SectorCells, holds, with_block, with_cell}
 use Rattle.vx_cells.specs.Wholes.{with_cell_on, with_cells_on, IsMap}
 use Rattle.vx_cells.proofs.MapLemmas.{placed_at}
-use Rattle.vx_cells.proofs.Placed.{found_within, holds_found}
+use Rattle.vx_cells.proofs.Placed.{holds_found}
 use Rattle.vx_cells.proofs.Setting.{cell_is_set, puts_whole}
 use Rattle.vx_power.specs.Laws.{dust_level}
 use Rattle.vx_part.specs.Changes.{change_at, before, changes}
@@ -107,7 +107,7 @@ module _ (m : MapData) (nexts : List SectorCells) (whole : IsMap m)
   one_sector : (i : ℕ) → i < sector_count m.sizes
       → with_cells_on (reached i) (changed_in m i) ≡ reached (i + 1)
   one_sector i low =
-      let found = found_within m.sectors i (omega (arith, low, whole.all)) in
+      let found = item_there m.sectors i (omega (arith, low, whole.all)) in
       let c = found.0 in
       let place = placed_at m.sizes 0 i m.sectors c whole.each found.1 in
       let so_far : length (take i nexts) ≡ i = length-take-le i nexts (omega (arith, low, all)) in
@@ -148,7 +148,7 @@ pub gathered_by : {V : Type 0} (items : V → List (Pos × Cell)) (m : MapData) 
 gathered_by items m cells nexts changes n same all whole own nexts_are =
     gathered m nexts whole (omega (arith, nexts_are.all, all))
     (λ i c low found.
-    let v = (found_within changes i (omega (arith, low, own.all))).0 in
+    let v = (item_there changes i (omega (arith, low, own.all))).0 in
     one_at _ n nexts i c nexts_are (omega (arith, low, all)) c v
     ∙ ap₂ with_own (ap (λ cs. get_or cs i c) same ∙ get_or_from_slice_get m.sectors i c c found)
     (one_at (λ i v. items v ≡ changed_in m i) (sector_count m.sizes) changes i v own low))

@@ -1,26 +1,9 @@
--- The columns of a shape are those of its positions, and extents that hold one column meet.
-use Rattle.std.proofs.Common.{◌≡◌, true, List, arith, refl, ◌∙◌}
-use Rattle.std.specs.Prelude.{ℤ, pos, int_le}
+-- Extents that hold one column meet.
+use Rattle.std.proofs.Common.{◌≡◌, true, arith}
+use Rattle.std.specs.Prelude.{ℤ, int_le}
 use Rattle.std.proofs.lemmas.Bool.{and_parts, and_from}
 use Rattle.std.proofs.lemmas.Int.{ints}
-use Rattle.vx_geom.specs.declared.pos.Pos.{Pos}
-use Rattle.vx_geom.specs.Polygon.{Column, is_between, in_box, cross, on_edge, spans, passes_east, meets_ray, is_enclosed, in_polygon}
-use Rattle.vx_geom.specs.Outline.{Cuboid, Polygon, is_in, in_cuboid, in_columns, lies_over, has_column, ShapesHaveTheirColumns}
 use Rattle.vx_geom.specs.Extent.{is_within, overlap, meets, ExtentsMeet}
-
--- the column of the position at another height
-abbrev at_ground : Pos → Pos
-at_ground p = record { y = pos 0; z = p.z; x = p.x }
-
--- a polygon does not look at heights
-level : (points : List Column) (p : Pos) → in_polygon points (at_ground p) ≡ in_polygon points p
-unfolding in_polygon is_enclosed on_edge in_box is_between cross meets_ray passes_east spans
-level points p = refl
-
-pub shapes_have_their_columns : ShapesHaveTheirColumns
-unfolding has_column lies_over is_in in_cuboid in_columns
-shapes_have_their_columns (Cuboid a b) p there = (and_parts _ _ there).0
-shapes_have_their_columns (Polygon points low high) p there = level points p ∙ (and_parts _ _ there).1
 
 -- stretches that have a number in common overlap
 overlap_at : (a b c d x : ℤ) → int_le a x ≡ true → int_le x b ≡ true → int_le c x ≡ true → int_le x d ≡ true → overlap a b c d ≡ true

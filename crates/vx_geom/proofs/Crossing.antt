@@ -18,12 +18,12 @@ positive (pos (suc m)) (pos zero) low_a low_b = absurd (omega (arith, ints))
 positive (pos (suc m)) (negsuc n) low_a low_b = absurd (omega (arith, ints))
 positive (negsuc m) b low_a low_b = absurd (omega (arith, ints))
 
-not_negative : (a b : ℤ) → pos 0 ≤ℤ a → pos 0 ≤ℤ b → pos 0 ≤ℤ (a *ℤ b)
+pub not_negative : (a b : ℤ) → pos 0 ≤ℤ a → pos 0 ≤ℤ b → pos 0 ≤ℤ (a *ℤ b)
 not_negative (pos m) (pos n) low_a low_b = rw pos-*ℤ-pos (omega (arith, ints))
 not_negative (pos m) (negsuc n) low_a low_b = absurd (omega (arith, ints))
 not_negative (negsuc m) b low_a low_b = absurd (omega (arith, ints))
 
-less_times : (a b c : ℤ) → ((a -ℤ b) *ℤ c) ≡ (a *ℤ c -ℤ b *ℤ c)
+pub less_times : (a b c : ℤ) → ((a -ℤ b) *ℤ c) ≡ (a *ℤ c -ℤ b *ℤ c)
 less_times a b c =
     let gap : up (a -ℤ b) + down a + up b ≡ down (a -ℤ b) + up a + down b = omega (arith, ints) in
     omega (arith, ints, ap (λ n. n * up c) gap, ap (λ n. n * down c) gap)
@@ -46,6 +46,24 @@ by_gaps a b p =
     let second : ((b.1 -ℤ p.z) *ℤ to_a) ≡ (whole *ℤ to_a -ℤ down_a *ℤ to_a) =
     ap (λ n. n *ℤ to_a) (let gap : (b.1 -ℤ p.z) ≡ (whole -ℤ down_a) = omega (arith, ints) in gap) ∙ less_times whole down_a to_a in
     omega (arith, ints, first, second, *ℤ_comm down_a to_a, *ℤ_comm (b.1 -ℤ p.z) to_a)
+
+-- the cross product of the way back is its negative
+pub turned : (a b : Column) (p : Pos) → (cross a b p +ℤ cross b a p) ≡ pos 0
+turned a b p =
+    let to_a = p.x -ℤ a.0 in
+    let to_b = p.x -ℤ b.0 in
+    omega (
+      arith,
+      ints,
+      by_gaps a b p,
+      by_gaps b a p,
+      turned_times p.z a.1 to_b,
+      turned_times p.z b.1 to_a,
+      *ℤ_comm to_b (p.z -ℤ a.1),
+      *ℤ_comm to_b (a.1 -ℤ p.z),
+      *ℤ_comm to_a (p.z -ℤ b.1),
+      *ℤ_comm to_a (b.1 -ℤ p.z),
+    )
 
 -- an edge that spans the row passes west of a position east of both ends
 passed_west : (a b : Column) (p : Pos) → a.0 <ℤ p.x → b.0 <ℤ p.x → a.1 ≤ℤ p.z → p.z <ℤ b.1 → cross a b p <ℤ pos 0
@@ -94,16 +112,20 @@ not_passing a b p past_a past_b =
     let ends = spans_at a b p parts.0 in
     omega (arith, ints, parts.1, passed_west a b p past_a past_b ends.0 ends.1))
 
-passing : (a b : Column) (p : Pos) → p.x <ℤ a.0 → p.x <ℤ b.0 → passes_east a b p ≡ spans a b p
+-- a way that lies east of the position wherever it spans the row passes where it spans it
+pub passing : (a b : Column) (p : Pos) → (spans a b p ≡ true → pos 0 <ℤ cross a b p) → passes_east a b p ≡ spans a b p
 unfolding passes_east
-passing a b p past_a past_b =
+passing a b p east =
     elim (cases_Bool (spans a b p)) [
       | inl holds ↦
-          let ends = spans_at a b p holds in
-          let east = passed_east a b p past_a past_b ends.0 ends.1 in
-          and_from (spans a b p) (int_lt (pos 0) (cross a b p)) holds (grind (arith, ints, east)) ∙ sym holds
+          let is_east = east holds in
+          and_from (spans a b p) (int_lt (pos 0) (cross a b p)) holds (grind (arith, ints, is_east)) ∙ sym holds
       | inr fails ↦ and_left (spans a b p) (int_lt (pos 0) (cross a b p)) fails ∙ sym fails
     ]
+
+passing_both : (a b : Column) (p : Pos) → p.x <ℤ a.0 → p.x <ℤ b.0 → passes_east a b p ≡ spans a b p
+passing_both a b p past_a past_b =
+    passing a b p (λ holds. let ends = spans_at a b p holds in passed_east a b p past_a past_b ends.0 ends.1)
 
 -- the point is not south of the position
 abbrev pub is_level : Pos → Column → Bool
@@ -122,12 +144,19 @@ south_is c p =
       | inr fails ↦ grind (arith, ints, fails)
     ]
 
--- west of both ends an edge meets the ray where one end is south of the position and the other not
-pub met_by_level : (a b : Column) (p : Pos) → p.x <ℤ a.0 → p.x <ℤ b.0
+-- an edge that is passed where it is spanned meets the ray where one end is south of the position and
+-- the other not
+pub met_where : (a b : Column) (p : Pos) → passes_east a b p ≡ spans a b p → passes_east b a p ≡ spans b a p
     → meets_ray p (a, b) ≡ is_one (is_level p a) (is_level p b)
 unfolding meets_ray spans
-met_by_level a b p past_a past_b =
-    ap (λ t. t || passes_east b a p) (passing a b p past_a past_b)
-    ∙ ap (λ t. spans a b p || t) (passing b a p past_b past_a)
+met_where a b p there back =
+    ap (λ t. t || passes_east b a p) there
+    ∙ ap (λ t. spans a b p || t) back
     ∙ ap (λ t. spans a b p || (int_le b.1 p.z && t)) (south_is a p)
     ∙ level_ends (int_le a.1 p.z) (int_le b.1 p.z) (int_lt p.z b.1) (south_is b p)
+
+-- so does one whose ends both lie east of it
+pub met_by_level : (a b : Column) (p : Pos) → p.x <ℤ a.0 → p.x <ℤ b.0
+    → meets_ray p (a, b) ≡ is_one (is_level p a) (is_level p b)
+met_by_level a b p past_a past_b =
+    met_where a b p (passing_both a b p past_a past_b) (passing_both b a p past_b past_a)

@@ -11,7 +11,7 @@ use Rattle.vx_geom.specs.Polygon.{Column, is_between, in_box, on_edge, spans, me
 use Rattle.vx_geom.specs.Outline.{Cuboid, Polygon, is_in, in_cuboid, in_columns}
 use Rattle.vx_geom.specs.Extent.{is_within, of_corners, one_column, widened, widened_by, of_points, extent_of, ShapesLieWithin}
 use Rattle.vx_geom.proofs.Crossing.{spans_at, not_met, not_spanning, not_passing, is_level, met_by_level}
-use Rattle.vx_geom.proofs.Ways.{Each, OfEach, is_one, closed, edges_are, any_closed, none_closed, even_closed}
+use Rattle.vx_geom.proofs.Ways.{Each, OfEach, Changes, is_one, closed, edges_are, of_closed, any_along, none_along, even_closed}
 
 -- the columns hold the point
 record Held (e : Extent) (c : Column) : Type 0 where
@@ -106,13 +106,16 @@ west_of e p past a b held_a held_b =
 none_enclosed : (e : Extent) (p : Pos) (a : Column) (bs : List Column) → Each (Held e) (a ∷ bs)
     → OfEach (Held e) (λ d. meets_ray p d ≡ false) → is_enclosed p (closed a bs) ≡ false
 unfolding is_enclosed
-none_enclosed e p a bs all none = ap (λ n. n % 2 == 1) (none_closed (Held e) (meets_ray p) none a bs all)
+none_enclosed e p a bs all none =
+    ap (λ n. n % 2 == 1) (none_along (meets_ray p) (closed a bs) (of_closed (Held e) (λ d. meets_ray p d ≡ false) none a bs all))
 
 -- west of the columns an even number of edges meet the ray
 even_enclosed : (e : Extent) (p : Pos) (a : Column) (bs : List Column) → Each (Held e) (a ∷ bs)
     → p.x <ℤ e.west → is_enclosed p (closed a bs) ≡ false
 unfolding is_enclosed
-even_enclosed e p a bs all past = even_closed (Held e) (meets_ray p) (is_level p) (west_of e p past) a bs all
+even_enclosed e p a bs all past =
+    even_closed (meets_ray p) (is_level p) a bs
+    (of_closed (Held e) (Changes (meets_ray p) (is_level p)) (west_of e p past) a bs all)
 
 enclosed_within : (e : Extent) (p : Pos) (a : Column) (bs : List Column) → Each (Held e) (a ∷ bs)
     → is_enclosed p (closed a bs) ≡ true → is_within e p ≡ true
@@ -127,7 +130,9 @@ within_held : (e : Extent) (p : Pos) (a : Column) (bs : List Column) → Each (H
     → (list_any (on_edge p) (closed a bs) || is_enclosed p (closed a bs)) ≡ true → is_within e p ≡ true
 within_held e p a bs all inside =
     elim (or_cases (list_any (on_edge p) (closed a bs)) (is_enclosed p (closed a bs)) inside) [
-      | inl touches ↦ any_closed (Held e) (on_edge p) (is_within e p) (touching e p) a bs all touches
+      | inl touches ↦
+          any_along (on_edge p) (is_within e p ≡ true) (closed a bs)
+          (of_closed (Held e) (λ d. on_edge p d ≡ true → is_within e p ≡ true) (touching e p) a bs all) touches
       | inr enclosed ↦ enclosed_within e p a bs all enclosed
     ]
 

@@ -2,8 +2,11 @@ pub mod Columns
 pub mod Crossing
 pub mod Divisions
 pub mod Enclosing
+pub mod Gaps
 pub mod OrderLemmas
 pub mod Places
 pub mod Positions
+pub mod Rows
 pub mod SectorLemmas
+pub mod Slopes
 pub mod Ways

@@ -1,8 +1,8 @@
 -- Edges along a way from point to point. A way that ends where it began changes its side an even
 -- number of times.
 use Rattle.std.proofs.Common.{◌≡◌, ℕ, ◌+◌, ◌-◌, ◌%◌, Bool, true, false, ◌==◌, not, cond, List, [], ◌∷◌, length, Some, inl, inr, count_by, arith, ap, sym, refl, ◌∙◌}
-use Rattle.std.specs.List.{list_any, slice_get}
-use Rattle.std.proofs.lemmas.Bool.{or_cases, false_from_ne_true, cases_Bool}
+use Rattle.std.specs.List.{list_any, slice_get, AllByRecursion}
+use Rattle.std.proofs.lemmas.Bool.{false≢true, or_cases, false_from_ne_true, cases_Bool}
 use Rattle.std.proofs.lemmas.List.Sums.{sum_by-cons}
 use Rattle.vx_geom.specs.Polygon.{Column, Edge, edges, edges_from, edges_after}
 
@@ -45,38 +45,38 @@ of_end : (P : Column → Type 0) (a : Column) (bs : List Column) → Each P (a �
 of_end P a [] all = all.0
 of_end P a (b ∷ bs) all = of_end P b bs all.1
 
-any_edge : (P : Column → Type 0) (f : Edge → Bool) (t : Bool) → OfEach P (λ d. f d ≡ true → t ≡ true)
-    → (a : Column) (bs : List Column) → P a → Each P bs → list_any f (edges_after a bs) ≡ true → t ≡ true
-any_edge P f t each a [] of_a all some = cc
-any_edge P f t each a (b ∷ bs) of_a all some =
-    elim (or_cases (f (a, b)) (list_any f (edges_after b bs)) some) [
-      | inl here ↦ each a b of_a all.0 here
-      | inr later ↦ any_edge P f t each b bs all.0 all.1 later
-    ]
+of_edges : (P : Column → Type 0) (Q : Edge → Type 0) → OfEach P Q → (a : Column) (bs : List Column) → P a → Each P bs
+    → AllByRecursion Q (edges_after a bs)
+of_edges P Q each a [] of_a all = tt
+of_edges P Q each a (b ∷ bs) of_a all = (each a b of_a all.0, of_edges P Q each b bs all.0 all.1)
 
--- what is true where an edge passes the test is true where one of the way does
-pub any_closed : (P : Column → Type 0) (f : Edge → Bool) (t : Bool) → OfEach P (λ d. f d ≡ true → t ≡ true)
-    → (a : Column) (bs : List Column) → Each P (a ∷ bs) → list_any f (closed a bs) ≡ true → t ≡ true
-any_closed P f t each a bs all some =
-    any_edge P f t each (end_of a bs) (a ∷ bs) (of_end P a bs all) all some
+-- what holds of each edge between points of which P holds is so of each of a way between such points
+pub of_closed : (P : Column → Type 0) (Q : Edge → Type 0) → OfEach P Q
+    → (a : Column) (bs : List Column) → Each P (a ∷ bs) → AllByRecursion Q (closed a bs)
+of_closed P Q each a bs all = of_edges P Q each (end_of a bs) (a ∷ bs) (of_end P a bs all) all
+
+-- what is so where an edge passes the test is so where one of these does
+pub any_along : (f : Edge → Bool) (T : Type 0) (es : List Edge) → AllByRecursion (λ d. f d ≡ true → T) es
+    → list_any f es ≡ true → T
+any_along f T [] each some = absurd (false≢true some)
+any_along f T (d ∷ ds) each some =
+    elim (or_cases (f d) (list_any f ds) some) [
+      | inl here ↦ each.0 here
+      | inr later ↦ any_along f T ds each.1 later
+    ]
 
 -- one edge more, counted or not
 one_more : (f : Edge → Bool) (d : Edge) (ds : List Edge) (t : Bool) → f d ≡ t
     → count_by f (d ∷ ds) ≡ cond t 1 0 + count_by f ds
 one_more f d ds t is = sum_by-cons (λ x. cond (f x) 1 0) d ds ∙ ap (λ b. cond b 1 0 + count_by f ds) is
 
-none_counted : (P : Column → Type 0) (f : Edge → Bool) → OfEach P (λ d. f d ≡ false)
-    → (a : Column) (bs : List Column) → P a → Each P bs → count_by f (edges_after a bs) ≡ 0
-none_counted P f each a [] of_a all = refl
-none_counted P f each a (b ∷ bs) of_a all =
-    let rest = none_counted P f each b bs all.0 all.1 in
-    let more = one_more f (a, b) (edges_after b bs) false (each a b of_a all.0) in
+-- where no edge passes the test none is counted
+pub none_along : (f : Edge → Bool) (es : List Edge) → AllByRecursion (λ d. f d ≡ false) es → count_by f es ≡ 0
+none_along f [] each = refl
+none_along f (d ∷ ds) each =
+    let rest = none_along f ds each.1 in
+    let more = one_more f d ds false each.0 in
     omega (arith, more, rest)
-
--- where no edge passes the test none of the way is counted
-pub none_closed : (P : Column → Type 0) (f : Edge → Bool) → OfEach P (λ d. f d ≡ false)
-    → (a : Column) (bs : List Column) → Each P (a ∷ bs) → count_by f (closed a bs) ≡ 0
-none_closed P f each a bs all = none_counted P f each (end_of a bs) (a ∷ bs) (of_end P a bs all) all
 
 odd_next : (n : ℕ) → is_odd (1 + n) ≡ not (is_odd n)
 odd_next n =
@@ -109,19 +109,22 @@ never_one : (s : Bool) → is_one s s ≡ false
 never_one true = refl
 never_one false = refl
 
+-- an edge is counted where its ends are on two sides
+abbrev pub Changes : (Edge → Bool) → (Column → Bool) → Edge → Type 0
+Changes f s d = f d ≡ is_one (s d.0) (s d.1)
+
 -- a way changes its side an odd number of times where its ends are on two sides
-odd_changes : (P : Column → Type 0) (f : Edge → Bool) (s : Column → Bool) → OfEach P (λ d. f d ≡ is_one (s d.0) (s d.1))
-    → (a : Column) (bs : List Column) → P a → Each P bs
+odd_changes : (f : Edge → Bool) (s : Column → Bool) (a : Column) (bs : List Column) → AllByRecursion (Changes f s) (edges_after a bs)
     → is_odd (count_by f (edges_after a bs)) ≡ is_one (s a) (s (end_of a bs))
-odd_changes P f s each a [] of_a all = sym (never_one (s a))
-odd_changes P f s each a (b ∷ bs) of_a all =
-    ap is_odd (one_more f (a, b) (edges_after b bs) (is_one (s a) (s b)) (each a b of_a all.0))
+odd_changes f s a [] each = sym (never_one (s a))
+odd_changes f s a (b ∷ bs) each =
+    ap is_odd (one_more f (a, b) (edges_after b bs) (is_one (s a) (s b)) each.0)
     ∙ odd_more (s a) (s b) (count_by f (edges_after b bs))
-    ∙ ap (is_one (is_one (s a) (s b))) (odd_changes P f s each b bs all.0 all.1)
+    ∙ ap (is_one (is_one (s a) (s b))) (odd_changes f s b bs each.1)
     ∙ one_by_one (s a) (s b) (s (end_of b bs))
 
 -- and so never where it ends where it began
-pub even_closed : (P : Column → Type 0) (f : Edge → Bool) (s : Column → Bool) → OfEach P (λ d. f d ≡ is_one (s d.0) (s d.1))
-    → (a : Column) (bs : List Column) → Each P (a ∷ bs) → is_odd (count_by f (closed a bs)) ≡ false
-even_closed P f s each a bs all =
-    odd_changes P f s each (end_of a bs) (a ∷ bs) (of_end P a bs all) all ∙ never_one (s (end_of a bs))
+pub even_closed : (f : Edge → Bool) (s : Column → Bool) (a : Column) (bs : List Column)
+    → AllByRecursion (Changes f s) (closed a bs) → is_odd (count_by f (closed a bs)) ≡ false
+even_closed f s a bs each =
+    odd_changes f s (end_of a bs) (a ∷ bs) each ∙ never_one (s (end_of a bs))

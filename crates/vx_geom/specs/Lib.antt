@@ -6,6 +6,7 @@ pub mod Outline
 pub mod OutlineLaws
 pub mod Places
 pub mod Polygon
+pub mod Row
 pub mod SameOutline
 pub mod Sectors
 pub mod ShapeKind

@@ -1,4 +1,4 @@
-use Rattle.std.specs.Prelude.{◌≡◌, ℕ, ℤ, pos, Bool, true, false, ◌&&◌, int_le, nat_le, List, length}
+use Rattle.std.specs.Prelude.{ℕ, ℤ, Bool, true, false, ◌&&◌, int_le, nat_le, List, length}
 use Rattle.std.specs.Int.{int_min, int_max}
 use Rattle.vx_geom.specs.declared.pos.Pos.{Pos}
 use Rattle.vx_geom.specs.Polygon.{Column, in_polygon}
@@ -25,19 +25,6 @@ in_cuboid a b p = in_columns a b p && is_amid a.y b.y p.y
 unfoldable pub is_in : Outline → Pos → Bool
 is_in (Cuboid a b) p = in_cuboid a b p
 is_in (Polygon points low high) p = is_amid low high p.y && in_polygon points p
-
--- the column of the position is one of the shape's
-unfoldable pub lies_over : Outline → Pos → Bool
-lies_over (Cuboid a b) p = in_columns a b p
-lies_over (Polygon points low high) p = in_polygon points p
-
--- the shape has positions in the column at x and z
-unfoldable pub has_column : Outline → ℤ → ℤ → Bool
-has_column o x z = lies_over o (record { y = pos 0; z = z; x = x })
-
--- a shape has each position that it contains in a column of its own
-abbrev pub ShapesHaveTheirColumns : Type 0
-ShapesHaveTheirColumns = (o : Outline) (p : Pos) → is_in o p ≡ true → has_column o p.x p.z ≡ true
 
 -- the shape is a cuboid
 abbrev pub is_cuboid : Outline → Bool

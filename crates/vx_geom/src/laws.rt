@@ -1,9 +1,9 @@
 ghost use Rattle.std.specs.Prelude.{◌≡◌, Some};
 ghost use Rattle.vx_geom.specs.declared.pos.Pos.{Pos};
 ghost use Rattle.vx_geom.specs.Extent.{ShapesLieWithin, ExtentsMeet};
-ghost use Rattle.vx_geom.specs.Outline.{ShapesHaveTheirColumns};
 ghost use Rattle.vx_geom.specs.Places.{IndicesArePlaces};
 ghost use Rattle.vx_geom.specs.Order.{PositionsAreOrdered, compared};
+ghost use Rattle.vx_geom.specs.Row.{RowsHoldPositions};
 ghost use Rattle.vx_geom.specs.Sectors.{SectorsDivide, IndicesDiffer};
 
 use crate::pos::Pos;
@@ -42,12 +42,12 @@ pub fn shapes_lie_within()
     ensures { ShapesLieWithin }
 {}
 
-/// A shape has each position that it contains in a column that `Shape::has_column` tells.
-pub fn shapes_have_their_columns()
-    ensures { ShapesHaveTheirColumns }
-{}
-
 /// Extents that hold one column meet.
 pub fn extents_meet()
     ensures { ExtentsMeet }
+{}
+
+/// A shape has no position in a row outside the columns that `Shape::row` tells of it.
+pub fn rows_hold_positions()
+    ensures { RowsHoldPositions }
 {}

@@ -20,7 +20,7 @@ pub use dir::Dir;
 pub use extent::Extent;
 pub use laws::{
     extents_meet, indices_are_places, indices_differ, order_is_derived, positions_are_ordered,
-    sectors_divide, shapes_have_their_columns, shapes_lie_within,
+    rows_hold_positions, sectors_divide, shapes_lie_within,
 };
 pub use pos::Pos;
 pub use shape::Shape;

@@ -1,11 +1,12 @@
 ghost use Rattle.std.specs.Prelude.{◌≡◌, ◌↔◌, true, false, IsTrue, IfOk, OnOk, OnErr};
-ghost use Rattle.vx_geom.specs.Outline.{Cuboid, Polygon, is_in, lies_over, has_column, is_cuboid, is_polygon, in_cuboid, in_columns, is_amid, lower, higher};
+ghost use Rattle.vx_geom.specs.Outline.{Cuboid, Polygon, is_in, is_cuboid, is_polygon, in_cuboid, in_columns, is_amid, lower, higher};
 ghost use Rattle.vx_geom.specs.Extent.{extent_of};
+ghost use Rattle.vx_geom.specs.Row.{row_between, row_of};
 ghost use Rattle.vx_geom.specs.SameOutline.{same_outline, same_corners, same_corner, same_points, same_ends};
 
 use crate::bad_shape::BadShape;
 use crate::extent::{Extent, of_corners, of_points};
-use crate::polygon::in_polygon;
+use crate::polygon::{in_polygon, row_of};
 use crate::pos::Pos;
 use std::alloc::{AllocError, Global};
 use std::marker::Model;
@@ -78,24 +79,6 @@ impl Shape {
         }
     }
 
-    /// Whether the shape has positions in the column at `x` and `z`.
-    #[tactic(auto, unfolding(crate::specs::Outline::has_column))]
-    pub fn has_column(&self, x: i32, z: i32) -> bool
-        ensures { result ≡ has_column self.now x z }
-    {
-        self.lies_over(Pos::new(x, 0, z))
-    }
-
-    #[tactic(auto, unfolding(crate::specs::Outline::lies_over))]
-    fn lies_over(&self, p: Pos) -> bool
-        ensures { result ≡ lies_over self.now p }
-    {
-        match &self.kind {
-            ShapeKind::Cuboid(low, high) => in_columns(low, high, &p),
-            ShapeKind::Polygon(points, _, _) => in_polygon(points, &p),
-        }
-    }
-
     /// Whether the shape is a cuboid.
     pub fn is_cuboid(&self) -> bool
         ensures { result ≡ is_cuboid self.now }
@@ -111,6 +94,19 @@ impl Shape {
         match &self.kind {
             ShapeKind::Cuboid(low, high) => of_corners(low, high),
             ShapeKind::Polygon(points, _, _) => of_points(points),
+        }
+    }
+
+    /// The columns of the row at `z` from the first that the shape has to the last, if it has any
+    /// there, and perhaps some beside them where the shape is a polygon: each of its edges is cut at
+    /// the row to a whole column. It costs the points of a polygon and takes no memory.
+    #[tactic(auto, using(vx_base::proofs::Signed::signed), unfolding(crate::specs::Row::row_of))]
+    pub fn row(&self, z: i32) -> Option<Extent>
+        ensures { result ≡ row_of self.now z }
+    {
+        match &self.kind {
+            ShapeKind::Cuboid(low, high) => row_between(low, high, z),
+            ShapeKind::Polygon(points, _, _) => row_of(points, z),
         }
     }
 
@@ -236,6 +232,21 @@ fn same_ends(a: i32, b: i32, c: i32, d: i32) -> bool
     ensures { result ≡ same_ends a b c d }
 {
     a == c && b == d
+}
+
+#[tactic(auto, using(vx_base::proofs::Signed::signed), unfolding(crate::specs::Row::row_between))]
+fn row_between(low: &Pos, high: &Pos, z: i32) -> Option<Extent>
+    ensures { result ≡ row_between low.now high.now z }
+{
+    if !is_amid(low.z, high.z, z) {
+        return None;
+    }
+    Some(Extent {
+        west: low.x,
+        east: high.x,
+        north: z,
+        south: z,
+    })
 }
 
 // The corner with the lesser of each two coordinates.

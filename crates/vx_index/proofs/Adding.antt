@@ -4,15 +4,15 @@ use Rattle.std.specs.List.{AllByRecursion}
 use Rattle.std.proofs.lemmas.Bool.{and_from, both_ways, cases_Bool, eq-eqb, or_left, or_right}
 use Rattle.std.proofs.lemmas.List.{append-nil, append_assoc}
 use Rattle.std.proofs.lemmas.List.Folds.{list_any-append}
+use Rattle.vx_base.proofs.Lists.{all_weaker}
 use Rattle.vx_geom.specs.declared.extent.Extent.{Extent}
 use Rattle.vx_geom.specs.declared.pos.Pos.{Pos}
 use Rattle.vx_geom.specs.Extent.{is_within, extent_of, meets}
 use Rattle.vx_geom.specs.Outline.{Outline, is_in}
-use Rattle.vx_geom.proofs.Columns.{shapes_have_their_columns, extents_meet}
+use Rattle.vx_geom.proofs.Columns.{extents_meet}
 use Rattle.vx_geom.proofs.Enclosing.{shapes_lie_within}
 use Rattle.vx_index.specs.declared.patch.Patch.{Patch}
 use Rattle.vx_index.specs.Patches.{square, row_of_square, HoldsRow, are_near, AreInOrder, IsMet, Adds, AddsAny}
-use Rattle.vx_index.proofs.Orders.{all_weaker}
 use Rattle.vx_index.proofs.Squares.{rows_before, no_rows, row_or_before, all_rows}
 
 -- a patch of the region that has the column is near
@@ -80,7 +80,7 @@ row_skipped number o west north z old new row adds = record {
   whole = λ p within inside. elim (row_or_before west north z p within) [
     | inl before ↦ adds.whole p before inside
     | inr here ↦
-        let none : false ≡ true = row p here (shapes_have_their_columns o p inside) in
+        let none : false ≡ true = row p here inside in
         absurd (both_ways false refl none)
   ];
 }
@@ -96,7 +96,7 @@ row_added number o west north z old new next patch row own pushed adds = record 
   whole = λ p within inside. elim (row_or_before west north z p within) [
     | inl before ↦ near_left adds.added (patch ∷ []) number p (adds.whole p before inside)
     | inr here ↦ near_last adds.added patch number p
-        (near_from number p patch own (row p here (shapes_have_their_columns o p inside)))
+        (near_from number p patch own (row p here inside))
   ];
 }
 

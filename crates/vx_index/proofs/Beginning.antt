@@ -3,6 +3,7 @@ use Rattle.std.proofs.Common.{◌≡◌, ℕ, zero, suc, ◌+◌, ◌<◌, ◌�
 use Rattle.std.specs.List.{AllByRecursion}
 use Rattle.std.proofs.lemmas.Bool.{eqb-true, lt-ltb, ne_eqb, false_from_ne_true, ltb-true}
 use Rattle.std.proofs.lemmas.List.{append-nil, take_all}
+use Rattle.vx_base.proofs.Lists.{all_weaker}
 use Rattle.vx_geom.specs.declared.extent.Extent.{Extent}
 use Rattle.vx_geom.specs.Extent.{extent_of, meets}
 use Rattle.vx_geom.specs.Outline.{Outline}
@@ -13,7 +14,7 @@ use Rattle.vx_index.specs.declared.patch.Patch.{Patch}
 use Rattle.vx_index.specs.Patches.{AreOf, Adds, IsMet}
 use Rattle.vx_index.specs.Shapes.{Shapes, renewed_at, shape_at}
 use Rattle.vx_index.proofs.Adding.{any_some}
-use Rattle.vx_index.proofs.Orders.{all_weaker, kept_all, kept_none}
+use Rattle.vx_index.proofs.Orders.{kept_all, kept_none}
 use Rattle.vx_index.proofs.Renewing.{is_before, is_behind, renewed_tells}
 
 -- the shapes of these regions by number

@@ -38,11 +38,6 @@ all_kept f P Q tells (d ∷ ds) all = by (f d) refl (all_kept f P Q tells ds all
     by true is rest = (tells d is all.0, rest)
     by false is rest = rest
 
--- and of other facts
-pub all_weaker : (P Q : Patch → Type 0) → ((d : Patch) → P d → Q d) → (patches : List Patch) → AllByRecursion P patches → AllByRecursion Q patches
-all_weaker P Q tells [] all = tt
-all_weaker P Q tells (d ∷ ds) all = (tells d all.0, all_weaker P Q tells ds all.1)
-
 -- where all pass a test all are kept, and where none does none
 pub kept_all : (f : Patch → Bool) (patches : List Patch) → AllByRecursion (λ d. f d ≡ true) patches → filter f patches ≡ patches
 kept_all f [] all = refl

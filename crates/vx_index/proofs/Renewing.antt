@@ -2,6 +2,7 @@
 use Rattle.std.proofs.Common.{◌≡◌, ◌≢◌, inl, inr, ℕ, ◌≤◌, Bool, true, false, cond, nat_eq, nat_lt, List, [], ◌∷◌, ◌++◌, filter, Option, Some, option_map, refl, ap, sym, ◌∙◌, subst, arith}
 use Rattle.std.specs.List.{AllByRecursion}
 use Rattle.std.proofs.lemmas.Bool.{and_parts, both_ways, cases_eq, cases_lt, eqb-true, lt-ltb, ltb-true, or_cases, or_left, or_parts, or_right}
+use Rattle.vx_base.proofs.Lists.{all_weaker}
 use Rattle.vx_geom.specs.declared.extent.Extent.{Extent}
 use Rattle.vx_geom.specs.declared.pos.Pos.{Pos}
 use Rattle.vx_geom.specs.Extent.{is_within, extent_of, meets}
@@ -14,7 +15,7 @@ use Rattle.vx_index.specs.Shapes.{Shapes, renewed_at}
 use Rattle.vx_index.specs.Touching.{AreTouched, any_meets, touches}
 use Rattle.vx_index.specs.declared.touched.Touched.{Touched}
 use Rattle.vx_index.proofs.Adding.{is_near, near_left, near_right, all_append, order_own}
-use Rattle.vx_index.proofs.Orders.{order_raise, order_filter, order_join, all_kept, all_weaker}
+use Rattle.vx_index.proofs.Orders.{order_raise, order_filter, order_join, all_kept}
 use Rattle.vx_index.proofs.Shapes.{at_number, elsewhere}
 
 -- the number that a near patch has

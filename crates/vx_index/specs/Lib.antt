@@ -1,4 +1,5 @@
 pub mod Chunks
+pub mod Cuts
 pub mod Lands
 pub mod Patches
 pub mod Plots

@@ -5,7 +5,7 @@ use Rattle.std.specs.List.Sorted.{IsStrictlyIncreasing}
 use Rattle.vx_geom.specs.declared.extent.Extent.{Extent}
 use Rattle.vx_geom.specs.declared.pos.Pos.{Pos}
 use Rattle.vx_geom.specs.Extent.{is_within, extent_of, meets}
-use Rattle.vx_geom.specs.Outline.{Outline, is_in, has_column}
+use Rattle.vx_geom.specs.Outline.{Outline, is_in}
 use Rattle.vx_index.specs.Shapes.{Shapes}
 use Rattle.vx_index.specs.declared.patch.Patch.{Patch}
 
@@ -32,10 +32,10 @@ abbrev pub is_in_row : Option Extent → Pos → Bool
 is_in_row None p = false
 is_in_row (Some row) p = is_within row p
 
--- each of these columns that the shape has is one of the row's
+-- each position of the shape in these columns lies in one of the row's
 abbrev pub HoldsRow : Outline → Extent → Option Extent → Type 0
 HoldsRow shape columns row = (p : Pos) → is_within columns p ≡ true
-    → has_column shape p.x p.z ≡ true → is_in_row row p ≡ true
+    → is_in shape p ≡ true → is_in_row row p ≡ true
 
 -- some patch of the region of that number passes the test
 abbrev pub has_such : (Patch → Bool) → List Patch → ℕ → Bool

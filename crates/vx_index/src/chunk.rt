@@ -10,13 +10,14 @@ ghost use Rattle.vx_index.specs.Patches.{AreInOrder, AreNumbersOf, AreOf, square
 ghost use Rattle.vx_index.specs.Shapes.{Shapes, renewed_at};
 ghost use Rattle.vx_index.specs.Squares.{IsSquare};
 
+use crate::cut::Cut;
 use crate::patch::Patch;
 use crate::patches::{SIDE, add_any, add_patches, square};
 use arrayvec::ArrayVec;
 use std::alloc::{AllocError, Global};
 use vx_decide::{Asker, Verdict, decide_among};
 use vx_flag::{Action, Flag};
-use vx_geom::{Extent, Pos, Shape};
+use vx_geom::{Extent, Pos};
 use vx_region::{RegionSet, Subject};
 
 /// So many regions near a place are gathered before they are asked; where there are more, all
@@ -53,7 +54,13 @@ impl Chunk {
         let mut patches = Vec::new(alloc);
         for place in 0..regions.count() {
             let (number, region) = regions.nth(place);
-            add_patches(&mut patches, number.0, region.shape(), west, north)?;
+            add_patches(
+                &mut patches,
+                number.0,
+                &Cut::of(region.shape()),
+                west,
+                north,
+            )?;
         }
         Chunk::made(alloc, square(west, north), patches, 0)
     }
@@ -189,7 +196,7 @@ impl Chunk {
         &self,
         alloc: Global,
         number: u32,
-        shape: Option<&Shape>,
+        shape: Option<&Cut>,
     ) -> Result<Chunk, AllocError>
         requires { IsSquare self.now.columns }
         ensures of { (shapes : Shapes) → TellsOf shapes self.now
@@ -244,7 +251,7 @@ impl Chunk {
 }
 
 // How many patches a shape has in a chunk at most. No clause says so: only room rests on it.
-fn most_patches(shape: Option<&Shape>) -> usize {
+fn most_patches(shape: Option<&Cut>) -> usize {
     match shape {
         None => 0,
         Some(shape) if shape.is_cuboid() => 1,

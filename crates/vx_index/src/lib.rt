@@ -6,6 +6,7 @@ mod asked;
 mod cache;
 mod cached;
 mod chunk;
+mod cut;
 mod indexed;
 mod kept;
 mod land;

@@ -1,14 +1,14 @@
 //! The patches of a region in a chunk: all columns of a cuboid, and for each row those of a polygon
 //! from the first to the last.
-ghost use Rattle.std.specs.Prelude.{◌≡◌, ◌+◌, ◌-◌, ◌<◌, ◌≤◌, ℕ, pos, true, false, option_copied, MatchOption, OnOk};
+ghost use Rattle.std.specs.Prelude.{◌≡◌, ◌+◌, ◌<◌, ◌≤◌, false, option_copied, OnOk};
 ghost use Rattle.vx_geom.specs.Extent.{extent_of, meets};
-ghost use Rattle.vx_geom.specs.Outline.{has_column};
 ghost use Rattle.vx_geom.specs.declared.bounds.TheConstants.{MAX_COLUMNS_EACH_WAY};
 ghost use Rattle.vx_index.specs.Patches.{square, row_of_square, HoldsRow, Adds, AddsAny};
 
+use crate::cut::Cut;
 use crate::patch::Patch;
 use std::alloc::AllocError;
-use vx_geom::{Extent, Shape};
+use vx_geom::Extent;
 
 /// How many columns a side of a chunk has.
 pub(crate) const SIDE: u32 = 16;
@@ -31,7 +31,7 @@ pub(crate) fn square(west: u32, north: u32) -> Extent
 pub(crate) fn add_any(
     patches: &mut Vec<Patch>,
     number: u32,
-    shape: Option<&Shape>,
+    shape: Option<&Cut>,
     west: u32,
     north: u32,
 ) -> Result<(), AllocError>
@@ -51,7 +51,7 @@ pub(crate) fn add_any(
 pub(crate) fn add_patches(
     patches: &mut Vec<Patch>,
     number: u32,
-    shape: &Shape,
+    shape: &Cut,
     west: u32,
     north: u32,
 ) -> Result<(), AllocError>
@@ -77,7 +77,7 @@ pub(crate) fn add_patches(
 fn add_rows(
     patches: &mut Vec<Patch>,
     number: u32,
-    shape: &Shape,
+    shape: &Cut,
     west: u32,
     north: u32,
 ) -> Result<(), AllocError>
@@ -95,57 +95,21 @@ fn add_rows(
 }
 
 // The columns of the row z of a chunk from the first that the shape has to the last.
-fn row_of(shape: &Shape, west: u32, z: u32) -> Option<Extent>
+fn row_of(shape: &Cut, west: u32, z: u32) -> Option<Extent>
     requires west { west ≤ MAX_COLUMNS_EACH_WAY }
     requires row { z < MAX_COLUMNS_EACH_WAY + 16 }
     ensures { HoldsRow shape.now (row_of_square west z) result }
 {
-    let first = first_column(shape, west, z)?;
-    let last = last_column(shape, west, z)?;
+    let row = shape.row(z as i32)?;
+    let first = row.west.max(west as i32);
+    let last = row.east.min((west + SIDE - 1) as i32);
+    if last < first {
+        return None;
+    }
     Some(Extent {
-        west: first as i32,
-        east: last as i32,
+        west: first,
+        east: last,
         north: z as i32,
         south: z as i32,
     })
-}
-
-// The first column of the row that the shape has.
-fn first_column(shape: &Shape, west: u32, z: u32) -> Option<u32>
-    requires west { west ≤ MAX_COLUMNS_EACH_WAY }
-    requires row { z < MAX_COLUMNS_EACH_WAY + 16 }
-    ensures first { (x : ℕ) → west ≤ x → x < west + 16 → has_column shape.now (pos x) (pos z) ≡ true
-        → MatchOption result ⊥ (λ first. first ≤ x) }
-    ensures within { MatchOption result (Unit {0}) (λ first. first < MAX_COLUMNS_EACH_WAY + 16) }
-{
-    for x in west..west + SIDE {
-        if has_column(shape, x, z) {
-            return Some(x);
-        }
-    }
-    None
-}
-
-// The last one.
-fn last_column(shape: &Shape, west: u32, z: u32) -> Option<u32>
-    requires west { west ≤ MAX_COLUMNS_EACH_WAY }
-    requires row { z < MAX_COLUMNS_EACH_WAY + 16 }
-    ensures last { (x : ℕ) → west ≤ x → x < west + 16 → has_column shape.now (pos x) (pos z) ≡ true
-        → MatchOption result ⊥ (λ last. x ≤ last) }
-    ensures within { MatchOption result (Unit {0}) (λ last. last < MAX_COLUMNS_EACH_WAY + 16) }
-{
-    for x in (west..west + SIDE).rev() {
-        if has_column(shape, x, z) {
-            return Some(x);
-        }
-    }
-    None
-}
-
-fn has_column(shape: &Shape, x: u32, z: u32) -> bool
-    requires column { x < MAX_COLUMNS_EACH_WAY + 16 }
-    requires row { z < MAX_COLUMNS_EACH_WAY + 16 }
-    ensures { result ≡ has_column shape.now (pos x) (pos z) }
-{
-    shape.has_column(x as i32, z as i32)
 }

@@ -5,11 +5,11 @@ ghost use Rattle.vx_index.specs.Squares.{IsSquare};
 ghost use Rattle.vx_index.specs.Touching.{AreTouched};
 
 use crate::chunk::Chunk;
+use crate::cut::Cut;
 use crate::touched::Touched;
 use std::alloc::{AllocError, Global};
 use std::marker::Model;
 use std::sync::Arc;
-use vx_geom::Shape;
 
 /// A chunk as a land holds it: copies of the land share it. Contracts see it as the chunk.
 #[derive(Drop)]
@@ -62,7 +62,7 @@ impl Plot {
         &self,
         alloc: Global,
         number: u32,
-        shape: Option<&Shape>,
+        shape: Option<&Cut>,
         touched: &Touched,
     ) -> Result<Plot, AllocError>
         ensures of { (shapes : Shapes) → TellsOf shapes self.now

@@ -7,6 +7,7 @@ ghost use Rattle.vx_index.specs.Shapes.{Shapes, renewed_at};
 ghost use Rattle.vx_index.specs.Touching.{AreTouched};
 
 use crate::chunk::Chunk;
+use crate::cut::cut_along;
 use crate::patches::{SIDE, square};
 use crate::plot::Plot;
 use crate::touched::Touched;
@@ -104,9 +105,10 @@ impl Row {
             return self.try_clone();
         }
         let columns = self.columns;
+        let cut = cut_along(shape, columns.north);
         let mut plots = Vec::with_capacity(alloc, self.plots.len())?;
         for index in 0..self.plots.len() {
-            plots.push(self.plots[index].renewed(alloc, number, shape, touched)?)?;
+            plots.push(self.plots[index].renewed(alloc, number, cut.as_ref(), touched)?)?;
         }
         Row::made(alloc, columns, plots)
     }

@@ -1,19 +1,10 @@
-use Rattle.std.proofs.Common.{◌≡◌, ℤ, pos, neg_ℤ, ◌-ℤ◌, ◌*ℤ◌, ◌≤ℤ◌, ◌^◌, rules, arith, ap, ◌∙◌, SFits, w32, w64}
+use Rattle.std.proofs.Common.{◌≡◌, ℤ, pos, neg_ℤ, ◌-ℤ◌, ◌*ℤ◌, ◌≤ℤ◌, ◌^◌, rules, arith, ap, ◌∙◌, SFits, w32}
 use Rattle.std.proofs.lemmas.Int.{ints}
 use Rattle.std.specs.Int.{w128}
 use mir.Val.{to_z, of_z}
 use Rattle.vx_geom.specs.Polygon.{cross}
+use Rattle.vx_geom.proofs.Gaps.{gap_fits, product_fits, gap_is}
 use Rattle.vx_geom.proofs.polygon.cross.Goals as goal
-
--- a gap and a product fit what they are computed in
-gap_fits : (x : ℤ) → neg_ℤ (pos (2 ^ 32)) ≤ℤ x → x ≤ℤ pos (2 ^ 32) → to_z w64 (of_z w64 x) ≡ x
-gap_fits x low high = omega (arith, ints)
-
-product_fits : (x : ℤ) → neg_ℤ (pos (2 ^ 64)) ≤ℤ x → x ≤ℤ pos (2 ^ 64) → to_z w128 (of_z w128 x) ≡ x
-product_fits x low high = omega (arith, ints)
-
-gap_is : (r to from : ℤ) → SFits w32 to → SFits w32 from → r ≡ to_z w32 (of_z w32 to) -ℤ to_z w32 (of_z w32 from) → r ≡ to -ℤ from
-gap_is r to from to_fits from_fits is = omega (arith, ints)
 
 difference_is : (r x y : ℤ) → neg_ℤ (pos (2 ^ 64)) ≤ℤ x → x ≤ℤ pos (2 ^ 64) → neg_ℤ (pos (2 ^ 64)) ≤ℤ y → y ≤ℤ pos (2 ^ 64)
     → r ≡ to_z w128 (of_z w128 x) -ℤ to_z w128 (of_z w128 y) → to_z w128 (of_z w128 r) ≡ x -ℤ y

@@ -1,22 +1,13 @@
-use Rattle.std.proofs.Common.{◌≡◌, ℤ, pos, neg_ℤ, ◌*ℤ◌, ◌≤ℤ◌, ◌≤◌, ◌^◌, arith, lit<, SFits, w64}
+use Rattle.std.proofs.Common.{ℤ, pos, neg_ℤ, ◌*ℤ◌, ◌≤ℤ◌, ◌≤◌, ◌^◌, arith}
 use Rattle.std.specs.Prelude.{unsigned_abs}
 use Rattle.std.specs.Int.{w128}
-use Rattle.std.proofs.lemmas.Int.{ints, to_z-of_z, unsigned_abs-mul, fits_signed_mul}
+use Rattle.std.proofs.lemmas.Int.{ints, to_z-of_z, unsigned_abs-mul}
 use Rattle.std.proofs.lemmas.Nat.{mul-le}
-use mir.Val.{to_z, of_z}
+use Rattle.vx_geom.proofs.Gaps.{widened, abs_most, times_fit}
 use Rattle.vx_geom.proofs.polygon.product.Goals as goal
-
-widened : (a r : ℤ) → SFits w64 a → r ≡ to_z w64 (of_z w64 a) → to_z w128 (of_z w128 r) ≡ a
-widened a r fits is = omega (arith, ints)
-
-abs_most : (a : ℤ) → neg_ℤ (pos (2 ^ 32)) ≤ℤ a → a ≤ℤ pos (2 ^ 32) → unsigned_abs a ≤ 2 ^ 32
-abs_most a low high = omega (arith, ints)
 
 product_most : (a b : ℤ) → unsigned_abs a ≤ 2 ^ 32 → unsigned_abs b ≤ 2 ^ 32 → unsigned_abs (a *ℤ b) ≤ 2 ^ 64
 product_most a b a_most b_most = rw (unsigned_abs-mul a b) (mul-le (unsigned_abs a) (unsigned_abs b) (2 ^ 32) (2 ^ 32) a_most b_most)
-
-product_fits : (a b : ℤ) → unsigned_abs a ≤ 2 ^ 32 → unsigned_abs b ≤ 2 ^ 32 → SFits w128 (a *ℤ b)
-product_fits a b a_most b_most = fits_signed_mul w128 a b (2 ^ 32) (2 ^ 32) a_most b_most (lit< tt)
 
 product_low : (z : ℤ) → unsigned_abs z ≤ 2 ^ 64 → neg_ℤ (pos (2 ^ 64)) ≤ℤ z
 product_low z most = omega (arith, ints)
@@ -29,7 +20,7 @@ overflow_mul-result c =
     let a_most = abs_most c.args.a c.requires.a_low c.requires.a_high in
     let b_most = abs_most c.args.b c.requires.b_low c.requires.b_high in
     rw (widened c.args.a c.from.result c.ranges.a c.from.ensures, widened c.args.b c.from-2.result c.ranges.b c.from-2.ensures)
-    (product_fits c.args.a c.args.b a_most b_most)
+    (times_fit c.args.a c.args.b a_most b_most)
 
 pub returns : goal.returns
 returns c =
@@ -38,6 +29,6 @@ returns c =
     let a_most = abs_most a c.requires.a_low c.requires.a_high in
     let b_most = abs_most b c.requires.b_low c.requires.b_high in
     let most = product_most a b a_most b_most in
-    let whole = to_z-of_z w128 (a *ℤ b) (product_fits a b a_most b_most) in
+    let whole = to_z-of_z w128 (a *ℤ b) (times_fit a b a_most b_most) in
     rw (widened a c.from.result c.ranges.a c.from.ensures, widened b c.from-2.result c.ranges.b c.from-2.ensures)
     (record { value = whole; low = rw whole (product_low (a *ℤ b) most); high = rw whole (product_high (a *ℤ b) most) })

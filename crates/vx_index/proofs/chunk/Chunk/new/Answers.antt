@@ -1,4 +1,4 @@
-use Rattle.std.proofs.Common.{sym, subst, arith}
+use Rattle.std.proofs.Common.{◌∙◌, sym, subst, arith}
 use Rattle.std.proofs.lemmas.Result.{IfOk-from_err}
 use Rattle.vx_geom.specs.declared.extent.Extent.{Extent}
 use Rattle.vx_index.specs.Patches.{square, AreOf}
@@ -11,9 +11,10 @@ loop-place-init c = of_none c.args.regions.now.entries (square c.args.west c.arg
 
 pub loop-place-preserved : goal.loop-place-preserved
 loop-place-preserved c =
+    let shape_is = c.of.ensures ∙ c.shape.ensures in
     of_one_more c.args.regions.now.entries (square c.args.west c.args.north) c.loop-place.place _
     c.loop-place.patches.items c.add_patches.new.patches.items c.soundness.ensures.forest.numbered.ascending c.nth.ensures
-    c.loop-place.invariant (rw c.shape.ensures at c.in_ok-add_patches.ensures.adds) (rw c.shape.ensures at c.in_ok-add_patches.ensures.apart)
+    c.loop-place.invariant (rw shape_is at c.in_ok-add_patches.ensures.adds) (rw shape_is at c.in_ok-add_patches.ensures.apart)
 
 pub returns-clause-of : goal.returns-clause-of
 returns-clause-of c =

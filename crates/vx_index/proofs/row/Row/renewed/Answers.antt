@@ -4,6 +4,7 @@ use Rattle.std.specs.List.{All, slice_index_or}
 use Rattle.vx_index.specs.Chunks.{TellsOf}
 use Rattle.vx_index.specs.Plots.{LiesAlong}
 use Rattle.vx_index.specs.Shapes.{renewed_at}
+use Rattle.vx_index.specs.Touching.{AreTouched}
 use Rattle.vx_index.specs.declared.chunk.Chunk.{Chunk}
 use Rattle.vx_index.proofs.Along.{along_still, untouched_along}
 use Rattle.vx_index.proofs.Renewing.{renewed_elsewhere}
@@ -37,8 +38,11 @@ loop-index-preserved c =
     let along : LiesAlong columns before = search rules in (
       λ shapes tell are.
           let tells : TellsOf shapes before = search rules in
+          let shape_is = c.as_ref.ensures.value ∙ c.cut_along-cut.ensures in
           push_holds (TellsOf (renewed_at shapes c.args.number (option_copied c.args.shape))) plots c.push.new.self.items plot pushed
-          (c.loop-index.invariant.0 shapes tell are) (c.in_ok-renewed.ensures.of shapes tells are),
+          (c.loop-index.invariant.0 shapes tell are)
+          (subst (λ o. TellsOf (renewed_at shapes c.args.number o) plot) shape_is
+          (c.in_ok-renewed.ensures.of shapes tells (subst (λ o. AreTouched (shapes c.args.number) o c.args.touched.now) (sym shape_is) are))),
       push_holds (LiesAlong columns) plots c.push.new.self.items plot pushed c.loop-index.invariant.1
           (along_still columns before plot c.in_ok-renewed.ensures.columns along),
     )

@@ -1,0 +1,5 @@
+use Rattle.vx_geom.proofs.Rows.{rows_hold_positions}
+use Rattle.vx_geom.proofs.laws.rows_hold_positions.Goals as goal
+
+pub returns : goal.returns
+returns c = rows_hold_positions

@@ -14,11 +14,11 @@ use Rattle.vx_geom.proofs.Crossing.{spans_at, not_met, not_spanning, not_passing
 use Rattle.vx_geom.proofs.Ways.{Each, OfEach, Changes, is_one, closed, edges_are, of_closed, any_along, none_along, even_closed}
 
 -- the columns hold the point
-record Held (e : Extent) (c : Column) : Type 0 where
-  west : e.west ≤ℤ c.0
-  east : c.0 ≤ℤ e.east
-  north : e.north ≤ℤ c.1
-  south : c.1 ≤ℤ e.south
+pub record Held (e : Extent) (c : Column) : Type 0 where
+  pub west : e.west ≤ℤ c.0
+  pub east : c.0 ≤ℤ e.east
+  pub north : e.north ≤ℤ c.1
+  pub south : c.1 ≤ℤ e.south
 
 still_held : (e : Extent) (c d : Column) → Held e d → Held (widened e c) d
 unfolding widened
@@ -42,7 +42,7 @@ stays_held : (e : Extent) (cs : List Column) (d : Column) → Held e d → Held 
 stays_held e [] d held = held
 stays_held e (c ∷ cs) d held = stays_held (widened e c) cs d (still_held e c d held)
 
-all_held : (e : Extent) (cs : List Column) → Each (Held (widened_by e cs)) cs
+pub all_held : (e : Extent) (cs : List Column) → Each (Held (widened_by e cs)) cs
 all_held e [] = tt
 all_held e (c ∷ cs) = (stays_held (widened e c) cs c (now_held e c), all_held (widened e c) cs)
 

@@ -6,6 +6,7 @@ pub mod Gaps
 pub mod OrderLemmas
 pub mod Places
 pub mod Positions
+pub mod RowEnds
 pub mod Rows
 pub mod SectorLemmas
 pub mod Slopes

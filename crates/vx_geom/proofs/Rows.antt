@@ -49,20 +49,20 @@ all_had z row [] = tt
 all_had z row (e ∷ es) =
     (λ there. stays z (with_edge z row e) es (stretch z e) (now_has z row e there), all_had z (with_edge z row e) es)
 
-south_cut : (a b : Column) (z : ℤ) → a.1 <ℤ b.1 → stretch z (a, b) ≡ crossing a b z
+pub south_cut : (a b : Column) (z : ℤ) → a.1 <ℤ b.1 → stretch z (a, b) ≡ crossing a b z
 unfolding stretch
 south_cut a b z below =
     let is : int_lt a.1 b.1 ≡ true = grind (arith, ints, below) in
     rw is refl
 
-north_cut : (a b : Column) (z : ℤ) → b.1 <ℤ a.1 → stretch z (a, b) ≡ crossing b a z
+pub north_cut : (a b : Column) (z : ℤ) → b.1 <ℤ a.1 → stretch z (a, b) ≡ crossing b a z
 unfolding stretch
 north_cut a b z below =
     let is : int_lt b.1 a.1 ≡ true = grind (arith, ints, below) in
     let back : int_lt a.1 b.1 ≡ false = false_from_ne_true _ (λ h. omega (arith, ints, h, below)) in
     rw (back, is) refl
 
-level_cut : (a b : Column) (z : ℤ) → a.1 ≡ b.1 → stretch z (a, b) ≡ along a b z
+pub level_cut : (a b : Column) (z : ℤ) → a.1 ≡ b.1 → stretch z (a, b) ≡ along a b z
 unfolding stretch
 level_cut a b z same =
     let there : int_lt a.1 b.1 ≡ false = false_from_ne_true _ (λ h. omega (arith, ints, h, same)) in

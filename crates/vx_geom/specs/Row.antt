@@ -1,9 +1,10 @@
--- The columns of one row of a shape, from the first to the last.
+-- The columns of one row, from the first to the last, among which are those of a shape.
 use Rattle.std.specs.Prelude.{◌≡◌, ℤ, pos, ◌+ℤ◌, ◌-ℤ◌, ◌*ℤ◌, ◌≤ℤ◌, Bool, true, if◌then◌else◌, int_lt, int_div, List, [], ◌∷◌, Option, Some, None, MatchOption}
 use Rattle.std.specs.Int.{int_min, int_max}
 use Rattle.vx_geom.specs.declared.pos.Pos.{Pos}
 use Rattle.vx_geom.specs.declared.extent.Extent.{Extent}
 use Rattle.vx_geom.specs.Polygon.{Column, Edge, is_between, edges}
+use Rattle.vx_geom.specs.Extent.{extent_of}
 use Rattle.vx_geom.specs.Outline.{Outline, Cuboid, Polygon, is_amid, is_in}
 
 -- the columns of the row z from the first x to the last
@@ -61,7 +62,8 @@ with_edges z row (e ∷ es) = with_edges z (with_edge z row e) es
 unfoldable pub row_between : Pos → Pos → ℤ → Option Extent
 row_between a b z = if is_amid a.z b.z z then Some (columns_of z a.x b.x) else None
 
--- the columns of the row z from the first to the last that is a shape's, if it has any there
+-- the columns of the row z from the first to the last that a side of the shape meets, as it is cut to
+-- whole columns. Only costs rest on how few they are
 unfoldable pub row_of : Outline → ℤ → Option Extent
 row_of (Cuboid a b) z = row_between a b z
 row_of (Polygon points low high) z = with_edges z None (edges points)
@@ -70,3 +72,8 @@ row_of (Polygon points low high) z = with_edges z None (edges points)
 abbrev pub RowsHoldPositions : Type 0
 RowsHoldPositions = (o : Outline) (p : Pos) → is_in o p ≡ true
     → MatchOption (row_of o p.z) ⊥ (λ row. (row.west ≤ℤ p.x) × (p.x ≤ℤ row.east))
+
+-- and none west or east of all columns of the shape
+abbrev pub RowsLieWithin : Type 0
+RowsLieWithin = (o : Outline) (z : ℤ) (row : Extent) → row_of o z ≡ Some row
+    → ((extent_of o).west ≤ℤ row.west) × (row.east ≤ℤ (extent_of o).east)

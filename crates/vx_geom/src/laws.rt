@@ -3,7 +3,7 @@ ghost use Rattle.vx_geom.specs.declared.pos.Pos.{Pos};
 ghost use Rattle.vx_geom.specs.Extent.{ShapesLieWithin, ExtentsMeet};
 ghost use Rattle.vx_geom.specs.Places.{IndicesArePlaces};
 ghost use Rattle.vx_geom.specs.Order.{PositionsAreOrdered, compared};
-ghost use Rattle.vx_geom.specs.Row.{RowsHoldPositions};
+ghost use Rattle.vx_geom.specs.Row.{RowsHoldPositions, RowsLieWithin};
 ghost use Rattle.vx_geom.specs.Sectors.{SectorsDivide, IndicesDiffer};
 
 use crate::pos::Pos;
@@ -47,7 +47,9 @@ pub fn extents_meet()
     ensures { ExtentsMeet }
 {}
 
-/// A shape has no position in a row outside the columns that `Shape::row` tells of it.
+/// A shape has no position in a row outside the columns that `Shape::row` tells of it, and these lie
+/// within those that `Shape::extent` tells.
 pub fn rows_hold_positions()
-    ensures { RowsHoldPositions }
+    ensures holds { RowsHoldPositions }
+    ensures within { RowsLieWithin }
 {}

@@ -97,9 +97,10 @@ impl Shape {
         }
     }
 
-    /// The columns of the row at `z` from the first that the shape has to the last, if it has any
-    /// there, and perhaps some beside them where the shape is a polygon: each of its edges is cut at
-    /// the row to a whole column. It costs the points of a polygon and takes no memory.
+    /// Columns of the row at `z`, from one to another, among which are all that the shape has there;
+    /// `None` where no part of its sides reaches the row. A polygon's edges are cut at the row to
+    /// whole columns, so there may be one more than it has at either end, and gaps between. It costs
+    /// the points of a polygon and takes no memory.
     #[tactic(auto, using(vx_base::proofs::Signed::signed), unfolding(crate::specs::Row::row_of))]
     pub fn row(&self, z: i32) -> Option<Extent>
         ensures { result ≡ row_of self.now z }

@@ -9,6 +9,7 @@ mod id_numbers;
 mod id_part;
 mod laws;
 mod name;
+mod name_set;
 mod region;
 mod region_list;
 mod region_no;

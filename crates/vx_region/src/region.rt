@@ -1,24 +1,20 @@
-ghost use Rattle.std.specs.Prelude.{◌≡◌, false, bytes_eq, option_map, Some, None, IfOk, OnOk, OnErr};
+ghost use Rattle.std.specs.Prelude.{◌≡◌, false, option_map, Some, None, IfOk, OnOk, OnErr};
 ghost use Rattle.std.specs.Bool.{Decides};
-ghost use Rattle.std.specs.List.{list_any};
 ghost use Rattle.vx_flag.specs.Settings.{setting_of, with_setting};
 ghost use Rattle.vx_geom.specs.Outline.{is_in};
-ghost use Rattle.vx_region.specs.Regions.{names, names_of, names_with, names_without, gaining, losing, fresh_region};
-ghost use Rattle.vx_region.specs.SameRegions.{same_number, same_names, same_place, same_rosters, same_region};
+ghost use Rattle.vx_region.specs.Regions.{names, names_of, gaining, losing, fresh_region};
+ghost use Rattle.vx_region.specs.SameRegions.{same_number, same_place, same_rosters, same_region};
 ghost use Rattle.vx_region.specs.Texts.{texts};
 
 use crate::id::Id;
 use crate::name::Name;
+use crate::name_set::NameSet;
 use crate::region_no::RegionNo;
 use crate::roster::Roster;
-use indexmap::IndexSet;
 use std::alloc::{AllocError, Global};
 use std::marker::Model;
 use vx_flag::{Flag, Setting, Settings};
 use vx_geom::{Pos, Shape};
-
-/// Up to so many names are compared one by one.
-const FEW: usize = 8;
 
 /// A region: where it lies, its priority and its parent, who its owners and its members are, the
 /// domains of its machines, and what it sets for each flag.
@@ -28,16 +24,15 @@ pub struct Region {
     shape: Shape,
     priority: i32,
     parent: Option<RegionNo>,
-    owners: IndexSet<Name>,
-    members: IndexSet<Name>,
-    domains: IndexSet<Name>,
+    owners: NameSet,
+    members: NameSet,
+    domains: NameSet,
     settings: Settings,
 }
 
 impl Model for Region {
     ghost use Rattle.std.specs.Prelude.{option_map};
     ghost use Rattle.vx_region.specs.Regions.{RegionData};
-    ghost use Rattle.vx_region.specs.Texts.{texts};
 
     ghost Value = { RegionData };
 
@@ -46,9 +41,9 @@ impl Model for Region {
       shape = a.shape;
       priority = a.priority;
       parent = option_map (λ n. n.0) a.parent;
-      owners = texts a.owners.keys;
-      members = texts a.members.keys;
-      domains = texts a.domains.keys;
+      owners = a.owners;
+      members = a.members;
+      domains = a.domains;
       settings = a.settings;
     } };
 }
@@ -63,9 +58,9 @@ impl Region {
             shape,
             priority: 0,
             parent: None,
-            owners: IndexSet::new(alloc),
-            members: IndexSet::new(alloc),
-            domains: IndexSet::new(alloc),
+            owners: NameSet::new(alloc),
+            members: NameSet::new(alloc),
+            domains: NameSet::new(alloc),
             settings: Settings::new(),
         }
     }
@@ -113,14 +108,13 @@ impl Region {
     }
 
     /// Whether the name is on that roster.
-    #[tactic(auto, using(crate::proofs::NameLemmas::names_texts))]
     pub fn has_name(&self, roster: Roster, name: &Name) -> bool
         ensures { result ≡ names (names_of roster self.now) name.now.text.bytes }
     {
         match roster {
-            Roster::Owners => is_among(&self.owners, name),
-            Roster::Members => is_among(&self.members, name),
-            Roster::Domains => is_among(&self.domains, name),
+            Roster::Owners => self.owners.has(name),
+            Roster::Members => self.members.has(name),
+            Roster::Domains => self.domains.has(name),
         }
     }
 
@@ -148,22 +142,23 @@ impl Region {
         ensures id { self.new.id ≡ self.old.id }
     {
         match roster {
-            Roster::Owners => add_to(&mut self.owners, name),
-            Roster::Members => add_to(&mut self.members, name),
-            Roster::Domains => add_to(&mut self.domains, name),
+            Roster::Owners => self.owners.add(name),
+            Roster::Members => self.members.add(name),
+            Roster::Domains => self.domains.add(name),
         }
     }
 
     /// Drops a name from that roster. Nothing changes where it is not there.
-    pub(crate) fn drop_name(&mut self, roster: Roster, name: &Name)
-        ensures value { self.new ≡ losing roster name.now.text.bytes self.old }
+    pub(crate) fn drop_name(&mut self, roster: Roster, name: &Name) -> Result<(), AllocError>
+        ensures ok { OnOk result (self.new ≡ losing roster name.now.text.bytes self.old) }
+        ensures err { OnErr result (self.new ≡ self.old) }
         ensures parent { self.new.parent ≡ self.old.parent }
         ensures id { self.new.id ≡ self.old.id }
     {
         match roster {
-            Roster::Owners => drop_from(&mut self.owners, name),
-            Roster::Members => drop_from(&mut self.members, name),
-            Roster::Domains => drop_from(&mut self.domains, name),
+            Roster::Owners => self.owners.remove(name),
+            Roster::Members => self.members.remove(name),
+            Roster::Domains => self.domains.remove(name),
         }
     }
 
@@ -232,13 +227,9 @@ impl Region {
     fn same_rosters(&self, other: &Region) -> bool
         ensures { result ≡ same_rosters self.now other.now }
     {
-        if !same_names(self.owners.as_slice(), other.owners.as_slice()) {
-            return false;
-        }
-        if !same_names(self.members.as_slice(), other.members.as_slice()) {
-            return false;
-        }
-        same_names(self.domains.as_slice(), other.domains.as_slice())
+        self.owners.is_same(&other.owners)
+            && self.members.is_same(&other.members)
+            && self.domains.is_same(&other.domains)
     }
 }
 
@@ -275,38 +266,12 @@ impl Clone for Region {
             shape: self.shape.clone()?,
             priority: self.priority(),
             parent: self.parent,
-            owners: copied(&self.owners)?,
-            members: copied(&self.members)?,
-            domains: copied(&self.domains)?,
+            owners: self.owners.clone()?,
+            members: self.members.clone()?,
+            domains: self.domains.clone()?,
             settings: self.settings,
         })
     }
-}
-
-fn copied(these: &IndexSet<Name>) -> Result<IndexSet<Name>, AllocError>
-    ensures { IfOk result (λ copy. copy.keys ≡ these.now.keys) }
-{
-    these.clone()
-}
-
-// Puts a name among these, once. A name that is there needs no room.
-fn add_to(these: &mut IndexSet<Name>, name: Name) -> Result<(), AllocError>
-    ensures ok { OnOk result
-        (texts these.new.keys ≡ names_with (texts these.old.keys) name.text.bytes) }
-    ensures err { OnErr result (these.new.keys ≡ these.old.keys) }
-    ensures absent { OnErr result (names (texts these.old.keys) name.text.bytes ≡ false) }
-{
-    let _added = these.insert(name)?;
-    Ok(())
-}
-
-// Takes a name out of these.
-fn drop_from(these: &mut IndexSet<Name>, name: &Name)
-    ensures { texts these.new.keys ≡ names_without (texts these.old.keys) name.now.text.bytes }
-{
-    // The length is read since it says that no name is there twice.
-    let _count = these.len();
-    let _dropped = these.shift_remove(name);
 }
 
 #[tactic(auto, unfolding(crate::specs::SameRegions::same_number))]
@@ -314,34 +279,4 @@ fn same_number(a: Option<RegionNo>, b: Option<RegionNo>) -> bool
     ensures { result ≡ same_number (option_map (λ n. n.0) a) (option_map (λ n. n.0) b) }
 {
     a == b
-}
-
-// Whether the name is one of these. Few are looked at one by one, which costs less than to look it
-// up.
-fn is_among(these: &IndexSet<Name>, name: &Name) -> bool
-    ensures { result ≡ list_any (λ k. bytes_eq name.now.text.bytes k.text.bytes) these.now.keys }
-{
-    if FEW < these.len() {
-        return these.contains(name);
-    }
-    is_one_of(these.as_slice(), name)
-}
-
-// Whether the name is one of these, which are looked at one by one.
-fn is_one_of(these: &[Name], name: &Name) -> bool
-    ensures { result ≡ list_any (λ k. bytes_eq name.now.text.bytes k.text.bytes) these.now }
-{
-    for other in these {
-        if name == other {
-            return true;
-        }
-    }
-    false
-}
-
-#[tactic(auto, unfolding(crate::specs::SameRegions::same_names))]
-fn same_names(these: &[Name], those: &[Name]) -> bool
-    ensures { result ≡ same_names (texts these.now) (texts those.now) }
-{
-    these == those
 }

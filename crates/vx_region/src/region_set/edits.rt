@@ -79,7 +79,6 @@ impl RegionSet {
             (self.new ≡ without_name self.old number.0 roster name.now.text.bytes) }
         ensures err { OnErr result (self.new ≡ self.old) }
     {
-        self.regions.own(number.0)?.drop_name(roster, name);
-        Ok(())
+        self.regions.own(number.0)?.drop_name(roster, name)
     }
 }

@@ -1,6 +1,6 @@
 use Rattle.std.proofs.Common.{◌≡◌, bytes_eq, drop}
 use Rattle.std.specs.List.{list_any}
-use Rattle.vx_region.proofs.region.is_one_of.Given as goal
+use Rattle.vx_region.proofs.name_set.is_one_of.Given as goal
 
 -- whether the name comes is still to be seen
 abbrev pub invariant-loop-other : goal.invariant-loop-other

@@ -1,7 +1,7 @@
 use Rattle.std.proofs.Common.{ap, ◌∙◌}
 use Rattle.vx_region.specs.Texts.{texts}
 use Rattle.vx_region.proofs.NameLemmas.{texts_remove_key}
-use Rattle.vx_region.proofs.region.drop_from.Goals as goal
+use Rattle.vx_region.proofs.name_set.drop_from.Goals as goal
 
 pub returns : goal.returns
 returns c =

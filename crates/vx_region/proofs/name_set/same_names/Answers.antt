@@ -1,7 +1,7 @@
 use Rattle.std.proofs.Common.{bytes_eq, sym, ◌∙◌}
 use Rattle.std.specs.Cmp.Derive.Mapped.{pointwise-map}
 use Rattle.vx_region.specs.SameRegions.{same_names}
-use Rattle.vx_region.proofs.region.same_names.Goals as goal
+use Rattle.vx_region.proofs.name_set.same_names.Goals as goal
 
 pub returns : goal.returns
 unfolding same_names

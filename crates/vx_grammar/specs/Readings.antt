@@ -5,7 +5,7 @@ use Rattle.vx_flag.specs.declared.action.Action.{Action}
 use Rattle.vx_flag.specs.declared.action.Action.TheVariants.{Placing, Breaking, Turning, Reaching}
 use Rattle.vx_geom.specs.declared.bounds.TheConstants.{LOW_HEIGHT}
 use Rattle.vx_geom.specs.declared.pos.Pos.{Pos}
-use Rattle.vx_region.specs.Words.{read_name}
+use Rattle.vx_name.specs.Words.{read_name}
 use Rattle.vx_base.specs.Then.{◌>>=◌}
 use Rattle.vx_grammar.specs.Numbers.{i32_of, u8_of, u16_of}
 

@@ -5,7 +5,7 @@ use Rattle.vx_flag.specs.declared.action.Action.{Action}
 use Rattle.vx_geom.specs.declared.bounds.TheConstants.{MAX_SECTORS_EACH_WAY, MAX_CHUNKS_EACH_WAY, LOW_HEIGHT, HIGH_HEIGHT}
 use Rattle.vx_geom.specs.declared.pos.Pos.{Pos}
 use Rattle.vx_geom.specs.Sizes.{Sizes}
-use Rattle.vx_region.specs.Words.{is_amid}
+use Rattle.vx_name.specs.Words.{is_amid}
 use Rattle.vx_policy.specs.Asked.{Asked, asked}
 use Rattle.vx_sector.specs.declared.cmd.Cmd.{Cmd}
 use Rattle.vx_sector.specs.declared.cmd.Cmd.TheVariants.{Look, Place, Break, Turn, OpenChest, Put, Take}

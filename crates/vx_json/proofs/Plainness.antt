@@ -5,7 +5,7 @@ use Rattle.std.specs.List.{list_all}
 use Rattle.std.proofs.lemmas.Bool.{and_parts, leb-true, le-leb, le-ltb, lt-ltb, ne_eqb}
 use Rattle.std.proofs.lemmas.List.Folds.{list_all-append}
 use Rattle.json.specs.Print.{escape, escape_byte}
-use Rattle.vx_region.specs.Words.{is_amid}
+use Rattle.vx_name.specs.Words.{is_amid}
 use Rattle.vx_json.specs.Plain.{is_plain, IsPlain}
 
 -- a text that is plain byte by byte

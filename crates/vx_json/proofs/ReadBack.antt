@@ -13,7 +13,7 @@ use Rattle.vx_geom.specs.declared.pos.Pos.{Pos}
 use Rattle.vx_grammar.specs.Readings.{Rest, byte_at, item_at, coordinate_at, position_at, part_at, name_at}
 use Rattle.vx_grammar.specs.ScriptLines.{Act, is_printable, look_command, place_command, break_command, turn_command, open_command, put_command, take_command, placed_part, command_of, as_line, line_by, line_in, line_of}
 use Rattle.vx_grammar.specs.Words.{is_word, words_of}
-use Rattle.vx_region.specs.Words.{is_amid, is_capital, is_name_byte, lower, read_word, read_name, IsName}
+use Rattle.vx_name.specs.Words.{is_amid, is_capital, is_name_byte, lower, read_word, read_name, IsName}
 use Rattle.vx_sector.specs.declared.cmd.Cmd.{Cmd}
 use Rattle.vx_sector.specs.declared.cmd.Cmd.TheVariants.{Look, Place, Break, Turn, OpenChest, Put, Take}
 use Rattle.vx_json.specs.Commands.{cmd_text}

@@ -22,7 +22,7 @@ use Rattle.vx_flag.specs.Flag.{flag_text}
 use Rattle.vx_flag.specs.declared.flag.Flag.{Flag}
 use Rattle.vx_geom.specs.declared.dir.Dir.{Dir}
 use Rattle.vx_geom.specs.declared.pos.Pos.{Pos}
-use Rattle.vx_region.specs.Words.{is_amid, is_name_byte, IsName}
+use Rattle.vx_name.specs.Words.{is_amid, is_name_byte, IsName}
 use Rattle.vx_sector.specs.Slots.{is_filled}
 use Rattle.vx_sector.specs.Texts.{slot_text, slots_text, contents_text, reply_text, refusal_text}
 use Rattle.vx_sector.specs.declared.cmd.Cmd.{Cmd}

@@ -3,7 +3,7 @@ use Rattle.std.specs.Prelude.{◌≡◌, ℕ, ◌^◌, ◌<◌, codes, FitsSigne
 use Rattle.std.specs.Int.{w32}
 use Rattle.vx_geom.specs.declared.pos.Pos.{Pos}
 use Rattle.vx_grammar.specs.ScriptLines.{Act, line_of}
-use Rattle.vx_region.specs.Words.{IsName}
+use Rattle.vx_name.specs.Words.{IsName}
 use Rattle.vx_sector.specs.declared.cmd.Cmd.{Cmd}
 use Rattle.vx_sector.specs.declared.cmd.Cmd.TheVariants.{Look, Place, Break, Turn, OpenChest, Put, Take}
 use Rattle.serde_json.specs.Written.{compact_text}

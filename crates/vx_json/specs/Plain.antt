@@ -1,7 +1,7 @@
 -- Texts that JSON writes as they are.
 use Rattle.std.specs.Prelude.{◌≡◌, ℕ, Bool, true, ◌&&◌, ◌||◌, not, ◌==◌, List}
 use Rattle.std.specs.List.{list_all}
-use Rattle.vx_region.specs.Words.{is_amid}
+use Rattle.vx_name.specs.Words.{is_amid}
 
 -- a printable byte of ASCII that stands for itself in a string of JSON: neither `"` nor `\`
 abbrev pub is_plain : ℕ → Bool

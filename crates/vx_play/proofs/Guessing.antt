@@ -3,8 +3,8 @@ use Rattle.std.proofs.Common.{◌≡◌, ◌≢◌, ◌⊎◌, inl, inr, ℕ, ze
 use Rattle.std.proofs.lemmas.Bool.{cases_eq, cases_lt}
 use Rattle.std.proofs.lemmas.List.{get_or_past, get_or-replicate, get_or-set_same, get_or-set_other, length-replicate, length-set}
 use Rattle.std.proofs.lemmas.Slice.Eq.{bytes_eq-Decides}
-use Rattle.vx_region.specs.declared.name.Name.{Name}
-use Rattle.vx_region.specs.Texts.{texts}
+use Rattle.vx_name.specs.declared.name.Name.{Name}
+use Rattle.vx_name.specs.Texts.{texts}
 use Rattle.vx_play.specs.Guesses.{IsGuess, AreGuesses}
 use Rattle.vx_play.specs.Plays.{number_from}
 

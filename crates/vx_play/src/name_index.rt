@@ -1,5 +1,5 @@
 ghost use Rattle.std.specs.Prelude.{◌≡◌, ◌<◌, length, slice_get, Some, IfOk, IfSome};
-ghost use Rattle.vx_region.specs.Texts.{texts};
+ghost use Rattle.vx_name.specs.Texts.{texts};
 ghost use Rattle.vx_play.specs.Guesses.{IsGuess, AreGuesses};
 ghost use Rattle.vx_play.specs.Plays.{number_from};
 
@@ -18,7 +18,7 @@ pub struct NameIndex {
 
 impl Model for NameIndex {
     ghost use Rattle.std.specs.Prelude.{List, ℕ};
-    ghost use Rattle.vx_region.specs.Texts.{texts};
+    ghost use Rattle.vx_name.specs.Texts.{texts};
     ghost use Rattle.vx_play.specs.Guesses.{AreGuesses};
 
     ghost Value = { List (List ℕ) };

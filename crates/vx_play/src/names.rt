@@ -1,5 +1,5 @@
 ghost use Rattle.std.specs.Prelude.{◌≡◌, ◌<◌, length, IfSome};
-ghost use Rattle.vx_region.specs.Texts.{texts};
+ghost use Rattle.vx_name.specs.Texts.{texts};
 ghost use Rattle.vx_play.specs.Plays.{number_from};
 
 use vx_region::Name;

@@ -38,7 +38,7 @@ pub struct Play<J: Naming> {
 
 impl<J: Naming> Model for Play<J> {
     ghost use Rattle.std.specs.Prelude.{◌≤◌, vec_len, map, IfSome};
-    ghost use Rattle.vx_region.specs.Texts.{texts};
+    ghost use Rattle.vx_name.specs.Texts.{texts};
     ghost use Rattle.vx_cells.specs.Maps.{AreSectors};
     ghost use Rattle.vx_play.specs.Plays.{PlayData};
     ghost use Rattle.vx_windows.specs.Sectors.{cells_of};
@@ -84,7 +84,7 @@ impl<J: Naming> Play<J> {
     ghost use Rattle.vx_board.specs.Accepted.{IsAnswer};
     ghost use Rattle.vx_policy.specs.Asked.{asked};
     ghost use Rattle.vx_geom.specs.Sizes.{sector_of};
-    ghost use Rattle.vx_region.specs.Texts.{texts};
+    ghost use Rattle.vx_name.specs.Texts.{texts};
     ghost use Rattle.vx_sector.specs.SectorData.{seat_of};
     ghost use Rattle.vx_play.specs.declared.tick_error.TickError.TheVariants.{HistoryFull};
     ghost use Rattle.vx_play.specs.Plays.{IsWorld, answered, calls, opened, policy_of, seat_named, seat_at, next_version, map_of, ticked, next_map, next_fates};

@@ -7,7 +7,7 @@ use Rattle.vx_geom.specs.Written.{Written, outline_asked}
 use Rattle.vx_base.proofs.Lists.{none_found}
 use Rattle.vx_region.specs.Ancestry.{has_child, is_under}
 use Rattle.vx_region.specs.Regions.{Entry, Regions, region_at, number_of, is_global_id, HasSettings}
-use Rattle.vx_region.specs.Words.{read_id, read_name}
+use Rattle.vx_name.specs.Words.{read_id, read_name}
 use Rattle.vx_policy.specs.Asked.{Asked, Define, Reshape, Remove, Priority, Parent, SetFlag, ClearFlag, Listed, target}
 use Rattle.vx_policy.specs.Refusals.{last_number, is_known, is_at_large, numbered, is_such, is_definition, is_of_flags, some_id, is_full, holds, causes, refusal}
 use Rattle.vx_region.specs.declared.roster.Roster.{Roster}

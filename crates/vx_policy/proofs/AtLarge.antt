@@ -6,7 +6,7 @@ use Rattle.vx_flag.specs.declared.flag.Flag.{Flag}
 use Rattle.vx_flag.specs.declared.setting.Setting.{Setting}
 use Rattle.vx_geom.specs.Written.{outline_asked}
 use Rattle.vx_region.specs.Regions.{Regions, setting_at, with_region, without_region, with_shape, with_priority, with_parent, with_flag, with_name, without_name}
-use Rattle.vx_region.specs.Words.{read_id, read_name}
+use Rattle.vx_name.specs.Words.{read_id, read_name}
 use Rattle.vx_region.specs.declared.roster.Roster.{Roster}
 use Rattle.vx_region.proofs.FlagChanges.{setting_kept}
 use Rattle.vx_region.proofs.Globals.{flag_at_large}

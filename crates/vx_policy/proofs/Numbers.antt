@@ -6,7 +6,7 @@ use Rattle.vx_flag.specs.Settings.{with_setting}
 use Rattle.vx_geom.specs.Outline.{Outline}
 use Rattle.vx_geom.specs.Written.{Written, outline_asked}
 use Rattle.vx_region.specs.Regions.{Regions, changed, with_region, without_region, with_shape, with_priority, with_parent, with_flag, with_name, without_name}
-use Rattle.vx_region.specs.Words.{read_id, read_name}
+use Rattle.vx_name.specs.Words.{read_id, read_name}
 use Rattle.vx_policy.specs.Asked.{Asked, Define, Reshape, Remove, Priority, Parent, SetFlag, ClearFlag, Listed}
 use Rattle.vx_policy.specs.Edits.{given, listed, edited, number_given, after}
 use Rattle.vx_policy.specs.Refusals.{numbered, refusal}

@@ -9,7 +9,7 @@ use Rattle.vx_flag.specs.Settings.{setting_of}
 use Rattle.vx_geom.specs.Outline.{Outline}
 use Rattle.vx_geom.specs.Written.{Written, outline_asked}
 use Rattle.vx_region.specs.Regions.{RegionData, Regions, region_at, setting_at, with_shape, with_priority, with_parent, with_flag, with_name, without_name}
-use Rattle.vx_region.specs.Words.{read_id, read_name}
+use Rattle.vx_name.specs.Words.{read_id, read_name}
 use Rattle.vx_region.proofs.Changes.{region_changed, region_elsewhere, region_kept}
 use Rattle.vx_region.proofs.Globals.{flag_at_large, flag_of_region}
 use Rattle.vx_region.proofs.Removals.{region_beside}

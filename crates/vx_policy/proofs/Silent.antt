@@ -16,7 +16,7 @@ use Rattle.vx_decide.specs.Unset.{IsUnset, sets}
 use Rattle.vx_region.specs.declared.roster.Roster.{Roster}
 use Rattle.vx_region.specs.declared.roster.Roster.TheVariants.{Owners, Members, Domains}
 use Rattle.vx_region.specs.Regions.{RegionData, Entry, Regions, no_regions, setting_at, changed, changed_at, gaining, losing, with_region, without_region, with_shape, with_priority, with_parent, with_flag, with_name, without_name}
-use Rattle.vx_region.specs.Words.{read_id, read_name}
+use Rattle.vx_name.specs.Words.{read_id, read_name}
 use Rattle.vx_region.proofs.Globals.{flag_at_large, flag_of_region}
 use Rattle.vx_policy.specs.Asked.{Asked, Define, Reshape, Remove, Priority, Parent, SetFlag, ClearFlag, Listed}
 use Rattle.vx_policy.specs.Edits.{listed, edited}

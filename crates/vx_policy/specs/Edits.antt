@@ -2,7 +2,7 @@ use Rattle.std.specs.Prelude.{ℕ, ◌≡◌, ◌+◌, List, [], ◌∷◌, Opti
 use Rattle.std.specs.Option.{option_and_then}
 use Rattle.vx_geom.specs.Written.{outline_asked}
 use Rattle.vx_region.specs.Regions.{Regions, with_region, without_region, with_shape, with_priority, with_parent, with_flag, with_name, without_name}
-use Rattle.vx_region.specs.Words.{read_id, read_name}
+use Rattle.vx_name.specs.Words.{read_id, read_name}
 use Rattle.vx_policy.specs.Asked.{Asked, Define, Reshape, Remove, Priority, Parent, SetFlag, ClearFlag, Listed}
 use Rattle.vx_policy.specs.Refusals.{numbered, refusal}
 use Rattle.vx_region.specs.declared.roster.Roster.{Roster}

@@ -3,7 +3,7 @@ use Rattle.std.specs.Option.{option_and_then}
 use Rattle.vx_geom.specs.Written.{outline_asked}
 use Rattle.vx_region.specs.Ancestry.{has_child, is_under}
 use Rattle.vx_region.specs.Regions.{Regions, number_of}
-use Rattle.vx_region.specs.Words.{read_id, read_name}
+use Rattle.vx_name.specs.Words.{read_id, read_name}
 use Rattle.vx_policy.specs.Asked.{Asked, Define, Reshape, Remove, Parent, SetFlag, ClearFlag, Listed, target}
 use Rattle.vx_policy.specs.declared.edit_refusal.EditRefusal.{EditRefusal}
 use Rattle.vx_policy.specs.declared.edit_refusal.EditRefusal.TheVariants.{BadId, Known, Unknown, HasChildren, Cycle, BadShape, BadName, GlobalHasNone, TooManyRegions}

@@ -1,5 +1,5 @@
 ghost use Rattle.std.specs.Prelude.{◌≡◌, vec_len, IfOk};
-ghost use Rattle.vx_region.specs.Texts.{texts};
+ghost use Rattle.vx_name.specs.Texts.{texts};
 
 use crate::opening_error::OpeningError;
 use std::alloc::{AllocError, Global};
@@ -23,7 +23,7 @@ impl Model for Opening {
     ghost use Rattle.std.specs.Prelude.{◌≤◌, vec_len};
     ghost use Rattle.vx_record.specs.Openings.{OpeningData};
     ghost use Rattle.vx_windows.specs.Limits.{most_players};
-    ghost use Rattle.vx_region.specs.Texts.{texts};
+    ghost use Rattle.vx_name.specs.Texts.{texts};
 
     ghost Value = { OpeningData };
 

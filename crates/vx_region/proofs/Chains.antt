@@ -2,7 +2,7 @@
 use Rattle.std.proofs.Common.{◌≡◌, ◌≢◌, ◌⊎◌, inl, inr, ℕ, zero, suc, ◌<◌, ◌≤◌, Bool, true, false, nat_eq, nat_lt, ◌||◌, List, [], ◌∷◌, ◌++◌, length, Option, None, Some, IsSome, is_some, arith, true≢false, refl, ap, sym, ◌∙◌, subst}
 use Rattle.std.specs.List.{list_any, AllByRecursion, IsDistinct}
 use Rattle.std.specs.Option.{MatchOption}
-use Rattle.std.proofs.lemmas.Bool.{eq-eqb, ltb-true, ltb-false}
+use Rattle.std.proofs.lemmas.Bool.{eq-eqb, ltb-true, ltb-false, false_from_ne_true}
 use Rattle.std.proofs.lemmas.List.{length-append}
 use Rattle.std.proofs.lemmas.List.Folds.{list_any-append}
 use Rattle.std.proofs.Math.Bool.{or-true}
@@ -12,7 +12,6 @@ use borrow.Author.Tests.{eqb-true}
 use Rattle.vx_region.specs.Ancestry.{is_under, is_above, proper_ancestors, chain, from_parent, ancestors}
 use Rattle.vx_region.specs.Regions.{RegionData, Regions, region_at, parent_of}
 use Rattle.vx_region.specs.Forest.{IsChain, IsForest, IsNumbered}
-use Rattle.vx_region.proofs.Changes.{not_true}
 use Rattle.vx_region.proofs.Lookups.{parent_at, same_or_other, parent_nowhere, region_above}
 
 -- a region without a parent is a chain alone
@@ -109,7 +108,7 @@ rest_of rs r a (b ∷ l) chain is = by (nat_eq a b) refl (parent_of rs r) refl (
 
 -- no chain comes back to where it began
 pub no_return : (rs : Regions) (r a : ℕ) (l : List ℕ) → IsChain rs r (a ∷ l) → list_any (nat_eq r) l ≡ false
-no_return rs r a l chain = not_true (list_any (nat_eq r) l) (by (parent_of rs r) refl)
+no_return rs r a l chain = false_from_ne_true (list_any (nat_eq r) l) (by (parent_of rs r) refl)
   where
     by : (o : Option ℕ) → parent_of rs r ≡ o → list_any (nat_eq r) l ≡ true → ⊥
     by None none is = not_on_none r l (chain_end rs r a l none chain) is
@@ -245,7 +244,7 @@ above_transitive rs forest a b d e there first second =
 pub above_asymmetric : (rs : Regions) → IsForest rs → (a b : ℕ) (d e : RegionData) → region_at rs a ≡ Some d → region_at rs b ≡ Some e
     → is_above rs a e ≡ true → is_above rs b d ≡ false
 above_asymmetric rs forest a b d e one two above =
-    not_true (is_above rs b d)
+    false_from_ne_true (is_above rs b d)
     (λ back. true≢false (sym (above_transitive rs forest a b e d two above back) ∙ above_irreflexive rs forest a d one))
 
 -- an ancestor of a region that is there is there

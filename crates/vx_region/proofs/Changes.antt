@@ -1,7 +1,7 @@
 -- What a definition or a change leaves at each number and each id.
 use Rattle.std.proofs.Common.{◌≡◌, ◌≢◌, ℕ, ◌+◌, Bool, true, false, cond, nat_eq, bytes_eq, if◌then◌else◌, List, [], ◌∷◌, ◌++◌, find, Option, None, Some, option_map, arith, refl, ap, sym, ◌∙◌}
 use Rattle.std.specs.Option.{option_or}
-use Rattle.std.proofs.lemmas.Bool.{ne_eqb, eq-eqb}
+use Rattle.std.proofs.lemmas.Bool.{ne_eqb, eq-eqb, false_from_ne_true}
 use Rattle.std.proofs.lemmas.Slice.Eq.{bytes_eq-Decides}
 use Rattle.std.proofs.lemmas.List.Folds.{find-append}
 use borrow.Author.Tests.{eqb-true}
@@ -26,10 +26,6 @@ find_before test es e fails =
 none_from_map : {X : Type 0} (f : Entry → X) (o : Option Entry) → option_map f o ≡ None → o ≡ None
 none_from_map f None none = refl
 none_from_map f (Some e) none = cc
-
-pub not_true : (b : Bool) → (b ≡ true → ⊥) → b ≡ false
-not_true true no_way = absurd (no_way refl)
-not_true false no_way = refl
 
 -- after a change, the number has the changed region
 found_changed : (change : RegionData → RegionData) (n : ℕ) (es : List Entry)
@@ -125,4 +121,4 @@ unfolding number_of with_region
 number_kept rs id other shape apart =
     ap (λ o. if is_global_id other then Some 0 else option_map (λ (e : Entry). e.0) o)
     (find_before (λ e. bytes_eq other e.1.id) rs.entries (rs.last + 1, fresh_region id shape)
-    (not_true (bytes_eq other id) (λ same. apart ((bytes_eq-Decides other id).0 same))))
+    (false_from_ne_true (bytes_eq other id) (λ same. apart ((bytes_eq-Decides other id).0 same))))

@@ -2,15 +2,15 @@
 use Rattle.std.proofs.Common.{◌≡◌, ℕ, suc, ◌+◌, ◌-◌, ◌<◌, Bool, true, false, cond, nat_eq, nat_lt, bytes_eq, ◌||◌, List, [], ◌∷◌, ◌++◌, slice_get, Option, None, Some, IsSome, is_some, true≢false, arith, refl, ap, sym, ◌∙◌}
 use Rattle.std.specs.List.{list_any}
 use Rattle.std.specs.Map.{lookup, set_value, remove_entry}
-use Rattle.std.proofs.lemmas.Bool.{eq-eqb}
+use Rattle.std.proofs.lemmas.Bool.{eq-eqb, false_from_ne_true}
 use borrow.Author.Tests.{eqb-true, ltb-false}
-use Rattle.vx_region.specs.declared.id.Id.{Id}
+use Rattle.vx_name.specs.declared.id.Id.{Id}
 use Rattle.vx_region.specs.Ancestry.{is_number, has_child}
 use Rattle.vx_region.specs.ChildCounts.{one_if, children, children_of, Count, HasOneMore, HasOneLess, IsIdOf}
 use Rattle.vx_region.specs.Forest.{IsAscending, IsForest}
-use Rattle.vx_region.specs.IdIndex.{first_with, same_id}
+use Rattle.vx_name.specs.Ids.{same_id}
+use Rattle.vx_region.specs.IdIndex.{first_with}
 use Rattle.vx_region.specs.Regions.{RegionData, Entry, Regions, region_at, parent_of}
-use Rattle.vx_region.proofs.Changes.{not_true}
 use Rattle.vx_region.proofs.Lookups.{parent_at, region_at_place, known_found, found_region}
 
 zero_more : (k : ℕ) → 0 + k ≡ k
@@ -28,7 +28,7 @@ turned m p = by (nat_eq m p) refl
   where
     by : (b : Bool) → nat_eq m p ≡ b → b ≡ nat_eq p m
     by true same = sym (eq-eqb p m (sym (eqb-true m p same)))
-    by false other = sym (not_true (nat_eq p m) (λ same. true≢false (sym (eq-eqb m p (sym (eqb-true p m same))) ∙ other)))
+    by false other = sym (false_from_ne_true (nat_eq p m) (λ same. true≢false (sym (eq-eqb m p (sym (eqb-true p m same))) ∙ other)))
 
 one_more : (k : ℕ) → nat_lt 0 (1 + k) ≡ true
 one_more k = by (nat_lt 0 (1 + k)) refl
@@ -102,7 +102,7 @@ nobodys_parent rs n forest none = none_among n rs.entries (λ i e there. by e (e
     by : (e : Entry) (p : Option ℕ) → parent_of rs e.0 ≡ p → is_number n p ≡ false
     by e None has = refl
     by e (Some q) has =
-        not_true (nat_eq n q) (λ same.
+        false_from_ne_true (nat_eq n q) (λ same.
         none_is_some (region_at rs q) (ap (region_at rs) (sym (eqb-true n q same)) ∙ none) (forest.parents e.0 q has))
 
 -- the number of the first region with an id is above those before it

@@ -1,11 +1,11 @@
 -- Where no two regions have the same id, an id leads to its region, and to none once that was taken away.
 use Rattle.std.proofs.Common.{◌≡◌, ◌≢◌, ℕ, Bool, true, false, cond, not, nat_eq, bytes_eq, if◌then◌else◌, List, [], ◌∷◌, filter, Option, None, Some, refl, ap, sym, ◌∙◌}
+use Rattle.std.proofs.lemmas.Bool.{false_from_ne_true}
 use Rattle.std.specs.Map.{lookup, remove_entry}
 use Rattle.std.proofs.lemmas.Slice.Eq.{bytes_eq-Decides}
 use Rattle.vx_region.specs.Forest.{IsNumbered}
 use Rattle.vx_region.specs.IdIndex.{first_with, HaveOwnIds, NoneIsGlobal}
 use Rattle.vx_region.specs.Regions.{RegionData, Entry, Regions, region_at, number_of, global_id, is_global_id, without_region}
-use Rattle.vx_region.proofs.Changes.{not_true}
 use Rattle.vx_region.proofs.Indexing.{first_is, number_is, same_turned, none_parts, no_such_id, apart, first_there}
 use Rattle.vx_region.proofs.Lookups.{lookup_is}
 use Rattle.vx_region.proofs.Numbers.{distinct_numbers}
@@ -83,7 +83,7 @@ pub id_kept : (rs : Regions) (n : ℕ) (r : RegionData) (other : List ℕ) → I
     → number_of (without_region rs n) other ≡ number_of rs other
 unfolding without_region number_at
 id_kept rs n r other numbered there differs =
-    let fails = not_true (bytes_eq other r.id) (λ same. differs ((bytes_eq-Decides other r.id).0 same)) in
+    let fails = false_from_ne_true (bytes_eq other r.id) (λ same. differs ((bytes_eq-Decides other r.id).0 same)) in
     number_at_is (without_region rs n) other
     ∙ ap (λ o. if is_global_id other then Some 0 else o)
     (ap (λ es. first_with es other) (sym (removed_is n rs.entries (distinct_numbers 0 rs.entries numbered.ascending)))

@@ -1,18 +1,19 @@
 -- What keeps the index of the ids, and the counts of children, true of the regions.
 use Rattle.std.proofs.Common.{◌≡◌, ℕ, ◌+◌, Bool, true, false, cond, nat_eq, nat_lt, bytes_eq, List, [], ◌∷◌, ◌++◌, find, Option, None, Some, option_map, true≢false, arith, refl, ap, sym, ◌∙◌, subst}
 use Rattle.std.specs.Map.{lookup, set_value, remove_entry}
-use Rattle.std.proofs.lemmas.Bool.{eq-eqb}
+use Rattle.std.proofs.lemmas.Bool.{eq-eqb, false_from_ne_true}
 use Rattle.std.proofs.lemmas.Slice.Eq.{bytes_eq-Decides}
 use borrow.Author.Tests.{eqb-true}
 use Rattle.vx_flag.specs.declared.settings.Settings.{Settings}
-use Rattle.vx_region.specs.declared.id.Id.{Id}
+use Rattle.vx_name.specs.declared.id.Id.{Id}
 use Rattle.vx_region.specs.Ancestry.{is_number, has_child}
 use Rattle.vx_region.specs.ChildCounts.{children, children_of, counted, Count, IsIdOf}
 use Rattle.vx_region.specs.Forest.{IsAscending, IsForest}
-use Rattle.vx_region.specs.IdIndex.{first_with, HaveOwnIds, same_id}
+use Rattle.vx_name.specs.Ids.{same_id}
+use Rattle.vx_region.specs.IdIndex.{first_with, HaveOwnIds}
 use Rattle.vx_region.specs.Regions.{RegionData, Entry, Regions, region_at, number_of, global_id, is_global_id}
 use Rattle.vx_region.specs.Soundness.{IsSound}
-use Rattle.vx_region.proofs.Changes.{pushed, not_true, not_global}
+use Rattle.vx_region.proofs.Changes.{pushed, not_global}
 use Rattle.vx_region.proofs.Counting.{some_counted, none_counted, children_without, children_same, children_pushed, nobodys_parent, first_has}
 use Rattle.vx_region.proofs.Forests.{forest_empty, forest_pushed, forest_written}
 use Rattle.vx_region.proofs.Globals.{forest_with_flags}
@@ -59,7 +60,7 @@ is_local id local = local
 -- texts compare both ways alike
 pub same_turned : (a b : List ℕ) (c : Bool) → bytes_eq a b ≡ c → bytes_eq b a ≡ c
 same_turned a b true same = (bytes_eq-Decides b a).1 (sym ((bytes_eq-Decides a b).0 same))
-same_turned a b false other = not_true (bytes_eq b a) (λ same. cc ((bytes_eq-Decides a b).1 (sym ((bytes_eq-Decides b a).0 same))))
+same_turned a b false other = false_from_ne_true (bytes_eq b a) (λ same. cc ((bytes_eq-Decides a b).1 (sym ((bytes_eq-Decides b a).0 same))))
 
 -- where nothing was found, neither the first was it, nor is there one after it
 pub none_parts : (b : Bool) (n : ℕ) (o : Option ℕ) → cond b (Some n) o ≡ None → (b ≡ false) × (o ≡ None)
@@ -202,7 +203,7 @@ is_id_of n r id es up own there is q = by (bytes_eq id.text.bytes q.text.bytes) 
         sym (ap (is_number n) number ∙ eq-eqb n n refl)
     by false other None found = refl
     by false other (Some k) found =
-        sym (not_true (nat_eq n k) (λ same.
+        sym (false_from_ne_true (nat_eq n k) (λ same.
         let has : bytes_eq q.text.bytes r.id ≡ true = first_has 0 n r q.text.bytes es up (found ∙ ap Some (sym (eqb-true n k same))) there in
         let text : id.text.bytes ≡ q.text.bytes = is ∙ sym ((bytes_eq-Decides q.text.bytes r.id).0 has) in
         true≢false (sym ((bytes_eq-Decides id.text.bytes q.text.bytes).1 text) ∙ other)))

@@ -5,9 +5,7 @@ pub mod Counting
 pub mod FlagChanges
 pub mod Forests
 pub mod Globals
-pub mod IdChanges
 pub mod IdLemmas
-pub mod IdParts
 pub mod Indexing
 pub mod Lookups
 pub mod NameLemmas
@@ -18,6 +16,5 @@ pub mod Removals
 pub mod Rosters
 pub mod SameLists
 pub mod SharedDomains
-pub mod Spelling
 pub mod Strangers
 pub mod Walks

@@ -120,8 +120,3 @@ same_parent rs fs n same = ap (option_and_then (λ (d : RegionData). d.parent)) 
 pub region_above : (rs : Regions) (n : ℕ) → IsNumbered rs → rs.last < n → region_at rs n ≡ None
 unfolding region_at
 region_above rs n numbered high = ap (option_map (λ (e : Entry). e.1)) (find_above rs.last n rs.entries numbered.given high)
-
--- what holds anyway holds on an error
-pub on_any_err : {T E P : Type 0} (r : Result T E) → P → OnErr r P
-on_any_err (Ok x) p = tt
-on_any_err (Err e) p = p

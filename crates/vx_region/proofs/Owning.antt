@@ -1,7 +1,7 @@
 -- What a set is after one region of it was made its own and written over.
 use Rattle.std.proofs.Common.{Result, Ok, Err, OnErr, ◌≡◌, ℕ, nat_eq, List, Some}
 use Rattle.std.specs.Map.{lookup, set_value}
-use Rattle.vx_region.specs.declared.id.Id.{Id}
+use Rattle.vx_name.specs.declared.id.Id.{Id}
 use Rattle.vx_region.specs.ChildCounts.{Count}
 use Rattle.vx_region.specs.Forest.{IsForest}
 use Rattle.vx_region.specs.Regions.{RegionData, Entry, Regions, changed}
@@ -9,11 +9,6 @@ use Rattle.vx_region.specs.Soundness.{IsSound}
 use Rattle.vx_region.proofs.Indexing.{sound_kept, sound_written}
 use Rattle.vx_region.proofs.Lookups.{written_over, written_back}
 use Rattle.vx_region.proofs.Numbers.{distinct_numbers}
-
--- what was known of an error, where there was one
-pub refused : {T E P : Type 0} (r : Result T E) (e : E) → r ≡ Err e → OnErr r P → P
-refused (Ok x) e is known = cc
-refused (Err y) e is known = known
 
 -- a region became the set's own, and was then written over
 module _ (n : ℕ) (rs : Regions) (fs : List Entry) (own last : RegionData)

@@ -6,7 +6,8 @@ use Rattle.std.proofs.lemmas.Map.Steps.{set_value_same}
 use Rattle.vx_region.specs.Association.{is_such, has_name}
 use Rattle.vx_region.specs.Forest.{IsNumbered}
 use Rattle.vx_region.specs.Laws.{GainsName, LosesName}
-use Rattle.vx_region.specs.Regions.{RegionData, Regions, names, names_of, with_names, region_at, changed_at, gaining, losing, with_name, without_name}
+use Rattle.vx_name.specs.Names.{names}
+use Rattle.vx_region.specs.Regions.{RegionData, Regions, names_of, with_names, region_at, changed_at, gaining, losing, with_name, without_name}
 use Rattle.vx_region.specs.declared.roster.Roster.{Roster}
 use Rattle.vx_region.specs.declared.roster.Roster.TheVariants.{Owners, Members, Domains}
 use Rattle.vx_region.proofs.Changes.{region_changed}

@@ -10,7 +10,8 @@ use Rattle.vx_geom.specs.Outline.{is_in}
 use Rattle.vx_region.specs.Ancestry.{ancestors}
 use Rattle.vx_region.specs.Association.{is_such, domains_of, has_name, has_name_along, has_domain_along, domains_at, domains_along, share_domain, stands_in_domain}
 use Rattle.vx_region.specs.Domains.{lists_domains, lists_domains_along, lists_domain_of}
-use Rattle.vx_region.specs.Regions.{RegionData, Regions, region_at, names, names_of}
+use Rattle.vx_name.specs.Names.{names}
+use Rattle.vx_region.specs.Regions.{RegionData, Regions, region_at, names_of}
 use Rattle.vx_region.specs.declared.roster.Roster.TheVariants.{Domains}
 
 pub any_flat : {X A : Type 0} (p : A → Bool) (f : X → List A) (xs : List X) → list_any p (flat_map f xs) ≡ list_any (λ x. list_any p (f x)) xs

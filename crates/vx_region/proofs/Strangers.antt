@@ -8,7 +8,8 @@ use Rattle.vx_flag.specs.declared.association.Association.TheVariants.{Owner, Me
 use Rattle.vx_region.specs.Ancestry.{from_parent, chain, ancestors}
 use Rattle.vx_region.specs.Association.{is_such, has_name, has_name_along, holds_place, stands_in_domain, player_association, machine_association, association}
 use Rattle.vx_region.specs.Forest.{IsAscending, IsNumbered}
-use Rattle.vx_region.specs.Regions.{Entry, Regions, region_at, names, names_of}
+use Rattle.vx_name.specs.Names.{names}
+use Rattle.vx_region.specs.Regions.{Entry, Regions, region_at, names_of}
 use Rattle.vx_region.specs.Subjects.{Actor, Named, Machine}
 use Rattle.vx_region.specs.declared.roster.Roster.{Roster}
 use Rattle.vx_region.specs.declared.roster.Roster.TheVariants as roster

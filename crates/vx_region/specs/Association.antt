@@ -4,7 +4,8 @@ use Rattle.vx_flag.specs.declared.association.Association.{Association}
 use Rattle.vx_flag.specs.declared.association.Association.TheVariants.{Owner, Member, Stranger}
 use Rattle.vx_geom.specs.declared.pos.Pos.{Pos}
 use Rattle.vx_geom.specs.Outline.{is_in}
-use Rattle.vx_region.specs.Regions.{RegionData, Regions, region_at, names, names_of}
+use Rattle.vx_name.specs.Names.{names}
+use Rattle.vx_region.specs.Regions.{RegionData, Regions, region_at, names_of}
 use Rattle.vx_region.specs.Ancestry.{ancestors}
 use Rattle.vx_region.specs.declared.roster.Roster.{Roster}
 use Rattle.vx_region.specs.declared.roster.Roster.TheVariants as roster

@@ -1,9 +1,10 @@
 -- How many children each region has, and the counts of them that a set keeps by id.
 use Rattle.std.specs.Prelude.{ℕ, ◌+◌, ◌-◌, ◌≡◌, Bool, cond, List, [], ◌∷◌, Option, None, Some, unwrap_or}
 use Rattle.std.specs.Map.{lookup}
-use Rattle.vx_region.specs.declared.id.Id.{Id}
+use Rattle.vx_name.specs.declared.id.Id.{Id}
 use Rattle.vx_region.specs.Ancestry.{is_number}
-use Rattle.vx_region.specs.IdIndex.{first_with, same_id}
+use Rattle.vx_name.specs.Ids.{same_id}
+use Rattle.vx_region.specs.IdIndex.{first_with}
 use Rattle.vx_region.specs.Regions.{Entry}
 
 -- one where it is so, and else none

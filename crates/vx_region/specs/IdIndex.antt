@@ -1,6 +1,7 @@
 use Rattle.std.specs.Prelude.{ℕ, ◌≡◌, Bool, cond, bytes_eq, List, [], ◌∷◌, Option, None, Some}
 use Rattle.std.specs.Map.{lookup}
-use Rattle.vx_region.specs.declared.id.Id.{Id}
+use Rattle.vx_name.specs.Ids.{same_id}
+use Rattle.vx_name.specs.declared.id.Id.{Id}
 use Rattle.vx_region.specs.Regions.{Entry, global_id}
 
 -- the number of the first region that has this id
@@ -16,10 +17,6 @@ HaveOwnIds (e ∷ es) = (first_with es e.1.id ≡ None) × HaveOwnIds es
 -- no region is called `__global__`
 abbrev pub NoneIsGlobal : List Entry → Type 0
 NoneIsGlobal entries = first_with entries global_id ≡ None
-
--- two ids are the same where their texts are
-abbrev pub same_id : Id → Id → Bool
-same_id a b = bytes_eq a.text.bytes b.text.bytes
 
 -- for each id the index has the number of the region with that id, and nothing where there is none
 abbrev pub Indexes : List (Id × ℕ) → List Entry → Type 0

@@ -4,9 +4,9 @@ use Rattle.vx_region.specs.Ancestry.{ancestors, from_parent, is_above}
 use Rattle.vx_region.specs.Association.{association}
 use Rattle.vx_region.specs.Forest.{IsNumbered, IsForest}
 use Rattle.vx_region.specs.IdIndex.{HaveOwnIds, NoneIsGlobal}
-use Rattle.vx_region.specs.Regions.{RegionData, Regions, region_at, parent_of, number_of, names, names_of, fresh_region, with_region, without_region, with_name, without_name, setting_at, HasSettings, changed, with_flag}
+use Rattle.vx_name.specs.Names.{names}
+use Rattle.vx_region.specs.Regions.{RegionData, Regions, region_at, parent_of, number_of, names_of, fresh_region, with_region, without_region, with_name, without_name, setting_at, HasSettings, changed, with_flag}
 use Rattle.vx_region.specs.Subjects.{Actor}
-use Rattle.vx_region.specs.Words.{IsName, IsId, read_name, read_id}
 use Rattle.vx_region.specs.declared.roster.Roster.{Roster}
 use Rattle.vx_flag.specs.declared.association.Association.TheVariants.{Stranger}
 use Rattle.vx_flag.specs.declared.flag.Flag.{Flag}
@@ -180,18 +180,3 @@ RemovalKeepsTheWorld = (rs : Regions) (n : ℕ) → SameFlagsAtLarge rs (without
 abbrev pub FlagKeepsTheWorld : Type 0
 FlagKeepsTheWorld = (rs : Regions) (n : ℕ) (f : Flag) (o : Option Setting)
     → n ≢ 0 → SameFlagsAtLarge rs (with_flag rs n f o)
-
--- what is read is a name
-abbrev pub NameIsRead : Type 0
-NameIsRead = (text name : List ℕ) → read_name text ≡ Some name → IsName name
-
--- and a name is read as itself
-abbrev pub NameReadsAsItself : Type 0
-NameReadsAsItself = (name : List ℕ) → IsName name → read_name name ≡ Some name
-
--- the same of ids
-abbrev pub IdIsRead : Type 0
-IdIsRead = (text id : List ℕ) → read_id text ≡ Some id → IsId id
-
-abbrev pub IdReadsAsItself : Type 0
-IdReadsAsItself = (id : List ℕ) → IsId id → read_id id ≡ Some id

@@ -1,4 +1,3 @@
-pub mod Alphabet
 pub mod Ancestry
 pub mod Association
 pub mod BlockSharing
@@ -7,8 +6,6 @@ pub mod ChildCounts
 pub mod Domains
 pub mod Forest
 pub mod IdIndex
-pub mod IdParts
-pub mod IdUpdates
 pub mod Laws
 pub mod ListSharing
 pub mod Regions
@@ -17,5 +14,3 @@ pub mod SameRegions
 pub mod Sharing
 pub mod Soundness
 pub mod Subjects
-pub mod Texts
-pub mod Words

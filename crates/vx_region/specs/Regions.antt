@@ -5,6 +5,7 @@ use Rattle.vx_geom.specs.Outline.{Outline}
 use Rattle.vx_flag.specs.declared.flag.Flag.{Flag}
 use Rattle.vx_flag.specs.declared.setting.Setting.{Setting}
 use Rattle.vx_flag.specs.declared.settings.Settings.{Settings}
+use Rattle.vx_name.specs.Names.{names_with, names_without}
 use Rattle.vx_flag.specs.Settings.{no_settings, setting_of, with_setting}
 use Rattle.vx_region.specs.declared.roster.Roster.{Roster}
 use Rattle.vx_region.specs.declared.roster.Roster.TheVariants.{Owners, Members, Domains}
@@ -82,18 +83,6 @@ setting_at rs n f =
 -- flags can be set for this number: it is 0, for the world at large, or its region is there
 abbrev pub HasSettings : Regions → ℕ → Type 0
 HasSettings rs n = (n ≡ 0) ⊎ IsSome (region_at rs n)
-
--- the name is among these
-abbrev pub names : List (List ℕ) → List ℕ → Bool
-names texts text = list_any (bytes_eq text) texts
-
--- these and the name, once
-abbrev pub names_with : List (List ℕ) → List ℕ → List (List ℕ)
-names_with texts text = if names texts text then texts else texts ++ text ∷ []
-
--- these without the name
-abbrev pub names_without : List (List ℕ) → List ℕ → List (List ℕ)
-names_without texts text = filter (λ t. not (bytes_eq text t)) texts
 
 -- a region as it is when it is defined
 abbrev pub fresh_region : List ℕ → Outline → RegionData

@@ -11,7 +11,8 @@ use Rattle.std.proofs.lemmas.Slice.Eq.{bytes_eq-Decides}
 use Rattle.vx_geom.specs.OutlineLaws.{outline_decided}
 use Rattle.vx_flag.specs.SettingsLaws.{settings_decided}
 use Rattle.vx_region.specs.Regions.{RegionData, Entry, Regions}
-use Rattle.vx_region.specs.SameRegions.{same_number, same_names, same_place, same_rosters, same_region, same_entry, same_regions}
+use Rattle.vx_name.specs.Names.{same_names}
+use Rattle.vx_region.specs.SameRegions.{same_number, same_place, same_rosters, same_region, same_entry, same_regions}
 
 number_decided : (a b : Option ℕ) → Decides (same_number a b) (a ≡ b)
 unfolding same_number

@@ -3,6 +3,7 @@ use Rattle.std.specs.Ordering.{int_eq}
 use Rattle.std.specs.Cmp.Lexicographic.{pointwise}
 use Rattle.vx_geom.specs.SameOutline.{same_outline}
 use Rattle.vx_flag.specs.SameSettings.{same_settings}
+use Rattle.vx_name.specs.Names.{same_names}
 use Rattle.vx_region.specs.Regions.{RegionData, Entry, Regions}
 
 -- the same number, or none in both
@@ -10,10 +11,6 @@ unfoldable pub same_number : Option ℕ → Option ℕ → Bool
 same_number (Some a) (Some b) = nat_eq a b
 same_number None None = true
 same_number a b = false
-
--- the same names in the same order
-unfoldable pub same_names : List (List ℕ) → List (List ℕ) → Bool
-same_names these those = pointwise bytes_eq these those
 
 -- the same id, shape, priority and parent
 unfoldable pub same_place : RegionData → RegionData → Bool

@@ -1,5 +1,5 @@
 use Rattle.std.specs.Prelude.{ℕ, List}
-use Rattle.vx_region.specs.declared.id.Id.{Id}
+use Rattle.vx_name.specs.declared.id.Id.{Id}
 use Rattle.vx_region.specs.ChildCounts.{Count}
 use Rattle.vx_region.specs.Forest.{IsForest}
 use Rattle.vx_region.specs.IdIndex.{HaveOwnIds, NoneIsGlobal, Indexes}

@@ -1,10 +1,9 @@
 ghost use Rattle.std.specs.Prelude.{◌≡◌, [], OnOk, OnErr};
 ghost use Rattle.vx_region.specs.ChildCounts.{counted, HasOneMore, HasOneLess};
 
-use crate::id::Id;
-use crate::id_numbers::IdNumbers;
 use std::alloc::{AllocError, Global};
 use std::marker::Model;
+use vx_name::{Id, IdNumbers};
 
 /// How many children the region of each id has: as many as have it as their parent. A copy shares
 /// all counts, and a change copies a part of them.
@@ -15,7 +14,7 @@ pub(crate) struct Children {
 }
 
 impl Model for Children {
-    ghost use Rattle.vx_region.specs.IdParts.{IdList};
+    ghost use Rattle.vx_name.specs.IdParts.{IdList};
 
     ghost Value = { IdList };
 

@@ -1,4 +1,4 @@
-ghost use Rattle.vx_region.specs.Laws.{AncestryIsWhole, NoCycles, ParentsAreThere, RemovedIsGone, RemovalKeepsOthers, RemovalKeepsLast, EachHasItsNumber, DefinedIsFresh, DefinitionKeepsOthers, DefinedIsFound, DefinitionKeepsIds, NameIsAdded, AddingKeepsOthers, NameIsDropped, DroppingKeepsOthers, ChangeIsThere, ChangeKeepsOthers, FlagIsSet, FlagKeepsOthers, IdFindsItsRegion, RemovalFreesTheId, RemovalKeepsIds, StrangerAtLarge, ChangeKeepsTheWorld, DefinitionKeepsTheWorld, RemovalKeepsTheWorld, FlagKeepsTheWorld, NameIsRead, NameReadsAsItself, IdIsRead, IdReadsAsItself};
+ghost use Rattle.vx_region.specs.Laws.{AncestryIsWhole, NoCycles, ParentsAreThere, RemovedIsGone, RemovalKeepsOthers, RemovalKeepsLast, EachHasItsNumber, DefinedIsFresh, DefinitionKeepsOthers, DefinedIsFound, DefinitionKeepsIds, NameIsAdded, AddingKeepsOthers, NameIsDropped, DroppingKeepsOthers, ChangeIsThere, ChangeKeepsOthers, FlagIsSet, FlagKeepsOthers, IdFindsItsRegion, RemovalFreesTheId, RemovalKeepsIds, StrangerAtLarge, ChangeKeepsTheWorld, DefinitionKeepsTheWorld, RemovalKeepsTheWorld, FlagKeepsTheWorld};
 
 /// The region at a place in order of number is the region of the number there.
 pub fn each_has_its_number()
@@ -80,12 +80,4 @@ pub fn world_at_large_is_kept()
     ensures definition { DefinitionKeepsTheWorld }
     ensures removal { RemovalKeepsTheWorld }
     ensures flag { FlagKeepsTheWorld }
-{}
-
-/// What is read as a name is one, and each name is read as itself. So it is with ids.
-pub fn words_read_as_themselves()
-    ensures name { NameIsRead }
-    ensures name_again { NameReadsAsItself }
-    ensures id { IdIsRead }
-    ensures id_again { IdReadsAsItself }
 {}

@@ -2,19 +2,18 @@ ghost use Rattle.std.specs.Prelude.{◌≡◌, false, option_map, Some, None, If
 ghost use Rattle.std.specs.Bool.{Decides};
 ghost use Rattle.vx_flag.specs.Settings.{setting_of, with_setting};
 ghost use Rattle.vx_geom.specs.Outline.{is_in};
-ghost use Rattle.vx_region.specs.Regions.{names, names_of, gaining, losing, fresh_region};
+ghost use Rattle.vx_name.specs.Names.{names};
+ghost use Rattle.vx_region.specs.Regions.{names_of, gaining, losing, fresh_region};
 ghost use Rattle.vx_region.specs.SameRegions.{same_number, same_place, same_rosters, same_region};
-ghost use Rattle.vx_region.specs.Texts.{texts};
+ghost use Rattle.vx_name.specs.Texts.{texts};
 
-use crate::id::Id;
-use crate::name::Name;
-use crate::name_set::NameSet;
 use crate::region_no::RegionNo;
 use crate::roster::Roster;
 use std::alloc::{AllocError, Global};
 use std::marker::Model;
 use vx_flag::{Flag, Setting, Settings};
 use vx_geom::{Pos, Shape};
+use vx_name::{Id, Name, NameSet};
 
 /// A region: where it lies, its priority and its parent, who its owners and its members are, the
 /// domains of its machines, and what it sets for each flag.

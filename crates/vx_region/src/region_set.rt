@@ -13,9 +13,6 @@ mod equality;
 mod family;
 
 use crate::children::Children;
-use crate::id::Id;
-use crate::id_numbers::IdNumbers;
-use crate::name::Name;
 use crate::region::Region;
 use crate::region_list::RegionList;
 use crate::region_no::RegionNo;
@@ -26,6 +23,7 @@ use std::alloc::{AllocError, Global};
 use std::marker::Model;
 use vx_flag::{Association, Flag, Setting, Settings};
 use vx_geom::{Pos, Shape};
+use vx_name::{Id, IdNumbers, Name};
 
 /// The regions of a world, in order of their numbers, and the flags of the world at large, which is
 /// `__global__` and has number 0. A number is never given twice. Copies share regions in blocks,

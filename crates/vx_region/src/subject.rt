@@ -1,5 +1,5 @@
-use crate::name::Name;
 use vx_geom::Pos;
+use vx_name::Name;
 
 /// Who acts: a player, or a machine by the place where it stands.
 #[derive(Clone, Copy, Debug, PartialEq, Eq)]

@@ -12,7 +12,8 @@ use Rattle.vx_geom.specs.Outline.{is_in}
 use Rattle.vx_region.specs.Ancestry.{chain, ancestors, from_parent, is_above}
 use Rattle.vx_region.specs.Association.{is_such, has_name, has_name_along, holds_place, player_association, association}
 use Rattle.vx_region.specs.Forest.{IsNumbered, IsForest}
-use Rattle.vx_region.specs.Regions.{RegionData, Regions, region_at, parent_of, names, names_of, with_names, gaining, losing, changed, with_name, without_name}
+use Rattle.vx_name.specs.Names.{names}
+use Rattle.vx_region.specs.Regions.{RegionData, Regions, region_at, parent_of, names_of, with_names, gaining, losing, changed, with_name, without_name}
 use Rattle.vx_region.specs.Subjects.{Named, Machine}
 use Rattle.vx_region.specs.declared.roster.Roster.{Roster}
 use Rattle.vx_region.specs.declared.roster.Roster.TheVariants.{Owners, Members, Domains}

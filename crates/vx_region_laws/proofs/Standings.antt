@@ -14,7 +14,8 @@ use Rattle.vx_geom.specs.Outline.{is_in}
 use Rattle.vx_region.specs.Ancestry.{ancestors}
 use Rattle.vx_region.specs.Association.{is_such, has_name, has_name_along, holds_place, domains_of, domains_at, domains_along, has_domain_along, share_domain, stands_in_domain, player_association, machine_association, association}
 use Rattle.vx_region.specs.Forest.{IsNumbered}
-use Rattle.vx_region.specs.Regions.{RegionData, Entry, Regions, region_at, names, names_of}
+use Rattle.vx_name.specs.Names.{names}
+use Rattle.vx_region.specs.Regions.{RegionData, Entry, Regions, region_at, names_of}
 use Rattle.vx_region.proofs.Lookups.{region_at_place}
 use Rattle.vx_region.proofs.SharedDomains.{any_flat}
 use Rattle.vx_region.specs.declared.roster.Roster.{Roster}

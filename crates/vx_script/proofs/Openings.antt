@@ -17,7 +17,7 @@ use Rattle.vx_cells.specs.Wholes.{airs, bare, with_cell_on}
 use Rattle.vx_cells.proofs.Putting.{put_stays_filled}
 use Rattle.vx_cells.proofs.Setting.{air_is_map}
 use Rattle.vx_play.specs.Plays.{is_named}
-use Rattle.vx_region.specs.Words.{is_amid}
+use Rattle.vx_name.specs.Words.{is_amid}
 use Rattle.vx_script.specs.Headers.{with_size, with_cell_set, header_after}
 use Rattle.vx_script.specs.Openings.{IsOpening, SizesAreSound, HeadersKeepTerrain}
 

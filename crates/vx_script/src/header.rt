@@ -20,7 +20,7 @@ pub struct Header {
 }
 
 impl Model for Header {
-    ghost use Rattle.vx_region.specs.Texts.{texts};
+    ghost use Rattle.vx_name.specs.Texts.{texts};
     ghost use Rattle.vx_script.specs.Headers.{Opening};
 
     ghost Value = { Opening };

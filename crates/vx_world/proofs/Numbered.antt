@@ -1,7 +1,7 @@
 -- Seats in order of their numbers.
 use Rattle.std.proofs.Common.{◌≡◌, ℕ, zero, suc, ◌+◌, ◌<◌, List, [], ◌∷◌, ◌++◌, length, take, get_or, ap, arith}
-use Rattle.vx_region.specs.Texts.{texts}
-use Rattle.vx_region.specs.declared.name.Name.{Name}
+use Rattle.vx_name.specs.Texts.{texts}
+use Rattle.vx_name.specs.declared.name.Name.{Name}
 use Rattle.vx_sector.specs.SectorData.{SeatData}
 use Rattle.vx_world.specs.Openings.{seats_from}
 

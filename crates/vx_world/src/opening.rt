@@ -1,7 +1,7 @@
 //! How a world opens.
 ghost use Rattle.std.specs.List.{All};
 ghost use Rattle.std.specs.Prelude.{◌≡◌, ◌≤◌, ◌+◌, ◌*◌, length, vec_len, map, replicate, [], IfOk, OnOk};
-ghost use Rattle.vx_region.specs.Texts.{texts};
+ghost use Rattle.vx_name.specs.Texts.{texts};
 ghost use Rattle.vx_sector.specs.SectorData.{seat_of};
 ghost use Rattle.vx_sector.specs.Windows.{count_of};
 ghost use Rattle.vx_windows.specs.Limits.{most_players};

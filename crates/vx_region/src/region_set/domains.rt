@@ -7,10 +7,10 @@ ghost use Rattle.vx_region.specs.Domains.{lists_domains, lists_domains_along, li
 ghost use Rattle.vx_region.specs.Regions.{parent_of};
 
 use super::RegionSet;
-use crate::name::Name;
 use crate::region_no::RegionNo;
 use crate::roster::Roster;
 use vx_geom::Pos;
+use vx_name::Name;
 
 impl RegionSet {
     // Whether some region that contains the place itself shares a domain with that of the number.
@@ -61,7 +61,7 @@ impl RegionSet {
     }
 
     // Whether the region of that number lists a domain of the other itself, and its parent.
-    #[tactic(auto, using(crate::proofs::NameLemmas::any_texts), unfolding(crate::specs::Domains::lists_domain_of, crate::specs::Association::domains_at, crate::specs::Regions::parent_of))]
+    #[tactic(auto, using(vx_name::proofs::NameLemmas::any_texts), unfolding(crate::specs::Domains::lists_domain_of, crate::specs::Association::domains_at, crate::specs::Regions::parent_of))]
     fn sharing_at(&self, number: RegionNo, other: RegionNo) -> (bool, Option<RegionNo>)
         ensures shared { result.0 ≡ lists_domain_of self.now other.0 number.0 }
         ensures parent { option_map (λ n. n.0) result.1 ≡ parent_of self.now number.0 }
@@ -106,7 +106,7 @@ impl RegionSet {
     }
 
     // Whether the region of that number lists a domain itself, and its parent.
-    #[tactic(auto, using(crate::proofs::NameLemmas::length_texts), unfolding(crate::specs::Domains::lists_domains, crate::specs::Association::domains_at, crate::specs::Regions::parent_of))]
+    #[tactic(auto, using(vx_name::proofs::NameLemmas::length_texts), unfolding(crate::specs::Domains::lists_domains, crate::specs::Association::domains_at, crate::specs::Regions::parent_of))]
     fn listing_at(&self, number: RegionNo) -> (bool, Option<RegionNo>)
         ensures some { result.0 ≡ lists_domains self.now number.0 }
         ensures parent { option_map (λ n. n.0) result.1 ≡ parent_of self.now number.0 }

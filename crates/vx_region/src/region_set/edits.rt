@@ -4,12 +4,12 @@ ghost use Rattle.std.specs.Prelude.{◌≡◌, Some, None, IsSome, OnOk, OnErr};
 ghost use Rattle.vx_region.specs.Regions.{region_at, HasSettings, with_shape, with_priority, with_flag, without_name};
 
 use super::RegionSet;
-use crate::name::Name;
 use crate::region_no::RegionNo;
 use crate::roster::Roster;
 use std::alloc::AllocError;
 use vx_flag::{Flag, Setting};
 use vx_geom::Shape;
+use vx_name::Name;
 
 impl RegionSet {
     /// Gives a region that is there another shape.

@@ -6,10 +6,10 @@ ghost use Rattle.vx_region.specs.ChildCounts.{Count, IsIdOf};
 ghost use Rattle.vx_region.specs.Regions.{RegionData, region_at, with_parent, without_region};
 
 use crate::children::Children;
-use crate::id::Id;
 use crate::region_no::RegionNo;
 use crate::region_set::RegionSet;
 use std::alloc::AllocError;
+use vx_name::Id;
 
 impl RegionSet {
     /// Whether some region has the region of that number as its parent.

@@ -1,5 +1,5 @@
 use Rattle.std.proofs.Common.{refl}
-use Rattle.vx_region.specs.Texts.{texts}
+use Rattle.vx_name.specs.Texts.{texts}
 use Rattle.vx_play.proofs.Guessing.{all_first}
 use Rattle.vx_play.proofs.name_index.guesses_of.Goals as goal
 

@@ -1,4 +1,4 @@
-use Rattle.vx_region.specs.Texts.{texts}
+use Rattle.vx_name.specs.Texts.{texts}
 use Rattle.vx_play.specs.Guesses.{AreGuesses}
 use Rattle.vx_play.proofs.name_index.guesses_of.Given as goal
 

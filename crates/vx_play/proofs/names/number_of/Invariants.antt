@@ -1,5 +1,5 @@
 use Rattle.std.proofs.Common.{◌≡◌, drop}
-use Rattle.vx_region.specs.Texts.{texts}
+use Rattle.vx_name.specs.Texts.{texts}
 use Rattle.vx_play.specs.Plays.{number_from}
 use Rattle.vx_play.proofs.names.number_of.Given as goal
 

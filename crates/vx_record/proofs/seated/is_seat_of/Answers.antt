@@ -5,7 +5,7 @@ use Rattle.std.specs.Cmp.Lexicographic.{pointwise_decides}
 use Rattle.std.proofs.lemmas.Bool.{false≢true}
 use Rattle.std.proofs.lemmas.Bool.Decides.{Decides-at, Decides-eqb, Decides-like}
 use Rattle.std.proofs.lemmas.Option.{slice_get-map, slice_get_read, slice_get_past, same_Some, none-some}
-use Rattle.vx_region.specs.declared.name.Name.{Name}
+use Rattle.vx_name.specs.declared.name.Name.{Name}
 use Rattle.vx_record.proofs.seated.is_seat_of.Goals as goal
 
 abbrev text_in : Name → List ℕ

@@ -1,7 +1,7 @@
 use Rattle.std.proofs.Common.{◌≡◌, [], ◌∷◌, ◌++◌, replicate, take, sym, ap, ◌∙◌, arith, add-one}
 use Rattle.std.proofs.lemmas.List.{map_push}
 use Rattle.std.proofs.lemmas.List.Elements.{All-push}
-use Rattle.vx_region.specs.Texts.{texts}
+use Rattle.vx_name.specs.Texts.{texts}
 use Rattle.vx_world.specs.Openings.{seats_from}
 use Rattle.vx_world.proofs.Numbered.{seats_more}
 use Rattle.vx_world.proofs.opening.passes.Goals as goal

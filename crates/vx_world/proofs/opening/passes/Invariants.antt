@@ -1,7 +1,7 @@
 use Rattle.std.proofs.Common.{◌≡◌, ◌+◌, ◌*◌, [], length, map, replicate, take}
 use Rattle.std.specs.List.{All}
 use Rattle.std.specs.Vec.{vec_len, vec_capacity}
-use Rattle.vx_region.specs.Texts.{texts}
+use Rattle.vx_name.specs.Texts.{texts}
 use Rattle.vx_sector.specs.SectorData.{seat_of}
 use Rattle.vx_world.specs.Openings.{seats_from}
 use Rattle.vx_world.proofs.opening.passes.Given as goal

@@ -1,6 +1,6 @@
 use Rattle.std.proofs.Common.{◌≡◌, List, slice_get, Some, sym, ◌∙◌, subst}
-use Rattle.vx_region.specs.declared.name.Name.{Name}
-use Rattle.vx_region.specs.Texts.{texts}
+use Rattle.vx_name.specs.declared.name.Name.{Name}
+use Rattle.vx_name.specs.Texts.{texts}
 use Rattle.vx_play.specs.Guesses.{IsGuess}
 use Rattle.vx_base.proofs.Lists.{read_is}
 use Rattle.vx_play.proofs.Guessing.{at_guess}

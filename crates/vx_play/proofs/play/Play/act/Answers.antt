@@ -2,7 +2,7 @@ use Rattle.std.proofs.Common.{◌≡◌, List, Some, IfSome, length, map, slice_
 use Rattle.std.proofs.lemmas.Option.{slice_get_read}
 use Rattle.std.specs.Vec.{vec_len}
 use Rattle.vx_geom.specs.Sizes.{sector_of}
-use Rattle.vx_region.specs.Texts.{texts}
+use Rattle.vx_name.specs.Texts.{texts}
 use Rattle.vx_sector.specs.Commands.{place_of}
 use Rattle.vx_sector.specs.SectorData.{SectorData, seat_of}
 use Rattle.vx_sector.specs.Windows.{sector_after}

@@ -1,6 +1,6 @@
 use Rattle.std.proofs.Common.{◌≡◌, ◌+◌, List, length, map, sym, ap, subst, ◌∙◌, arith}
 use Rattle.std.proofs.lemmas.List.{with_items_is}
-use Rattle.vx_region.specs.Texts.{texts}
+use Rattle.vx_name.specs.Texts.{texts}
 use Rattle.vx_cells.specs.Maps.{MapData, AreSectors}
 use Rattle.vx_cells.specs.SectorCells.{SectorCells}
 use Rattle.vx_cells.specs.Wholes.{with_cells_on}

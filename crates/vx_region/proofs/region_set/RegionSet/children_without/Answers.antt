@@ -1,5 +1,5 @@
 use Rattle.std.proofs.Common.{ℕ, List, option_map, sym, ap, ◌∙◌, subst}
-use Rattle.vx_region.specs.declared.id.Id.{Id}
+use Rattle.vx_name.specs.declared.id.Id.{Id}
 use Rattle.vx_region.specs.declared.region_no.RegionNo.{RegionNo}
 use Rattle.vx_region.specs.ChildCounts.{Count}
 use Rattle.vx_region.proofs.Counting.{counts_as_they_are, counts_of_fewer}

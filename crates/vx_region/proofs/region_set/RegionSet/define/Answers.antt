@@ -1,9 +1,10 @@
 use Rattle.std.proofs.Common.{ℕ, Some, cond, bytes_eq, ◌+◌, ◌++◌, ◌∷◌, [], List, refl, ap, sym, ◌∙◌, subst}
 use Rattle.std.specs.Map.{lookup}
-use Rattle.vx_region.specs.IdIndex.{first_with, same_id}
+use Rattle.vx_name.specs.Ids.{same_id}
+use Rattle.vx_region.specs.IdIndex.{first_with}
 use Rattle.vx_region.specs.Regions.{RegionData, Entry, regions_of, is_global_id, with_region}
 use Rattle.vx_region.specs.Soundness.{IsSound}
-use Rattle.vx_region.specs.declared.id.Id.{Id}
+use Rattle.vx_name.specs.declared.id.Id.{Id}
 use Rattle.vx_region.specs.contracts.region_set.RegionSet.{the_view}
 use Rattle.vx_region.proofs.Indexing.{free_is, free_is_local, sound_pushed}
 use Rattle.vx_region.proofs.region_set.RegionSet.define.Goals as goal

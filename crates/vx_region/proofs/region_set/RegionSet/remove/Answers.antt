@@ -2,9 +2,9 @@ use Rattle.std.proofs.Common.{ℕ, List, None, cond, nat_eq, bytes_eq, sym, ap, 
 use Rattle.std.specs.Map.{lookup, remove_entry}
 use Rattle.std.specs.Option.{option_copied}
 use Rattle.vx_region.specs.ChildCounts.{Count}
-use Rattle.vx_region.specs.IdIndex.{same_id}
+use Rattle.vx_name.specs.Ids.{same_id}
 use Rattle.vx_region.specs.Regions.{Regions}
-use Rattle.vx_region.specs.declared.id.Id.{Id}
+use Rattle.vx_name.specs.declared.id.Id.{Id}
 use Rattle.vx_region.specs.contracts.region_set.RegionSet.{the_view}
 use Rattle.vx_region.proofs.Indexing.{sound_without}
 use Rattle.vx_region.proofs.Lookups.{read_from_known}

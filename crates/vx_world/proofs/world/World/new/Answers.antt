@@ -1,6 +1,6 @@
 use Rattle.std.proofs.Common.{◌≡◌, ℕ, ◌+◌, ◌≤◌, length, sym, ap, ◌∙◌, arith}
 use Rattle.std.proofs.lemmas.List.{length-map}
-use Rattle.vx_region.specs.declared.name.Name.{Name}
+use Rattle.vx_name.specs.declared.name.Name.{Name}
 use Rattle.vx_world.proofs.world.World.new.Goals as goal
 
 -- as many parts of the sectors' ledger as sectors are left once each pass has its own

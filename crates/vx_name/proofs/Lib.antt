@@ -1,0 +1,5 @@
+pub mod Errors
+pub mod IdChanges
+pub mod IdParts
+pub mod NameLemmas
+pub mod Spelling

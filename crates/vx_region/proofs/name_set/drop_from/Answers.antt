@@ -1,8 +1,0 @@
-use Rattle.std.proofs.Common.{ap, ◌∙◌}
-use Rattle.vx_region.specs.Texts.{texts}
-use Rattle.vx_region.proofs.NameLemmas.{texts_remove_key}
-use Rattle.vx_region.proofs.name_set.drop_from.Goals as goal
-
-pub returns : goal.returns
-returns c =
-    ap texts c.shift_remove-dropped.ensures.keys ∙ texts_remove_key c.args.these.now.keys c.args.name.now c.len-count.ensures.unique

@@ -1,9 +1,0 @@
--- What a change of the index of ids leaves for each id.
-use Rattle.std.specs.Prelude.{ℕ, List, Option}
-use Rattle.vx_base.specs.Parts as parts
-use Rattle.vx_region.specs.declared.id.Id.{Id}
-use Rattle.vx_region.specs.IdIndex.{same_id}
-
--- the id has this number, or none, and each other id what it had
-abbrev pub IsUpdated : Id → Option ℕ → List (Id × ℕ) → List (Id × ℕ) → Type 0
-IsUpdated id number old new = parts.IsUpdated same_id id number old new

@@ -7,7 +7,9 @@ pub mod Listed
 pub mod Orders
 pub mod Recalled
 pub mod Renewing
+pub mod Renumbering
 pub mod Rows
+pub mod Runs
 pub mod Shapes
 pub mod Squares
 pub mod Told

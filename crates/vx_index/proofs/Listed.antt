@@ -142,16 +142,15 @@ all_listed test all items k numbers last same past held =
       own = λ n there. subst (λ ds. has_number ds n ≡ true) whole (held.own n there);
     }
 
--- a number that a patch has is that of a shape that lies there
-number_met : (shapes : Shapes) (columns : Extent) (n : ℕ) (patches : List Patch) → AllByRecursion (λ d. IsMet (shapes d.number) columns) patches
-    → has_number patches n ≡ true → IsMet (shapes n) columns
-number_met shapes columns n [] met has = absurd (both_ways false refl has)
-number_met shapes columns n (d ∷ ds) met has = elim (or_cases (nat_eq n d.number) (has_number ds n) has) [
-  | inl this ↦ subst (λ m. IsMet (shapes m) columns) (sym (eqb-true n d.number this)) met.0
-  | inr later ↦ number_met shapes columns n ds met.1 later
+-- what holds of the numbers of all patches holds of one that a patch has
+pub of_number : (P : ℕ → Type 0) (n : ℕ) (patches : List Patch) → AllByRecursion (λ d. P d.number) patches → has_number patches n ≡ true → P n
+of_number P n [] all has = absurd (both_ways false refl has)
+of_number P n (d ∷ ds) all has = elim (or_cases (nat_eq n d.number) (has_number ds n) has) [
+  | inl this ↦ subst P (sym (eqb-true n d.number this)) all.0
+  | inr later ↦ of_number P n ds all.1 later
 ]
 
--- so it is that of a region
+-- a number at which a shape lies there is that of a region
 region_met : (o : Option RegionData) (columns : Extent) → IsMet (option_map (λ r. r.shape) o) columns → IsSome o
 region_met None columns met = let none : None ≡ Some met.0 = met.1 in cc
 region_met (Some r) columns met = refl
@@ -171,7 +170,7 @@ such_weaker f g tells n (d ∷ ds) has = elim (or_cases (is_such f n d) (has_suc
 numbers_named : (rs : Regions) (chunk : Chunk) (test : Patch → Bool) (numbers : List ℕ) → IsChunk rs chunk
     → AreNumbersOf test chunk.patches.items numbers → AreNumbers rs numbers
 numbers_named rs chunk test numbers is of n there =
-    region_met (region_at rs n) chunk.columns (number_met (shape_at rs) chunk.columns n chunk.patches.items is.patches.met (of.own n there))
+    region_met (region_at rs n) chunk.columns (of_number (λ m. IsMet (shape_at rs m) chunk.columns) n chunk.patches.items is.patches.met (of.own n there))
 
 -- and those of the patches that have the position are those of all regions that contain it
 pub numbers_hold : (rs : Regions) (p : Pos) (chunk : Chunk) (test : Patch → Bool) (numbers : List ℕ) → IsForest rs → IsChunk rs chunk

@@ -1,6 +1,8 @@
 -- Patches that are kept and joined stay in order.
-use Rattle.std.proofs.Common.{◌≡◌, ℕ, ◌≤◌, Bool, true, false, cond, List, [], ◌∷◌, ◌++◌, filter, refl, ap, ◌∙◌, arith}
+use Rattle.std.proofs.Common.{◌≡◌, ℕ, zero, suc, ◌+◌, ◌<◌, ◌≤◌, Bool, true, false, cond, List, [], ◌∷◌, ◌++◌, filter, length, get_or, refl, ap, ◌∙◌, arith, add-one}
 use Rattle.std.specs.List.{AllByRecursion}
+use Rattle.std.specs.List.Sorted.{IsNonDecreasingBy}
+use Rattle.std.proofs.lemmas.List.Sorted.{IsNonDecreasingBy-from_all_adjacent}
 use Rattle.vx_index.specs.declared.patch.Patch.{Patch}
 use Rattle.vx_index.specs.Patches.{AreInOrder}
 
@@ -8,6 +10,16 @@ use Rattle.vx_index.specs.Patches.{AreInOrder}
 pub order_lower : (a b : ℕ) (patches : List Patch) → a ≤ b → AreInOrder b patches → AreInOrder a patches
 order_lower a b [] low up = tt
 order_lower a b (d ∷ ds) low up = (omega (arith, low, up.0), up.1)
+
+-- the numbers of patches in order never fall
+pub never_fall : (n : ℕ) (patches : List Patch) → AreInOrder n patches → IsNonDecreasingBy (λ d. d.number) patches
+never_fall n patches up = IsNonDecreasingBy-from_all_adjacent (λ d. d.number) patches (λ k d within. each n patches up k d (omega arith))
+  where
+    each : (m : ℕ) (ds : List Patch) → AreInOrder m ds → (k : ℕ) (d : Patch) → suc k < length ds → (get_or ds k d).number ≤ (get_or ds (k + 1) d).number
+    each m [] in_order k d within = absurd (omega arith)
+    each m (x ∷ []) in_order k d within = absurd (omega arith)
+    each m (x ∷ (y ∷ ds)) in_order zero d within = in_order.1.0
+    each m (x ∷ (y ∷ ds)) in_order (suc k) d within = rw add-one (rw add-one at (each x.number (y ∷ ds) in_order.1 k d (omega arith)))
 
 -- and one from any number that none is before
 pub order_raise : (a b : ℕ) (patches : List Patch) → AllByRecursion (λ patch. b ≤ patch.number) patches → AreInOrder a patches → AreInOrder b patches

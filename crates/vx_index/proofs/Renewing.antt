@@ -2,6 +2,7 @@
 use Rattle.std.proofs.Common.{◌≡◌, ◌≢◌, inl, inr, ℕ, ◌≤◌, Bool, true, false, cond, nat_eq, nat_lt, List, [], ◌∷◌, ◌++◌, filter, Option, Some, option_map, refl, ap, sym, ◌∙◌, subst, arith}
 use Rattle.std.specs.List.{AllByRecursion}
 use Rattle.std.proofs.lemmas.Bool.{and_parts, both_ways, cases_eq, cases_lt, eqb-true, lt-ltb, ltb-true, or_cases, or_left, or_parts, or_right}
+use Rattle.std.proofs.lemmas.Map.Views.{any-filter_same}
 use Rattle.vx_base.proofs.Lists.{all_weaker}
 use Rattle.vx_geom.specs.declared.extent.Extent.{Extent}
 use Rattle.vx_geom.specs.declared.pos.Pos.{Pos}
@@ -32,23 +33,19 @@ is_behind n d = nat_lt n d.number
 -- a patch that is near is kept with all of its number
 near_kept : (f : Patch → Bool) (n : ℕ) (q : Pos) → ((d : Patch) → d.number ≡ n → f d ≡ true) → (patches : List Patch)
     → are_near patches n q ≡ true → are_near (filter f patches) n q ≡ true
-near_kept f n q keeps [] near = near
-near_kept f n q keeps (d ∷ ds) near = by (f d) refl (near_kept f n q keeps ds)
-  where
-    by : (b : Bool) → f d ≡ b → (are_near ds n q ≡ true → are_near (filter f ds) n q ≡ true) → are_near (cond b (d ∷ filter f ds) (filter f ds)) n q ≡ true
-    by true is rest = elim (or_cases (is_near n q d) (are_near ds n q) near) [
-      | inl this ↦ or_left (is_near n q d) (are_near (filter f ds) n q) this
-      | inr later ↦ or_right (is_near n q d) (are_near (filter f ds) n q) (rest later)
-    ]
-    by false is rest = elim (or_cases (is_near n q d) (are_near ds n q) near) [
-      | inl this ↦ absurd (both_ways (f d) is (keeps d (near_number n q d this)))
-      | inr later ↦ rest later
-    ]
+near_kept f n q keeps patches near = any-filter_same (is_near n q) f true (λ d at. keeps d (near_number n q d at)) patches ∙ near
 
 -- two facts on all patches
 all_both : (P Q : Patch → Type 0) (patches : List Patch) → AllByRecursion P patches → AllByRecursion Q patches → AllByRecursion (λ d. P d × Q d) patches
 all_both P Q [] ps qs = tt
 all_both P Q (d ∷ ds) ps qs = ((ps.0, qs.0), all_both P Q ds ps.1 qs.1)
+
+-- the patches before the number, those that were added for it, and those behind it
+pub parted : (n : ℕ) (o : Option Outline) (columns : Extent) (old low mid new : List Patch) → low ≡ filter (is_before n) old
+    → (adds : AddsAny n o columns low mid) → new ≡ mid ++ filter (is_behind n) old
+    → new ≡ (filter (is_before n) old ++ adds.added) ++ filter (is_behind n) old
+parted n o columns old low mid new is_low adds is_new =
+    is_new ∙ ap (λ ds. ds ++ filter (is_behind n) old) (adds.after ∙ ap (λ ds. ds ++ adds.added) is_low)
 
 -- where no columns of a shape are touched it does not meet these
 apart_from : (columns : Extent) (shape : Option Outline) (extent : Option Extent) (o : Outline) → extent ≡ option_map extent_of shape → shape ≡ Some o
@@ -65,10 +62,10 @@ module _ (shapes : Shapes) (columns : Extent) (n : ℕ) (o : Option Outline) (ol
   met_other : (d : Patch) → d.number ≢ n → IsMet (shapes d.number) columns → IsMet (renewed_at shapes n o d.number) columns
   met_other d other met = (met.0, elsewhere shapes n o d.number other ∙ met.1, met.2)
 
-  -- those before the number, those that were added for it, and those behind it
+  -- they tell of the shapes then
   pub renewed_tells : (low mid new : List Patch) → low ≡ filter (is_before n) old → AddsAny n o columns low mid → new ≡ mid ++ filter (is_behind n) old
       → AreOf (renewed_at shapes n o) columns new
-  renewed_tells low mid new is_low adds is_new = subst (AreOf (renewed_at shapes n o) columns) (sym parts) (record {
+  renewed_tells low mid new is_low adds is_new = subst (AreOf (renewed_at shapes n o) columns) (sym (parted n o columns old low mid new is_low adds is_new)) (record {
     ordered = order_join 0 n (front ++ adds.added) back (omega arith)
         (order_join 0 n front adds.added (omega arith) (order_filter (is_before n) 0 old of.ordered) front_low (order_own n n adds.added (omega arith) adds.own))
         (all_append (λ d. d.number ≤ n) front adds.added front_low (all_weaker (λ d. d.number ≡ n) (λ d. d.number ≤ n) (λ d own. omega (arith, own)) adds.added adds.own))
@@ -94,9 +91,6 @@ module _ (shapes : Shapes) (columns : Extent) (n : ℕ) (o : Option Outline) (ol
 
       Met : Patch → Type 0
       Met d = IsMet (renewed_at shapes n o d.number) columns
-
-      parts : new ≡ (front ++ adds.added) ++ back
-      parts = is_new ∙ ap (λ ds. ds ++ back) (adds.after ∙ ap (λ ds. ds ++ adds.added) is_low)
 
       front_low : AllByRecursion (λ d. d.number ≤ n) front
       front_low = all_kept (is_before n) Was (λ d. d.number ≤ n) (λ d is met. omega (arith, ltb-true d.number n is)) old of.met

@@ -1,5 +1,6 @@
-ghost use Rattle.std.specs.Prelude.{◌≡◌, ◌≤◌, [], ◌++◌, true, nat_lt, filter, option_copied, unsigned_abs, IfOk, IfSome, OnOk};
+ghost use Rattle.std.specs.Prelude.{◌≡◌, ◌≤◌, [], ◌∷◌, ◌++◌, true, if◌then◌else◌, nat_lt, filter, option_copied, unsigned_abs, IfOk, IfSome};
 ghost use Rattle.std.specs.List.{All};
+ghost use Rattle.std.specs.List.Sorted.{IsStrictlyIncreasing};
 ghost use Rattle.vx_geom.specs.Extent.{is_within};
 ghost use Rattle.vx_geom.specs.declared.bounds.TheConstants.{MAX_COLUMNS_EACH_WAY};
 ghost use Rattle.vx_region.specs.Subjects.{actor_of};
@@ -62,23 +63,9 @@ impl Chunk {
                 north,
             )?;
         }
-        Chunk::made(alloc, square(west, north), patches, 0)
-    }
-
-    // The chunk of these columns in which these patches lie, of so many regions or some more.
-    fn made(
-        alloc: Global,
-        columns: Extent,
-        patches: Vec<Patch>,
-        regions: usize,
-    ) -> Result<Chunk, AllocError>
-        ensures of { (shapes : Shapes) → AreOf shapes columns patches.items
-            → IfOk result (TellsOf shapes) }
-        ensures columns { IfOk result (λ chunk. chunk.columns ≡ columns) }
-    {
-        let numbers = numbers_of(alloc, &patches, regions)?;
+        let numbers = numbers_of(alloc, &patches)?;
         Ok(Chunk {
-            columns,
+            columns: square(west, north),
             patches,
             numbers,
         })
@@ -204,10 +191,19 @@ impl Chunk {
         ensures columns { IfOk result (λ chunk. chunk.columns ≡ self.now.columns) }
     {
         let (west, north) = self.corner();
-        let mut patches = self.before(alloc, number, most_patches(shape))?;
+        let (before, behind) = patches_around(&self.patches, number);
+        let room = self.patches.len().saturating_add(most_patches(shape));
+        let mut patches = Vec::with_capacity(alloc, room)?;
+        patches.extend_from_slice(before)?;
         add_any(&mut patches, number, shape, west, north)?;
-        self.add_behind(&mut patches, number)?;
-        Chunk::made(alloc, self.columns, patches, self.numbers.len())
+        let is_here = before.len() < patches.len();
+        patches.extend_from_slice(behind)?;
+        let numbers = renumbered(alloc, &self.numbers, number, is_here)?;
+        Ok(Chunk {
+            columns: self.columns,
+            patches,
+            numbers,
+        })
     }
 
     // Where the chunk begins, from the west and from the north.
@@ -221,33 +217,18 @@ impl Chunk {
             self.columns.north.unsigned_abs(),
         )
     }
+}
 
-    // The patches of the regions before that number, with room for all others and so many more.
-    fn before(&self, alloc: Global, number: u32, more: usize) -> Result<Vec<Patch>, AllocError>
-        ensures { IfOk result (λ patches. patches.items
-            ≡ filter (λ d. nat_lt d.number number) self.now.patches.items) }
-    {
-        let mut patches = Vec::with_capacity(alloc, self.patches.len().saturating_add(more))?;
-        for patch in &self.patches {
-            if patch.number < number {
-                patches.push(*patch)?;
-            }
-        }
-        Ok(patches)
-    }
-
-    // Adds the patches of the regions behind that number.
-    fn add_behind(&self, patches: &mut Vec<Patch>, number: u32) -> Result<(), AllocError>
-        ensures { OnOk result (patches.new.items
-            ≡ patches.old.items ++ filter (λ d. nat_lt number d.number) self.now.patches.items) }
-    {
-        for patch in &self.patches {
-            if number < patch.number {
-                patches.push(*patch)?;
-            }
-        }
-        Ok(())
-    }
+// The patches of the regions before that number, and those of the regions behind it.
+fn patches_around(patches: &[Patch], number: u32) -> (&[Patch], &[Patch])
+    ensures before { AreInOrder 0 patches.now
+        → result.0.now ≡ filter (λ d. nat_lt d.number number) patches.now }
+    ensures behind { AreInOrder 0 patches.now
+        → result.1.now ≡ filter (λ d. nat_lt number d.number) patches.now }
+{
+    let end = patches.partition_point(|patch| patch.number < number);
+    let start = patches.partition_point(|patch| patch.number <= number);
+    (&patches[..end], &patches[start..])
 }
 
 // How many patches a shape has in a chunk at most. No clause says so: only room rests on it.
@@ -259,13 +240,12 @@ fn most_patches(shape: Option<&Cut>) -> usize {
     }
 }
 
-// The numbers of the regions that these patches are of, each once and in order. They are so many,
-// or some more.
-fn numbers_of(alloc: Global, patches: &[Patch], regions: usize) -> Result<Vec<u32>, AllocError>
+// The numbers of the regions that these patches are of, each once and in order.
+fn numbers_of(alloc: Global, patches: &[Patch]) -> Result<Vec<u32>, AllocError>
     ensures { IfOk result (λ numbers. AreInOrder 0 patches.now
         → AreNumbersOf (λ d. true) patches.now numbers.items) }
 {
-    let mut numbers = Vec::with_capacity(alloc, regions)?;
+    let mut numbers = Vec::new(alloc);
     let mut last = 0;
     for patch in patches {
         if last < patch.number {
@@ -274,4 +254,37 @@ fn numbers_of(alloc: Global, patches: &[Patch], regions: usize) -> Result<Vec<u3
         }
     }
     Ok(numbers)
+}
+
+// These numbers with that one in its place, or without it. It copies them, and looks at few.
+fn renumbered(
+    alloc: Global,
+    numbers: &[u32],
+    number: u32,
+    with_it: bool,
+) -> Result<Vec<u32>, AllocError>
+    ensures { IfOk result (λ new. IsStrictlyIncreasing numbers.now → new.items
+        ≡ (filter (λ n. nat_lt n number) numbers.now ++ (if with_it then number ∷ [] else []))
+            ++ filter (λ n. nat_lt number n) numbers.now) }
+{
+    let (before, behind) = numbers_around(numbers, number);
+    let mut new = Vec::with_capacity(alloc, numbers.len().saturating_add(1))?;
+    new.extend_from_slice(before)?;
+    if with_it {
+        new.push(number)?;
+    }
+    new.extend_from_slice(behind)?;
+    Ok(new)
+}
+
+// The numbers before that one, and those behind it.
+fn numbers_around(numbers: &[u32], number: u32) -> (&[u32], &[u32])
+    ensures before { IsStrictlyIncreasing numbers.now
+        → result.0.now ≡ filter (λ n. nat_lt n number) numbers.now }
+    ensures behind { IsStrictlyIncreasing numbers.now
+        → result.1.now ≡ filter (λ n. nat_lt number n) numbers.now }
+{
+    let end = numbers.partition_point(|other| *other < number);
+    let start = numbers.partition_point(|other| *other <= number);
+    (&numbers[..end], &numbers[start..])
 }

@@ -5,7 +5,7 @@ use Rattle.vx_index.proofs.chunk.numbers_of.Goals as goal
 use Rattle.vx_index.proofs.chunk.numbers_of.Goals.{then-last-patch+in_ok-push, else-last-patch}
 
 pub loop-patch-init : goal.loop-patch-init
-loop-patch-init c ordered = none_listed (λ d. true) c.args.patches.now c.in_ok-numbers.numbers.items c.in_ok-numbers.ensures.items ordered
+loop-patch-init c ordered = none_listed (λ d. true) c.args.patches.now _ c.new-numbers.ensures.items ordered
 
 pub loop-patch-preserved : goal.loop-patch-preserved
 loop-patch-preserved c ordered =

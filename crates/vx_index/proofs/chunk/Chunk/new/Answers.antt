@@ -1,7 +1,7 @@
-use Rattle.std.proofs.Common.{◌∙◌, sym, subst, arith}
+use Rattle.std.proofs.Common.{true, ◌∙◌, sym, subst, arith}
 use Rattle.std.proofs.lemmas.Result.{IfOk-from_err}
 use Rattle.vx_geom.specs.declared.extent.Extent.{Extent}
-use Rattle.vx_index.specs.Patches.{square, AreOf}
+use Rattle.vx_index.specs.Patches.{square, AreInOrder, AreNumbersOf, AreOf}
 use Rattle.vx_index.specs.Shapes.{shape_at}
 use Rattle.vx_index.proofs.Beginning.{of_none, of_one_more, of_all}
 use Rattle.vx_index.proofs.chunk.Chunk.new.Goals as goal
@@ -20,9 +20,14 @@ pub returns-clause-of : goal.returns-clause-of
 returns-clause-of c =
     let rs = c.args.regions.now in
     let items = c.loop-place.patches.items in
-    c.made.ensures.of (shape_at rs) (subst (λ (e : Extent). AreOf (shape_at rs) e items) (sym c.square.ensures)
-    (of_all rs (square c.args.west c.args.north) c.loop-place.place items (omega (arith, c.loop-place-test.false, c.count-place-end.ensures))
-    c.loop-place.invariant))
+    let of : AreOf (shape_at rs) (square c.args.west c.args.north) items =
+    of_all rs (square c.args.west c.args.north) c.loop-place.place items (omega (arith, c.loop-place-test.false, c.count-place-end.ensures))
+    c.loop-place.invariant in
+    record {
+      patches = subst (λ (e : Extent). AreOf (shape_at rs) e items) (sym c.square.ensures) of;
+      numbers = subst (λ ds. AreNumbersOf (λ d. true) ds c.in_ok-numbers.numbers.items) c.deref.ensures.value
+          (c.in_ok-numbers.ensures (subst (AreInOrder 0) (sym c.deref.ensures.value) of.ordered));
+    }
 
 pub returns-in_err-add_patches-clause-of : goal.returns-in_err-add_patches-clause-of
 returns-in_err-add_patches-clause-of c = IfOk-from_err c.from_residual.result _ c.from_residual.ensures.0

@@ -16,7 +16,7 @@ use Rattle.vx_index.specs.declared.chunk.Chunk.{Chunk}
 use Rattle.vx_index.specs.declared.patch.Patch.{Patch}
 use Rattle.vx_index.specs.Chunks.{IsChunk, StandsIn}
 use Rattle.vx_index.specs.Patches.{has_such, has_number, AreInOrder, AreNumbersOf, IsMet}
-use Rattle.vx_index.specs.Shapes.{Shapes, shape_at}
+use Rattle.vx_index.specs.Shapes.{shape_at}
 use Rattle.vx_index.proofs.Orders.{order_lower}
 use Rattle.vx_region.specs.Forest.{IsForest}
 use Rattle.vx_region.specs.Regions.{RegionData, Regions, region_at}

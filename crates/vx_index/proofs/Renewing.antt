@@ -1,7 +1,7 @@
 -- The patches of a chunk after the shape of a number became another or is gone.
-use Rattle.std.proofs.Common.{◌≡◌, ◌≢◌, inl, inr, ℕ, ◌≤◌, Bool, true, false, cond, nat_eq, nat_lt, List, [], ◌∷◌, ◌++◌, filter, Option, Some, option_map, refl, ap, sym, ◌∙◌, subst, arith}
+use Rattle.std.proofs.Common.{◌≡◌, ◌≢◌, inl, inr, ℕ, ◌≤◌, Bool, true, false, nat_eq, nat_lt, List, [], ◌∷◌, ◌++◌, filter, Option, Some, option_map, ap, sym, ◌∙◌, subst, arith}
 use Rattle.std.specs.List.{AllByRecursion}
-use Rattle.std.proofs.lemmas.Bool.{and_parts, both_ways, cases_eq, cases_lt, eqb-true, lt-ltb, ltb-true, or_cases, or_left, or_parts, or_right}
+use Rattle.std.proofs.lemmas.Bool.{and_parts, both_ways, cases_eq, cases_lt, eqb-true, lt-ltb, ltb-true, or_parts}
 use Rattle.std.proofs.lemmas.Map.Views.{any-filter_same}
 use Rattle.vx_base.proofs.Lists.{all_weaker}
 use Rattle.vx_geom.specs.declared.extent.Extent.{Extent}

@@ -29,7 +29,7 @@ in_filter p ms m there passes =
 out_of_filter : (p : ℕ → Bool) (ms : List ℕ) (m : ℕ) → Contains (filter p ms) m → Contains ms m × (p m ≡ true)
 out_of_filter p ms m there = (
   All-contains (Contains ms) (filter p ms) m (All-filter p (Contains ms) ms (All-contains_itself ms)) there,
-  All-contains (λ k. p k ≡ true) (filter p ms) m (filter_passes p ms) there
+  All-contains (λ k. p k ≡ true) (filter p ms) m (filter_passes p ms) there,
 )
 
 -- the numbers from 1 on of these patches, in whatever order, and none but theirs

@@ -1,10 +1,10 @@
 -- What a test keeps of a list that it parts is a run, and so is what stands before a number and behind it where numbers do not fall.
-use Rattle.std.proofs.Common.{◌≡◌, ℕ, zero, suc, ◌+◌, ◌-◌, ◌<◌, ◌≤◌, Bool, true, false, cond, nat_lt, filter, List, [], ◌∷◌, length, get_or, take, drop, leb, ltb, leb-true, refl, ap, sym, ◌∙◌, arith, length-drop}
-use Rattle.std.specs.List.Sorted.{IsNonDecreasing, IsPartitionPoint, IsStrictlyIncreasing}
-use Rattle.std.proofs.lemmas.Bool.{leb-false, lt-ltb, lt-leb, le-leb, ltb-true, ltb-false}
+use Rattle.std.proofs.Common.{◌≡◌, ℕ, zero, suc, ◌+◌, ◌-◌, ◌≤◌, Bool, true, false, cond, nat_lt, filter, List, [], ◌∷◌, length, take, drop, leb, ltb, leb-true, refl, ap, sym, ◌∙◌, arith, length-drop}
+use Rattle.std.specs.List.Sorted.{IsNonDecreasing, IsNonDecreasingBy, IsPartitionedBy, IsPartitionPoint, IsStrictlyIncreasing}
+use Rattle.std.proofs.lemmas.Bool.{leb-false, lt-ltb, lt-leb}
 use Rattle.std.proofs.lemmas.List.{take_all}
 use Rattle.std.proofs.lemmas.List.Kept.{AllPairs-from_increasing}
-use Rattle.std.proofs.lemmas.List.Sorted.{IsNonDecreasingBy-from_all_adjacent}
+use Rattle.std.proofs.lemmas.List.Sorted.{IsNonDecreasingBy-from_all_adjacent, IsPartitionedBy-leb, IsPartitionedBy-ltb}
 
 module _ {X : Type 0} (p : X → Bool) where
   -- where those that pass come first they are the run before the others
@@ -29,20 +29,24 @@ module _ {X : Type 0} (p : X → Bool) where
       kept_back xs i (omega arith) (λ k d low high. parts.0 (suc k) d (omega arith) (omega arith), λ k d low high. parts.1 (suc k) d (omega arith) (omega arith))
       ∙ sym (ap (λ b. cond b (x ∷ filter p xs) (filter p xs)) (parts.0 0 x (omega arith) (omega arith)))
 
-module _ {X : Type 0} (number : X → ℕ) (n : ℕ) (xs : List X) where
+module _ {X : Type 0} (number : X → ℕ) (n : ℕ) (xs : List X) (up : IsNonDecreasingBy number xs) where
   -- those of lower numbers, as a slice has them
-  pub run_before : (end : ℕ) → end ≤ length xs → IsPartitionPoint (λ x. ltb (number x) n ≡ true) (λ x. ltb (number x) n ≡ false) xs end
+  pub run_before : (end : ℕ) → end ≤ length xs
+      → (IsPartitionedBy (λ x. ltb (number x) n) xs → IsPartitionPoint (λ x. ltb (number x) n ≡ true) (λ x. ltb (number x) n ≡ false) xs end)
       → take end xs ≡ filter (λ x. nat_lt (number x) n) xs
-  run_before end within parts = kept_front (λ x. nat_lt (number x) n) xs end within parts
+  run_before end within found = kept_front (λ x. nat_lt (number x) n) xs end within (found (IsPartitionedBy-ltb number xs n up))
 
   -- and those of higher ones
-  pub run_behind : (start : ℕ) → start ≤ length xs → IsPartitionPoint (λ x. leb (number x) n ≡ true) (λ x. leb (number x) n ≡ false) xs start
+  pub run_behind : (start : ℕ) → start ≤ length xs
+      → (IsPartitionedBy (λ x. leb (number x) n) xs → IsPartitionPoint (λ x. leb (number x) n ≡ true) (λ x. leb (number x) n ≡ false) xs start)
       → take (length xs - start) (drop start xs) ≡ filter (λ x. nat_lt n (number x)) xs
-  run_behind start within parts =
+  run_behind start within found =
+      let parts = found (IsPartitionedBy-leb number xs n up) in
       take_all (length xs - start) (drop start xs) (omega (arith, length-drop start xs))
       ∙ kept_back (λ x. nat_lt n (number x)) xs start within (
         λ k d low high. lt-leb _ _ (omega (arith, leb-true _ _ (parts.0 k d low high))),
-        λ k d low high. lt-ltb _ _ (leb-false _ _ (parts.1 k d low high)))
+        λ k d low high. lt-ltb _ _ (leb-false _ _ (parts.1 k d low high)),
+      )
 
 -- numbers that rise never fall
 pub rising_never_fall : (numbers : List ℕ) → IsStrictlyIncreasing numbers → IsNonDecreasing numbers

@@ -179,6 +179,7 @@ impl Chunk {
     }
 
     /// The chunk of the same columns, where the region of that number has this shape, or is gone.
+    /// What it has of the other regions is copied; it looks at few of them.
     pub(crate) fn renewed(
         &self,
         alloc: Global,
@@ -219,7 +220,8 @@ impl Chunk {
     }
 }
 
-// The patches of the regions before that number, and those of the regions behind it.
+// The patches of the regions before that number, and those of the regions behind it: two runs of
+// patches that stand in order.
 fn patches_around(patches: &[Patch], number: u32) -> (&[Patch], &[Patch])
     ensures before { AreInOrder 0 patches.now
         → result.0.now ≡ filter (λ d. nat_lt d.number number) patches.now }
@@ -256,7 +258,8 @@ fn numbers_of(alloc: Global, patches: &[Patch]) -> Result<Vec<u32>, AllocError>
     Ok(numbers)
 }
 
-// These numbers with that one in its place, or without it. It copies them, and looks at few.
+// Numbers that stand in order, with that one in its place or without it. They are copied in two
+// runs.
 fn renumbered(
     alloc: Global,
     numbers: &[u32],
@@ -265,7 +268,7 @@ fn renumbered(
 ) -> Result<Vec<u32>, AllocError>
     ensures { IfOk result (λ new. IsStrictlyIncreasing numbers.now → new.items
         ≡ (filter (λ n. nat_lt n number) numbers.now ++ (if with_it then number ∷ [] else []))
-            ++ filter (λ n. nat_lt number n) numbers.now) }
+        ++ filter (λ n. nat_lt number n) numbers.now) }
 {
     let (before, behind) = numbers_around(numbers, number);
     let mut new = Vec::with_capacity(alloc, numbers.len().saturating_add(1))?;
@@ -277,7 +280,7 @@ fn renumbered(
     Ok(new)
 }
 
-// The numbers before that one, and those behind it.
+// The numbers before that one, and those behind it: two runs of numbers that stand in order.
 fn numbers_around(numbers: &[u32], number: u32) -> (&[u32], &[u32])
     ensures before { IsStrictlyIncreasing numbers.now
         → result.0.now ≡ filter (λ n. nat_lt n number) numbers.now }

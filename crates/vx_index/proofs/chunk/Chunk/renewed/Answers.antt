@@ -1,12 +1,9 @@
 use Rattle.std.specs.Option.{option_copied}
 use Rattle.std.specs.Prelude.{unsigned_abs}
-use Rattle.std.specs.List.Sorted.{IsStrictlyIncreasing}
-use Rattle.std.proofs.Common.{◌≡◌, ℕ, ◌∷◌, [], ◌++◌, List, Option, if◌then◌else◌, nat_lt, ltb, filter, length, ap, sym, ◌∙◌, subst}
+use Rattle.std.proofs.Common.{◌≡◌, ◌++◌, Option, ltb, filter, length, ap, sym, ◌∙◌, subst}
 use Rattle.vx_geom.specs.declared.extent.Extent.{Extent}
 use Rattle.vx_geom.specs.Outline.{Outline}
-use Rattle.vx_index.specs.declared.patch.Patch.{Patch}
 use Rattle.vx_index.specs.Patches.{square, AreInOrder, AddsAny}
-use Rattle.vx_index.specs.Shapes.{renewed_at}
 use Rattle.vx_index.proofs.Renewing.{is_before, is_behind, renewed_tells}
 use Rattle.vx_index.proofs.Renumbering.{renumbered_tells}
 use Rattle.vx_index.proofs.chunk.Chunk.renewed.Goals as goal

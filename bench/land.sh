@@ -9,10 +9,11 @@
 #   idle      20,000 ticks of 64 sectors with 100,000 blocks
 #   dust      200 ticks of 48,000 dust in rings, each beside a clock
 #   commands  400,000 commands without regions, among 50, and a fifth of them for chests; 100,000 among 500
-#   sweeps    eight, each with a row a point: regions at a place, regions over pistons, edits
-#             between ticks, sectors, dust that is awake, rings of dust whose source goes out,
-#             pistons, chests in a sector; or one of them: place, pistons, edits_a_tick, sectors,
-#             awake, loops, machines, storage
+#   sweeps    ten, each with a row a point: regions at a place, regions over pistons, edits between
+#             ticks, members of a region whose priority and flags are edited, members of one to which
+#             a name is added, sectors, dust that is awake, rings of dust whose source goes out,
+#             pistons, chests in a sector; or one of them: place, pistons, edits_a_tick, members,
+#             names, sectors, awake, loops, machines, storage
 # Options:
 #   --server  the program to measure; without it the built server of this repository
 #   --plain   the program beside it; without it bench/plain.rs is compiled (rustc -O)
@@ -34,7 +35,7 @@ old=
 plots=
 workloads=
 sweeps=
-all_sweeps="place pistons edits_a_tick sectors awake loops machines storage"
+all_sweeps="place pistons edits_a_tick members names sectors awake loops machines storage"
 while [ $# -gt 0 ]; do
   case $1 in
     --server) server=$2; shift ;;
@@ -43,7 +44,7 @@ while [ $# -gt 0 ]; do
     --plots) plots=$2; shift ;;
     crowded | plots | works | edits | idle | dust | commands) workloads="$workloads $1" ;;
     sweeps) sweeps=$all_sweeps ;;
-    place | pistons | edits_a_tick | sectors | awake | loops | machines | storage)
+    place | pistons | edits_a_tick | members | names | sectors | awake | loops | machines | storage)
       sweeps="$sweeps $1"
       ;;
     *) echo "no such workload or option: $1" >&2; exit 2 ;;
@@ -134,6 +135,8 @@ sweep_named() {
     place) sweep place sweep_place "regions at a place, 20,000 commands" 1 2 4 8 16 32 64 128 ;;
     pistons) sweep pistons sweep_pistons "regions over 1,000 pistons, 50 ticks" 0 500 1000 1500 2000 2500 3000 3500 4000 ;;
     edits_a_tick) sweep edits sweep_edits "edits before each of 2,000 ticks, 4,000 regions" 0 1 5 20 100 ;;
+    members) sweep members sweep_members "members of a region, 20,000 other edits of it" 1 10 100 1000 5000 20000 ;;
+    names) sweep names sweep_names "members of a region, 2,000 edits that add or drop one" 1 10 100 1000 5000 20000 ;;
     sectors) sweep sectors sweep_sectors "sectors, 40,000 idle ticks" 1 4 16 36 64 ;;
     awake) sweep awake sweep_awake "% of 4,800 dust awake, 1,000 ticks" 0.1 0.3 1 3 10 30 100 ;;
     loops) sweep loops sweep_loops "of 961 rings of 24 dust run, 200 ticks" 1 4 16 64 256 961 ;;

@@ -275,6 +275,22 @@ def sweep_edits(r, count):
     return head, body
 
 
+def with_members(count):
+    """A world with one region that has so many members."""
+    return world(8) + ["region define plot cuboid 0 0 0 9 63 9"] + [f"region member plot add n{n}" for n in range(count)]
+
+
+def sweep_members(r, count):
+    """So many members of a region, and 20,000 edits of its priority and its flags in turn."""
+    body = [flag(r, "plot") if n % 2 else f"region priority plot {n % 100}" for n in range(20_000)]
+    return with_members(count), body
+
+
+def sweep_names(r, count):
+    """So many members of a region, and 2,000 edits that add one more and drop it again."""
+    return with_members(count), [f"region member plot {'drop' if n % 2 else 'add'} ann" for n in range(2000)]
+
+
 def sweep_sectors(r, count):
     """So many sectors, and 40,000 ticks in which nothing happens."""
     return world(int(count ** 0.5)) + ["tick"], ticks(40_000)
@@ -334,6 +350,8 @@ SCRIPTS = {
     "sweep_place": sweep_place,
     "sweep_pistons": sweep_pistons,
     "sweep_edits": sweep_edits,
+    "sweep_members": sweep_members,
+    "sweep_names": sweep_names,
     "sweep_sectors": sweep_sectors,
     "sweep_awake": sweep_awake,
     "sweep_loops": sweep_loops,

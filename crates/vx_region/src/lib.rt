@@ -16,8 +16,7 @@ mod subject;
 pub use laws::{
     ancestry_is_whole, definition_adds_one, each_has_its_number, id_finds_its_region,
     name_is_added, name_is_dropped, no_cycles, one_region_changes, one_setting_changes,
-    parents_are_there, removal_takes_one, stranger_at_large,
-    world_at_large_is_kept,
+    parents_are_there, removal_takes_one, stranger_at_large, world_at_large_is_kept,
 };
 pub use region::Region;
 pub use region_no::RegionNo;

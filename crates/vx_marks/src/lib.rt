@@ -3,5 +3,8 @@
 
 mod bits;
 mod marks;
+mod page;
+mod words;
 
 pub use marks::Marks;
+pub use page::{PAGE, Page};

@@ -1,7 +1,7 @@
 use Rattle.std.proofs.Common.{nat_eq, ap, sym, ◌∙◌}
 use Rattle.std.specs.Int.{w64}
 use Rattle.std.proofs.lemmas.Nat.Bits.{bit_at_set_same, bit_at_set_other, bit_at_clear_same, bit_at_clear_other}
-use Rattle.vx_marks.proofs.bits.with_bit.Goals as goal
+use Rattle.vx_marks.proofs.words.with_bit.Goals as goal
 
 pub returns-then-marked-clause-here : goal.returns-then-marked-clause-here
 returns-then-marked-clause-here c =

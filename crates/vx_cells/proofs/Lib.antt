@@ -5,6 +5,7 @@ pub mod Copying
 pub mod Indices
 pub mod Listing
 pub mod MapLemmas
+pub mod Paging
 pub mod Placed
 pub mod Putting
 pub mod Rows
@@ -14,4 +15,3 @@ pub mod Stacks
 pub mod StoredBlocks
 pub mod StoredCells
 pub mod StoredMarks
-pub mod Unmarked

@@ -5,6 +5,7 @@ use Rattle.std.proofs.lemmas.List.{get_or_past, get_or-set_same, get_or-set_othe
 use Rattle.std.specs.List.{filter}
 use Rattle.vx_block.specs.declared.cell.Cell.{Cell}
 use Rattle.vx_block.specs.declared.cell.Cell.TheVariants.{Air}
+use Rattle.vx_block.specs.Components.{is_device, is_component}
 use Rattle.vx_geom.specs.declared.pos.Pos.{Pos}
 use Rattle.vx_geom.specs.Places.{positions}
 use Rattle.vx_geom.specs.Sizes.{Sizes, AreSizes, sector_count, sector_cells, index_in_sector}
@@ -13,8 +14,9 @@ use Rattle.vx_marks.proofs.Marking.{zero_at, none_marked}
 use Rattle.vx_cells.specs.Chests.{ChestData}
 use Rattle.vx_cells.specs.Codes.{cell_of}
 use Rattle.vx_cells.specs.Listed.{marked_places}
+use Rattle.vx_cells.specs.MachineMarks.{MarkWords, AreMarksSet}
 use Rattle.vx_cells.specs.SectorCells.{placed, block_at, cell_at}
-use Rattle.vx_cells.specs.Stored.{blocks_from, stored, AreMarks}
+use Rattle.vx_cells.specs.Stored.{blocks_from, stored, AreMarks, AreMachineMarks}
 use Rattle.vx_cells.proofs.Listing.{same_found}
 use Rattle.vx_cells.proofs.StoredBlocks.{block-at, length-blocks}
 
@@ -55,6 +57,16 @@ marks_set test codes marks new k code marked old near told long changed = record
         changed i ∙ ap (λ b. if b then marked else is_marked marks i) (ne_eqb i k apart) ∙ old.each i
         ∙ sym (ap (λ n. test (cell_of n)) (get_or-set_other codes k i code 0 apart))
   ];
+}
+
+-- so do the marks of components and devices
+pub machine_marks_set : (codes : List ℕ) (marks new : MarkWords) (k code : ℕ) → AreMachineMarks codes marks
+    → k < length codes → AreMarksSet marks new k code → AreMachineMarks (set codes k code) new
+machine_marks_set codes marks new k code old near changed = record {
+  components = marks_set is_component codes marks.components new.components k code _ old.components near refl
+      changed.components.long changed.components.each;
+  devices = marks_set is_device codes marks.devices new.devices k code _ old.devices near refl
+      changed.devices.long changed.devices.each;
 }
 
 -- a byte changes, and the mark at its index is the one that it wants

@@ -1,10 +1,10 @@
-pub mod CellMarks
 pub mod CellsLaws
 pub mod ChestParts
 pub mod Chests
 pub mod Codes
 pub mod Laws
 pub mod Listed
+pub mod MachineMarks
 pub mod MapLaws
 pub mod Maps
 pub mod SameCells

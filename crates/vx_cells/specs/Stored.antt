@@ -8,7 +8,7 @@ use Rattle.vx_geom.specs.Sizes.{Sizes, sector_count, sector_cells}
 use Rattle.vx_marks.specs.Marks.{is_marked}
 use Rattle.vx_cells.specs.Chests.{Slots, ChestData, slots_of_chest}
 use Rattle.vx_cells.specs.Codes.{code_count, cell_of}
-use Rattle.vx_cells.specs.declared.machine_marks.MachineMarks.{MachineMarks}
+use Rattle.vx_cells.specs.MachineMarks.{MarkWords}
 use Rattle.vx_cells.specs.SectorCells.{Block, SectorCells, is_chest, IsSlot}
 
 -- the block of a byte, with the slots that stand at its index
@@ -51,18 +51,13 @@ pub record AreMarks (test : Cell → Bool) (store marks : List ℕ) : Type 0 whe
       → is_marked marks index ≡ test (cell_of (slice_index_or store index 0))
 
 -- marks tell where components stand, and which of them are devices
-pub record AreMachineMarks (store : List ℕ) (marks : MachineMarks) : Type 0 where
-  pub components : AreMarks is_component store marks.components.words
-  pub devices : AreMarks is_device store marks.devices.words
-
--- they have room for those of a byte's cell
-pub record HasRoomFor (code : ℕ) (marks : MachineMarks) : Type 0 where
-  pub component : is_component (cell_of code) ≡ true → marks.components.has_room ≡ true
-  pub device : is_device (cell_of code) ≡ true → marks.devices.has_room ≡ true
+pub record AreMachineMarks (store : List ℕ) (marks : MarkWords) : Type 0 where
+  pub components : AreMarks is_component store marks.components
+  pub devices : AreMarks is_device store marks.devices
 
 -- a sector of a world is stored, with marks where components stand and where devices do
 pub record IsKept (bounds : Sizes) (sector : ℕ) (store : List ℕ) (slots : ChestData)
-    (kept : MachineMarks) : Type 0 where
+    (kept : MarkWords) : Type 0 where
   pub sector_low : sector < sector_count bounds
   pub stored : IsStored bounds store slots
   pub marks : AreMachineMarks store kept

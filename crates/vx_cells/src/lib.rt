@@ -1,18 +1,22 @@
 //! The cells of one sector of the world, and the chests in it; the map of all sectors.
 #![tactic(auto)]
 
-mod cell_marks;
 mod cells;
 mod chest_part;
 mod chest_parts;
 mod chests;
 mod code;
 mod frozen;
+mod in_order;
+mod kind_marks;
 mod laws;
 mod machine_marks;
+mod machine_page;
+mod mark_kind;
 mod marked;
 mod put_down;
 mod puts;
+mod shared_page;
 mod stack;
 mod stored;
 mod whole;

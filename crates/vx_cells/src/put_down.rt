@@ -43,8 +43,8 @@ pub fn put_over(
     store.set(index, code)
 }
 
-/// Puts a byte down whose cell has other marks than the one that was there. The marks are copied and
-/// have room before anything changes.
+/// Puts a byte down whose cell has other marks than the one that was there. The marks are copied
+/// before anything changes.
 pub fn put_marked(
     alloc: Global,
     marks: &mut Arc<MachineMarks>,
@@ -68,11 +68,7 @@ pub fn put_marked(
         × SameSlots chests.old chests.new) }
     ensures marks { AreMachineMarks store.new (arc_value marks.new) }
 {
-    let marks = Arc::make_mut(marks)?;
-    marks.make_room(alloc, code)?;
-    put_over(store, chests, index, code)?;
-    marks.set(index, code);
-    Ok(())
+    Arc::make_mut(marks)?.put_down(alloc, store, chests, index, code)
 }
 
 /// Puts a byte down, in place of the one that was there. A chest begins empty, and where one was

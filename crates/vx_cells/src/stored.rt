@@ -12,6 +12,8 @@ ghost use Rattle.vx_cells.specs.Listed.{place, components_of, devices_of};
 use crate::chest_parts::ChestParts;
 use crate::code::{AIR, conducts, decode, encode, is_dust};
 use crate::machine_marks::MachineMarks;
+use crate::mark_kind::MarkKind;
+use crate::marked::kind_places;
 use crate::put_down::{put_marked, put_over};
 use crate::stack::{SLOTS, Slot};
 use std::alloc::{AllocError, Global};
@@ -67,7 +69,7 @@ impl Stored {
             sector,
             store,
             chests: ChestParts::new(alloc)?,
-            marks: Arc::new(alloc, MachineMarks::new(count))?,
+            marks: Arc::new(alloc, MachineMarks::new(alloc, count)?)?,
         })
     }
 
@@ -200,9 +202,13 @@ impl Stored {
         ensures { IfOk result (λ found. found.items ≡ components_of self.now) }
     {
         self.bounds.soundness();
-        self.marks
-            .components
-            .places(alloc, self.bounds, self.sector)
+        kind_places(
+            alloc,
+            self.bounds,
+            self.sector,
+            &self.marks,
+            MarkKind::Component,
+        )
     }
 
     /// The positions where a device stands, in order.
@@ -210,7 +216,13 @@ impl Stored {
         ensures { IfOk result (λ found. found.items ≡ devices_of self.now) }
     {
         self.bounds.soundness();
-        self.marks.devices.places(alloc, self.bounds, self.sector)
+        kind_places(
+            alloc,
+            self.bounds,
+            self.sector,
+            &self.marks,
+            MarkKind::Device,
+        )
     }
 
     /// The first column from that one on, in a row of a layer of this sector, where a component of
@@ -223,7 +235,7 @@ impl Stored {
         self.bounds.soundness();
         let p = Pos::new(x as i32, y as i32, z as i32);
         let index = self.bounds.index_in_sector(p);
-        let found = self.marks.components.first_in_word(index)?;
+        let found = self.marks.first_in_word(MarkKind::Component, index)?;
         let column = x + (found - index);
         if self.bounds.sides(column) == self.bounds.sides(x) {
             Some(column)
@@ -234,7 +246,7 @@ impl Stored {
 
     /// How many components of machines stand in this sector.
     pub fn component_count(&self) -> u32 {
-        self.marks.components.count()
+        self.marks.count()
     }
 
     /// Whether a device stands in this sector.
@@ -242,7 +254,7 @@ impl Stored {
         ensures { result ≡ nat_lt 0 (length (devices_of self.now)) }
     {
         self.bounds.soundness();
-        self.marks.devices.has_any()
+        self.marks.has_any(MarkKind::Device)
     }
 
     /// Whether both are the same sector of worlds of one size, with the same at each position.

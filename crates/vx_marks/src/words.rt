@@ -94,6 +94,7 @@ fn with_bit(word: u64, bit: u32, marked: bool) -> u64
 }
 
 // The first bit of a word, from this one on, that is set.
+#[inline(always)]
 fn first_bit(word: u64, from: u32) -> Option<u32>
     requires { from < 64 }
     ensures { IsFirst (is_set word) 64 from result }

@@ -7,7 +7,7 @@ use Rattle.vx_marks.specs.Marks.{IsFirst}
 use Rattle.vx_cells.specs.Listed.{place}
 use Rattle.vx_cells.specs.SectorCells.{cell_at}
 use Rattle.vx_cells.specs.Stored.{stored, AreMarks}
-use Rattle.vx_cells.specs.declared.machine_marks.MachineMarks.{MachineMarks}
+use Rattle.vx_cells.specs.MachineMarks.{MarkWords}
 use Rattle.vx_cells.proofs.Indices.{inside_from_holds}
 use Rattle.vx_cells.proofs.Rows.{none_in_row, found_in_row, found_past_row, low_inside, place_is}
 use Rattle.vx_cells.proofs.StoredMarks.{marked_at}
@@ -15,9 +15,9 @@ use Rattle.vx_cells.proofs.stored.Stored.component_in_row.Goals as goal
 use Rattle.vx_cells.proofs.stored.Stored.component_in_row.Goals.{After-deref}
 
 -- the marks that are read are those that the sector keeps
-marks_are : (c : After-deref) → AreMarks is_component c.self.inside.store c.deref.result.now.components.words
+marks_are : (c : After-deref) → AreMarks is_component c.self.inside.store c.deref.result.now.components
 marks_are c =
-    subst (λ (m : MachineMarks). AreMarks is_component c.self.inside.store m.components.words) (sym c.deref.ensures) c.self.invariant.marks.components
+    subst (λ (m : MarkWords). AreMarks is_component c.self.inside.store m.components) (sym c.deref.ensures) c.self.invariant.marks.components
 
 pub overflow_cast-x : goal.overflow_cast-x
 overflow_cast-x c =
@@ -64,8 +64,8 @@ returns-in_err-found c =
     (IsFirst (λ x. test (place x c.args.y c.args.z)) (w * (c.args.x / w + 1)) c.args.x)
     (sym c.from_residual.ensures)
     (none_in_row s.bounds c.soundness.ensures c.args.x c.args.y c.args.z c.index_in_sector-index.result at
-    c.deref.result.now.components.words test
-    (marked_at is_component s.bounds s.sector s.store c.deref.result.now.components.words s.chests (marks_are (goal.at.returns-in_err-found c).After-deref))
+    c.deref.result.now.components test
+    (marked_at is_component s.bounds s.sector s.store c.deref.result.now.components s.chests (marks_are (goal.at.returns-in_err-found c).After-deref))
     c.in_err-found.ensures))
 
 pub returns-then-sides : goal.returns-then-sides
@@ -78,8 +78,8 @@ returns-then-sides c =
     ∙ ap (index_in_sector s.bounds) (place_is _ _ _ _ low.0 low.1 low.2 c.new-p.ensures) in
     rw (← c.self.view_is)
     (found_in_row s.bounds c.soundness.ensures c.args.x c.args.y c.args.z c.index_in_sector-index.result at
-    c.deref.result.now.components.words (λ p. is_component (cell_at (stored s.bounds s.sector s.store s.chests) p))
-    (marked_at is_component s.bounds s.sector s.store c.deref.result.now.components.words s.chests (marks_are (goal.at.returns-then-sides c).After-deref))
+    c.deref.result.now.components (λ p. is_component (cell_at (stored s.bounds s.sector s.store s.chests) p))
+    (marked_at is_component s.bounds s.sector s.store c.deref.result.now.components s.chests (marks_are (goal.at.returns-then-sides c).After-deref))
     c.in_ok-found.found c.in_ok-found.ensures
     (sym c.sides.ensures ∙ c.if-sides.true ∙ c.sides-2.ensures))
 
@@ -93,7 +93,7 @@ returns-else-sides c =
     ∙ ap (index_in_sector s.bounds) (place_is _ _ _ _ low.0 low.1 low.2 c.new-p.ensures) in
     rw (← c.self.view_is)
     (found_past_row s.bounds c.soundness.ensures c.args.x c.args.y c.args.z c.index_in_sector-index.result at
-    c.deref.result.now.components.words (λ p. is_component (cell_at (stored s.bounds s.sector s.store s.chests) p))
-    (marked_at is_component s.bounds s.sector s.store c.deref.result.now.components.words s.chests (marks_are (goal.at.returns-else-sides c).After-deref))
+    c.deref.result.now.components (λ p. is_component (cell_at (stored s.bounds s.sector s.store s.chests) p))
+    (marked_at is_component s.bounds s.sector s.store c.deref.result.now.components s.chests (marks_are (goal.at.returns-else-sides c).After-deref))
     c.in_ok-found.found c.in_ok-found.ensures
     (λ same. c.if-sides.false (c.sides.ensures ∙ same ∙ sym c.sides-2.ensures)))

@@ -19,11 +19,11 @@ invariant_of-result c =
     record {
       sector_low = c.requires;
       stored = stored-fresh v n store _ codes c.in_ok-new.ensures refl;
-      marks = subst (AreMachineMarks store) (sym c.in_ok-new-2.ensures.ok) (record {
-        components = blank_marks is_component n store c.new-3.result.components.words refl codes whole
-            (c.new-3.ensures.components ∙ ap (λ k. replicate (k / 64) 0) count);
-        devices = blank_marks is_device n store c.new-3.result.devices.words refl codes whole
-            (c.new-3.ensures.devices ∙ ap (λ k. replicate (k / 64) 0) count);
+      marks = subst (AreMachineMarks store) (sym c.in_ok-new-3.ensures.ok) (record {
+        components = blank_marks is_component n store c.in_ok-new-2.field-0.components refl codes whole
+            (c.in_ok-new-2.ensures.components ∙ ap (λ k. replicate (k / 64) 0) count);
+        devices = blank_marks is_device n store c.in_ok-new-2.field-0.devices refl codes whole
+            (c.in_ok-new-2.ensures.devices ∙ ap (λ k. replicate (k / 64) 0) count);
       });
     }
 

@@ -1,12 +1,12 @@
 use Rattle.std.proofs.Common.{◌+◌, ◌++◌, ap, ◌∙◌, arith}
 use Rattle.vx_cells.proofs.Listing.{left_from, found_first, found_on, found_all}
-use Rattle.vx_cells.proofs.marked.marked_places.Goals as goal
+use Rattle.vx_cells.proofs.marked.places_in_order.Goals as goal
 
 pub loop-index-init : goal.loop-index-init
-loop-index-init c =
+loop-index-init g c =
     let v = c.args.bounds in
     let k = c.args.sector in
-    let words = c.args.marks.now in
+    let words = (g.M.InOrder.words c.args.marks.now) in
     record {
       within = omega arith;
       all = ap (λ ps. ps ++ left_from v k words 0) c.new-found.ensures.items
@@ -14,10 +14,10 @@ loop-index-init c =
     }
 
 pub loop-index-preserved : goal.loop-index-preserved
-loop-index-preserved c =
+loop-index-preserved g c =
     let v = c.args.bounds in
     let k = c.args.sector in
-    let words = c.args.marks.now in
+    let words = (g.M.InOrder.words c.args.marks.now) in
     let index = c.in-Some.index in
     let held = c.loop-index.invariant in
     record {
@@ -29,7 +29,7 @@ loop-index-preserved c =
     }
 
 pub returns : goal.returns
-returns c =
+returns g c =
     let held = c.loop-index.invariant in
-    found_all c.args.bounds c.args.sector c.args.marks.now c.soundness.ensures c.requires.sector c.requires.room
+    found_all c.args.bounds c.args.sector (g.M.InOrder.words c.args.marks.now) c.soundness.ensures c.requires.sector c.requires.room
     c.loop-index.from c.loop-index.found.items held.within held.all c.in_default.ensures

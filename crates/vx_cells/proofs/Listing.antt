@@ -72,18 +72,19 @@ module _ (v : Sizes) (k : ℕ) (words : List ℕ) (sizes : AreSizes v) (low : k 
       ap (λ n. filter marked (positions_from v k 0 n)) all
 
   -- with the next that is marked all are found up to behind it
-  pub found_on : (from : ℕ) (found : List Pos) (i : ℕ) (p : Pos)
-      → found ++ left from ≡ marked_places v k words → p ≡ position_in_sector v k i
-      → IsFirstMarked words from (Some i)
-      → (found ++ p ∷ []) ++ left (i + 1) ≡ marked_places v k words
-  found_on from found i p so_far place first =
+  pub found_on : (from : ℕ) (found more : List Pos) (i : ℕ) (p : Pos)
+      → found ++ left from ≡ marked_places v k words → more ≡ found ++ p ∷ []
+      → p ≡ position_in_sector v k i → IsFirstMarked words from (Some i)
+      → more ++ left (i + 1) ≡ marked_places v k words
+  found_on from found more i p so_far pushed place first =
       let to = sector_cells v in
       let near : i < to = omega (arith, first.1, room) in
       let gap : to - from ≡ i - from + (to - i) = omega (arith, first.0, near) in
       let at : i ≡ from + (i - from) = omega (arith, first.0) in
       let here = passed v k marked (i - from) (to - i) (to - from) from i gap at
       (λ j least less. marked_there j false (first.3 j least less)) in
-      append_assoc found (p ∷ []) _
+      ap (λ ps. ps ++ left (i + 1)) pushed
+      ∙ append_assoc found (p ∷ []) _
       ∙ ap (λ q. found ++ q ∷ left (i + 1)) place
       ∙ ap (λ ps. found ++ ps) (sym (here ∙ taken v k marked i to near (marked_there i true first.2)))
       ∙ so_far
@@ -105,7 +106,7 @@ module _ (v : Sizes) (k : ℕ) (words : List ℕ) (sizes : AreSizes v) (low : k 
   some_marked None none = ap (λ ps. nat_lt 0 (length ps)) (found_all 0 [] (omega arith) found_first none)
   some_marked (Some i) first =
       sym (one_or_more (position_in_sector v k i) (left (i + 1)))
-      ∙ ap (λ ps. nat_lt 0 (length ps)) (found_on 0 [] i _ found_first refl first)
+      ∙ ap (λ ps. nat_lt 0 (length ps)) (found_on 0 [] (position_in_sector v k i ∷ []) i _ found_first refl refl first)
 
 -- two tests that agree on the positions of a sector find the same
 module _ (f g : Pos → Bool) (v : Sizes) (k : ℕ) (sizes : AreSizes v) (low : k < sector_count v)

@@ -106,8 +106,8 @@ impl Cells {
     }
 
     /// Puts a cell down at a position of this sector, in place of what was there. A chest begins
-    /// empty. It takes memory where a copy shares the section, where the section has to go on to
-    /// its next form, and for chests and the first component of the sector.
+    /// empty. It takes memory where a copy shares what changes, where the section has to go on to
+    /// its next form, and for chests and the first component among 4,096 cells.
     pub fn set(&mut self, p: Pos, cell: Cell) -> Result<(), AllocError>
         requires { holds self.old p ≡ true }
         ensures ok { OnOk result (self.new ≡ with_cell self.old p cell) }
@@ -188,7 +188,7 @@ impl Cells {
         self.stored.component_count()
     }
 
-    /// Whether a device stands in this sector. Where none was ever placed it costs a look.
+    /// Whether a device stands in this sector. It costs a look at each 4,096 of its cells.
     pub fn has_devices(&self) -> bool
         ensures { result ≡ nat_lt 0 (length (devices_of self.now)) }
     {

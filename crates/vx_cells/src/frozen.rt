@@ -214,7 +214,7 @@ impl<'a> Frozen<'a> {
         count
     }
 
-    /// Whether a device stands in a sector. Where none was ever placed it costs a look.
+    /// Whether a device stands in a sector. It costs a look at each 4,096 of its cells.
     pub fn has_devices(&self, sector: u32) -> bool
         requires { sector < sector_count self.now.sizes }
         ensures { result ≡ nat_lt 0 (length (devices_on self.now sector)) }

@@ -12,16 +12,20 @@ ghost use Rattle.vx_marks.specs.declared.page.TheConstants.{PAGE};
 
 use crate::chest_parts::ChestParts;
 use crate::code::{is_component, is_device};
+use crate::kind_marks::KindMarks;
 use crate::mark_kind::MarkKind;
+use crate::marked::places_in_order;
 use crate::shared_page::SharedPage;
 use std::alloc::{AllocError, Global};
 use std::marker::Model;
+use vx_geom::{Bounds, Pos};
 use vx_marks::PAGE;
 use vx_section::Sections;
 
 /// Where components of machines stand in a sector, and which of them are devices, as marks on the
-/// indices of their cells, in pages. A page without a component takes no memory, copies share all
-/// pages, and a change copies one of them.
+/// indices of their cells, in pages of 4,096: sixteen layers of a narrow sector, or four of a wide
+/// one. A page takes no memory before its first component, copies share the pages, and a change
+/// copies one of them.
 #[derive(Drop)]
 pub struct MachineMarks {
     pages: Vec<SharedPage>,
@@ -95,6 +99,23 @@ impl MachineMarks {
         self.pages[(index / PAGE) as usize].put_down(alloc, store, chests, index, code)?;
         self.count = counted(self.count, was, is_component(code));
         Ok(())
+    }
+
+    /// The positions of the sector whose indices have a mark of that kind, in order. It costs what
+    /// is marked, and a look at each page.
+    pub fn places(
+        &self,
+        alloc: Global,
+        bounds: Bounds,
+        sector: u32,
+        kind: MarkKind,
+    ) -> Result<Vec<Pos>, AllocError>
+        requires sector { sector < sector_count bounds }
+        requires all { 64 * length (words_of kind self.now) ≡ sector_cells bounds }
+        ensures { IfOk result (λ found.
+            found.items ≡ marked_places bounds sector (words_of kind self.now)) }
+    {
+        places_in_order(alloc, bounds, sector, &KindMarks { marks: self, kind })
     }
 
     /// The first index from this one on with a mark of that kind.

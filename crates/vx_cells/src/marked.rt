@@ -2,12 +2,8 @@
 ghost use Rattle.std.specs.Prelude.{◌≡◌, ◌*◌, ◌<◌, length, IfOk};
 ghost use Rattle.vx_geom.specs.Sizes.{sector_count, sector_cells};
 ghost use Rattle.vx_cells.specs.Listed.{marked_places};
-ghost use Rattle.vx_cells.specs.MachineMarks.{words_of};
 
 use crate::in_order::InOrder;
-use crate::kind_marks::KindMarks;
-use crate::machine_marks::MachineMarks;
-use crate::mark_kind::MarkKind;
 use std::alloc::{AllocError, Global};
 use vx_geom::{Bounds, Pos};
 use vx_marks::Marks;
@@ -26,25 +22,8 @@ pub fn marked_places(
     places_in_order(alloc, bounds, sector, marks)
 }
 
-/// The positions of a sector whose indices have a mark of that kind, in order. It costs what is
-/// marked, and a look at each page.
-pub fn kind_places(
-    alloc: Global,
-    bounds: Bounds,
-    sector: u32,
-    marks: &MachineMarks,
-    kind: MarkKind,
-) -> Result<Vec<Pos>, AllocError>
-    requires sector { sector < sector_count bounds }
-    requires room { 64 * length (words_of kind marks.now) ≡ sector_cells bounds }
-    ensures { IfOk result (λ found.
-        found.items ≡ marked_places bounds sector (words_of kind marks.now)) }
-{
-    places_in_order(alloc, bounds, sector, &KindMarks { marks, kind })
-}
-
-// The positions of a sector whose indices are marked, one mark after another.
-fn places_in_order<M: InOrder>(
+/// The same of any marks that are found in order.
+pub fn places_in_order<M: InOrder>(
     alloc: Global,
     bounds: Bounds,
     sector: u32,

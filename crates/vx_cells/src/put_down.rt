@@ -1,5 +1,5 @@
 //! A byte put down at an index of a sector, and what that does to the chest there.
-ghost use Rattle.std.specs.Prelude.{◌≡◌, ◌<◌, ℕ, true, false, length, None, IsSome, slice_index_or, slice_set, OnOk, OnErr};
+ghost use Rattle.std.specs.Prelude.{◌≡◌, ◌<◌, true, false, length, None, IsSome, slice_index_or, slice_set, OnOk, OnErr};
 ghost use Rattle.std.specs.Arc.{arc_value};
 ghost use Rattle.std.specs.List.{All};
 ghost use Rattle.vx_cells.specs.Chests.{slots_of_chest, Changes, SameSlots, begun};

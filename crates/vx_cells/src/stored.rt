@@ -3,7 +3,7 @@ ghost use Rattle.std.specs.Bool.{Decides};
 ghost use Rattle.std.specs.List.{All};
 ghost use Rattle.vx_cells.specs.declared.stack.TheConstants.{SLOTS};
 ghost use Rattle.vx_geom.specs.Sizes.{span, sector_count};
-ghost use Rattle.vx_block.specs.Components.{is_dust, is_component, is_device};
+ghost use Rattle.vx_block.specs.Components.{is_dust, is_component};
 ghost use Rattle.vx_block.specs.Conductors.{conducts};
 ghost use Rattle.vx_marks.specs.Marks.{IsFirst};
 ghost use Rattle.vx_cells.specs.Codes.{code_count, cell_of};
@@ -13,7 +13,6 @@ use crate::chest_parts::ChestParts;
 use crate::code::{AIR, conducts, decode, encode, is_dust};
 use crate::machine_marks::MachineMarks;
 use crate::mark_kind::MarkKind;
-use crate::marked::kind_places;
 use crate::put_down::{put_marked, put_over};
 use crate::stack::{SLOTS, Slot};
 use std::alloc::{AllocError, Global};
@@ -202,13 +201,8 @@ impl Stored {
         ensures { IfOk result (λ found. found.items ≡ components_of self.now) }
     {
         self.bounds.soundness();
-        kind_places(
-            alloc,
-            self.bounds,
-            self.sector,
-            &self.marks,
-            MarkKind::Component,
-        )
+        self.marks
+            .places(alloc, self.bounds, self.sector, MarkKind::Component)
     }
 
     /// The positions where a device stands, in order.
@@ -216,13 +210,8 @@ impl Stored {
         ensures { IfOk result (λ found. found.items ≡ devices_of self.now) }
     {
         self.bounds.soundness();
-        kind_places(
-            alloc,
-            self.bounds,
-            self.sector,
-            &self.marks,
-            MarkKind::Device,
-        )
+        self.marks
+            .places(alloc, self.bounds, self.sector, MarkKind::Device)
     }
 
     /// The first column from that one on, in a row of a layer of this sector, where a component of

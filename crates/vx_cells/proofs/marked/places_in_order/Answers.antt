@@ -1,4 +1,4 @@
-use Rattle.std.proofs.Common.{◌+◌, ◌++◌, ap, ◌∙◌, arith}
+use Rattle.std.proofs.Common.{◌++◌, ap, ◌∙◌, arith}
 use Rattle.vx_cells.proofs.Listing.{left_from, found_first, found_on, found_all}
 use Rattle.vx_cells.proofs.marked.places_in_order.Goals as goal
 
@@ -6,7 +6,7 @@ pub loop-index-init : goal.loop-index-init
 loop-index-init g c =
     let v = c.args.bounds in
     let k = c.args.sector in
-    let words = (g.M.InOrder.words c.args.marks.now) in
+    let words = g.M.InOrder.words c.args.marks.now in
     record {
       within = omega arith;
       all = ap (λ ps. ps ++ left_from v k words 0) c.new-found.ensures.items
@@ -17,15 +17,14 @@ pub loop-index-preserved : goal.loop-index-preserved
 loop-index-preserved g c =
     let v = c.args.bounds in
     let k = c.args.sector in
-    let words = (g.M.InOrder.words c.args.marks.now) in
+    let words = g.M.InOrder.words c.args.marks.now in
     let index = c.in-Some.index in
     let held = c.loop-index.invariant in
     record {
       within = omega (arith, c.in-Some.ensures.1, c.requires.room);
-      all = ap (λ ps. ps ++ left_from v k words (index + 1)) c.in-Ok.ensures.items
-          ∙ found_on v k words c.soundness.ensures c.requires.sector c.requires.room c.loop-index.from
-          c.loop-index.found.items index c.position_in_sector.result held.all c.position_in_sector.ensures
-          c.in-Some.ensures;
+      all = found_on v k words c.soundness.ensures c.requires.sector c.requires.room c.loop-index.from
+          c.loop-index.found.items c.push.new.self.items index c.position_in_sector.result held.all c.in-Ok.ensures.items
+          c.position_in_sector.ensures c.in-Some.ensures;
     }
 
 pub returns : goal.returns

@@ -1,17 +1,13 @@
 pub mod CellLaws
-pub mod ChestParting
-pub mod CodeLemmas
 pub mod Copying
 pub mod Indices
 pub mod Listing
 pub mod MapLemmas
-pub mod Paging
 pub mod Placed
 pub mod Putting
 pub mod Rows
 pub mod Sectioned
 pub mod Setting
-pub mod Stacks
 pub mod StoredBlocks
 pub mod StoredCells
 pub mod StoredMarks

@@ -8,11 +8,11 @@ use Rattle.std.proofs.lemmas.Map.{update_here, update_apart}
 use Rattle.vx_block.specs.declared.cell.Cell.TheVariants.{Air}
 use Rattle.vx_geom.specs.Sizes.{Sizes, sector_cells}
 use Rattle.vx_marks.proofs.Marking.{zero_at}
-use Rattle.vx_cells.specs.Chests.{Slots, ChestData, slots_of_chest, Changes}
-use Rattle.vx_cells.specs.Codes.{code_count, cell_of}
+use Rattle.vx_store.specs.Chests.{Slots, ChestData, slots_of_chest, Changes}
+use Rattle.vx_store.specs.Codes.{code_count, cell_of}
 use Rattle.vx_cells.specs.SectorCells.{Block, IsBlock, IsWhole, placed, only_air}
 use Rattle.vx_cells.specs.Stored.{block_of, blocks_from, stored, IsBeside, IsStored}
-use Rattle.vx_cells.proofs.CodeLemmas.{same_code}
+use Rattle.vx_store.proofs.CodeLemmas.{same_code}
 
 pub length-blocks : (index : ℕ) (codes : List ℕ) (chests : ChestData) → length (blocks_from index codes chests) ≡ length codes
 length-blocks index [] chests = refl

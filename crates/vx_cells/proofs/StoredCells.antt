@@ -5,17 +5,17 @@ use Rattle.std.proofs.lemmas.Bool.{cases_eq}
 use Rattle.std.proofs.lemmas.List.Elements.{All-replicate, All-set}
 use Rattle.std.proofs.lemmas.Map.{update_here, update_apart}
 use Rattle.std.specs.Map.{update}
-use Rattle.vx_cells.specs.declared.stack.TheConstants.{SLOTS}
+use Rattle.vx_store.specs.declared.stack.TheConstants.{SLOTS}
 use Rattle.vx_block.specs.declared.cell.Cell.{Cell}
 use Rattle.vx_block.specs.declared.cell.Cell.TheVariants.{Air}
 use Rattle.vx_geom.specs.declared.pos.Pos.{Pos}
 use Rattle.vx_geom.specs.Sizes.{Sizes, sector_cells, index_in_sector}
-use Rattle.vx_cells.specs.declared.stack.Stack.{Stack}
-use Rattle.vx_cells.specs.Chests.{begun, refilled, Slots, ChestData, slots_of_chest, Changes, SameSlots}
+use Rattle.vx_store.specs.declared.stack.Stack.{Stack}
+use Rattle.vx_store.specs.Chests.{begun, refilled, Slots, ChestData, slots_of_chest, Changes, SameSlots}
 use Rattle.vx_cells.specs.CellsLaws.{sizes_decided}
-use Rattle.vx_cells.specs.Codes.{code_count, cell_of}
+use Rattle.vx_store.specs.Codes.{code_count, cell_of, is_chest}
 use Rattle.vx_cells.specs.SameCells.{same_sizes}
-use Rattle.vx_cells.specs.SectorCells.{IsSlot, is_chest, placed, block_at, cell_at, chest_at, with_block, with_cell, with_content, with_slot}
+use Rattle.vx_cells.specs.SectorCells.{IsSlot, placed, block_at, cell_at, chest_at, with_block, with_cell, with_content, with_slot}
 use Rattle.vx_cells.specs.Stored.{block_of, blocks_from, stored, IsBeside, IsStored}
 use Rattle.vx_cells.proofs.StoredBlocks.{block-at, blocks-changed, stored-set, same-slots, same-blocks}
 

@@ -22,7 +22,7 @@ use Rattle.vx_block.specs.declared.lamp.Lamp.{Lamp}
 use Rattle.vx_block.specs.declared.lamp.Lamp.TheVariants as lamp
 use Rattle.vx_block.specs.declared.cell.Cell.{Cell}
 use Rattle.vx_block.specs.declared.cell.Cell.TheVariants as cell
-use Rattle.vx_cells.specs.SameSlots.{slots_decided}
+use Rattle.vx_store.specs.SameSlots.{slots_decided}
 use Rattle.vx_cells.specs.SameCells.{same_dir, same_lamp, same_repeater, same_cell, same_block, same_sizes, same_cells}
 use Rattle.vx_cells.specs.SectorCells.{Block, SectorCells}
 

@@ -1,14 +1,9 @@
 pub mod CellsLaws
-pub mod ChestParts
-pub mod Chests
-pub mod Codes
 pub mod Laws
 pub mod Listed
-pub mod MachineMarks
 pub mod MapLaws
 pub mod Maps
 pub mod SameCells
-pub mod SameSlots
 pub mod SectorCells
 pub mod Stored
 pub mod Wholes

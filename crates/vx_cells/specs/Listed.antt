@@ -4,8 +4,6 @@ use Rattle.std.specs.List.{filter}
 use Rattle.vx_block.specs.Components.{is_device, is_component}
 use Rattle.vx_geom.specs.declared.pos.Pos.{Pos}
 use Rattle.vx_geom.specs.Places.{positions}
-use Rattle.vx_geom.specs.Sizes.{Sizes, index_in_sector}
-use Rattle.vx_marks.specs.Marks.{is_marked}
 use Rattle.vx_cells.specs.Maps.{MapData, cell_on}
 use Rattle.vx_cells.specs.SectorCells.{SectorCells, cell_at}
 
@@ -20,11 +18,6 @@ components_of c = filter (λ p. is_component (cell_at c p)) (positions c.bounds 
 -- those where a device stands
 unfoldable pub devices_of : SectorCells → List Pos
 devices_of c = filter (λ p. is_device (cell_at c p)) (positions c.bounds c.sector)
-
--- the positions of a sector whose indices are marked
-abbrev pub marked_places : Sizes → ℕ → List ℕ → List Pos
-marked_places v sector words =
-    filter (λ p. is_marked words (index_in_sector v p)) (positions v sector)
 
 -- where a component stands in a sector of a map, and where a device does
 unfoldable pub components_on : MapData → ℕ → List Pos

@@ -10,7 +10,7 @@ use Rattle.vx_block.specs.declared.lamp.Lamp.{Lamp}
 use Rattle.vx_block.specs.declared.lamp.Lamp.TheVariants as lamp
 use Rattle.vx_block.specs.declared.cell.Cell.{Cell}
 use Rattle.vx_block.specs.declared.cell.Cell.TheVariants as cell
-use Rattle.vx_cells.specs.SameSlots.{same_slots}
+use Rattle.vx_store.specs.SameSlots.{same_slots}
 use Rattle.vx_cells.specs.SectorCells.{Block, SectorCells}
 
 -- the same direction

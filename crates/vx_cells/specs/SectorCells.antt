@@ -1,22 +1,18 @@
 use Rattle.std.specs.Prelude.{◌≡◌, ℕ, ◌≤◌, Bool, true, false, nat_eq, List, length, replicate, slice_index_or, slice_set, if◌then◌else◌, Option, Some, None}
 use Rattle.std.specs.List.{All}
 use Rattle.std.specs.Option.{option_map_or}
-use Rattle.vx_cells.specs.declared.stack.TheConstants.{SLOTS, MAX_COUNT}
+use Rattle.vx_store.specs.declared.stack.TheConstants.{SLOTS, MAX_COUNT}
 use Rattle.vx_block.specs.declared.cell.Cell.{Cell}
-use Rattle.vx_block.specs.declared.cell.Cell.TheVariants.{Air, Chest}
+use Rattle.vx_block.specs.declared.cell.Cell.TheVariants.{Air}
 use Rattle.vx_geom.specs.declared.pos.Pos.{Pos}
 use Rattle.vx_geom.specs.Sizes.{Sizes, sector_of, sector_cells, index_in_sector}
-use Rattle.vx_cells.specs.declared.stack.Stack.{Stack}
+use Rattle.vx_store.specs.Codes.{is_chest}
+use Rattle.vx_store.specs.declared.stack.Stack.{Stack}
 
 -- what stands at a place: a cell, and the slots of a chest
 pub record Block : Type 0 where
   pub cell : Cell
   pub slots : List (Option Stack)
-
--- the cell is a chest
-abbrev pub is_chest : Cell → Bool
-is_chest Chest = true
-is_chest _ = false
 
 -- how many slots a cell has: a chest 27 of them, another none
 abbrev pub slot_count : Cell → ℕ

@@ -1,15 +1,12 @@
 -- How a sector is stored: a byte for each cell, the slots of the chests by their indices, and marks
 -- where components stand.
-use Rattle.std.specs.Prelude.{◌≡◌, ℕ, ◌+◌, ◌*◌, ◌<◌, Bool, true, false, List, [], ◌∷◌, length, slice_index_or, All, Option, Some, None, unwrap_or}
-use Rattle.vx_cells.specs.declared.stack.TheConstants.{SLOTS}
-use Rattle.vx_block.specs.declared.cell.Cell.{Cell}
-use Rattle.vx_block.specs.Components.{is_device, is_component}
+use Rattle.std.specs.Prelude.{◌≡◌, ℕ, ◌+◌, ◌*◌, ◌<◌, true, false, List, [], ◌∷◌, length, slice_index_or, All, Option, Some, None, unwrap_or}
+use Rattle.vx_store.specs.declared.stack.TheConstants.{SLOTS}
 use Rattle.vx_geom.specs.Sizes.{Sizes, sector_count, sector_cells}
-use Rattle.vx_marks.specs.Marks.{is_marked}
-use Rattle.vx_cells.specs.Chests.{Slots, ChestData, slots_of_chest}
-use Rattle.vx_cells.specs.Codes.{code_count, cell_of}
-use Rattle.vx_cells.specs.MachineMarks.{MarkWords}
-use Rattle.vx_cells.specs.SectorCells.{Block, SectorCells, is_chest, IsSlot}
+use Rattle.vx_store.specs.Chests.{Slots, ChestData, slots_of_chest}
+use Rattle.vx_store.specs.Codes.{code_count, cell_of, is_chest}
+use Rattle.vx_store.specs.MachineMarks.{MarkWords, AreMachineMarks}
+use Rattle.vx_cells.specs.SectorCells.{Block, SectorCells, IsSlot}
 
 -- the block of a byte, with the slots that stand at its index
 abbrev pub block_of : ℕ → ChestData → ℕ → Block
@@ -43,17 +40,6 @@ pub record IsStored (bounds : Sizes) (store : List ℕ) (slots : ChestData) : Ty
   pub whole : length store ≡ sector_cells bounds
   pub codes : All (λ code. code < code_count) store
   pub chests : (index : ℕ) → IsBeside (slice_index_or store index 0) (slots_of_chest slots index)
-
--- marked are exactly the indices whose cell passes a test
-pub record AreMarks (test : Cell → Bool) (store marks : List ℕ) : Type 0 where
-  pub long : 64 * length marks ≡ length store
-  pub each : (index : ℕ)
-      → is_marked marks index ≡ test (cell_of (slice_index_or store index 0))
-
--- marks tell where components stand, and which of them are devices
-pub record AreMachineMarks (store : List ℕ) (marks : MarkWords) : Type 0 where
-  pub components : AreMarks is_component store marks.components
-  pub devices : AreMarks is_device store marks.devices
 
 -- a sector of a world is stored, with marks where components stand and where devices do
 pub record IsKept (bounds : Sizes) (sector : ℕ) (store : List ℕ) (slots : ChestData)

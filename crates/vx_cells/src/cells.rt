@@ -1,19 +1,19 @@
 ghost use Rattle.std.specs.Prelude.{◌≡◌, ◌+◌, ◌*◌, ◌/◌, ◌<◌, ◌≤◌, nat_lt, length, true, IfOk, OnOk, OnErr, IfSome};
 ghost use Rattle.std.specs.List.{All};
-ghost use Rattle.vx_cells.specs.declared.stack.TheConstants.{SLOTS};
+ghost use Rattle.vx_store.specs.declared.stack.TheConstants.{SLOTS};
 ghost use Rattle.vx_geom.specs.Sizes.{span, sector_count};
 ghost use Rattle.vx_block.specs.Components.{is_dust, is_component};
 ghost use Rattle.vx_block.specs.Conductors.{conducts};
 ghost use Rattle.vx_marks.specs.Marks.{IsFirst};
 ghost use Rattle.vx_cells.specs.Listed.{place, components_of, devices_of};
 
-use crate::stack::{SLOTS, Slot};
 use crate::stored::Stored;
 use std::alloc::{AllocError, Global};
 use std::marker::Model;
 use std::sync::Arc;
 use vx_block::Cell;
 use vx_geom::{Bounds, Pos};
+use vx_store::{SLOTS, Slot};
 
 /// What stands in one sector of the world: a cell at each position, and the slots of each chest.
 /// Copies share all of it until one of them changes, and then all sections but the changed one.
@@ -38,7 +38,8 @@ impl Drop for Cells {
 }
 
 impl Cells {
-    ghost use Rattle.vx_cells.specs.SectorCells.{holds, only_air, cell_at, chest_at, is_chest, with_cell, with_slot, IsWhole, IsSlot};
+    ghost use Rattle.vx_store.specs.Codes.{is_chest};
+    ghost use Rattle.vx_cells.specs.SectorCells.{holds, only_air, cell_at, chest_at, with_cell, with_slot, IsWhole, IsSlot};
 
     /// The sector of that number, with nothing but air. It takes some hundred bytes.
     pub fn new(alloc: Global, bounds: Bounds, sector: u32) -> Result<Cells, AllocError>

@@ -1,26 +1,24 @@
 ghost use Rattle.std.specs.Prelude.{◌≡◌, ◌+◌, ◌*◌, ◌/◌, ◌<◌, ◌≤◌, nat_lt, length, true, IfOk, OnOk, OnErr, IfSome};
 ghost use Rattle.std.specs.Bool.{Decides};
 ghost use Rattle.std.specs.List.{All};
-ghost use Rattle.vx_cells.specs.declared.stack.TheConstants.{SLOTS};
+ghost use Rattle.vx_store.specs.declared.stack.TheConstants.{SLOTS};
 ghost use Rattle.vx_geom.specs.Sizes.{span, sector_count};
 ghost use Rattle.vx_block.specs.Components.{is_dust, is_component};
 ghost use Rattle.vx_block.specs.Conductors.{conducts};
 ghost use Rattle.vx_marks.specs.Marks.{IsFirst};
-ghost use Rattle.vx_cells.specs.Codes.{code_count, cell_of};
+ghost use Rattle.vx_store.specs.Codes.{code_count, cell_of};
 ghost use Rattle.vx_cells.specs.Listed.{place, components_of, devices_of};
 
-use crate::chest_parts::ChestParts;
-use crate::code::{AIR, conducts, decode, encode, is_dust};
-use crate::machine_marks::MachineMarks;
-use crate::mark_kind::MarkKind;
-use crate::put_down::{put_marked, put_over};
-use crate::stack::{SLOTS, Slot};
 use std::alloc::{AllocError, Global};
 use std::marker::Model;
 use std::sync::Arc;
 use vx_block::Cell;
 use vx_geom::{Bounds, LOW_HEIGHT, Pos};
 use vx_section::Sections;
+use vx_store::{
+    AIR, ChestParts, MachineMarks, MarkKind, SLOTS, Slot, conducts, decode, encode, is_dust,
+    put_marked, put_over,
+};
 
 /// What a sector holds, as copies of it share it: the cells as bytes, section by section, and the
 /// chests beside them, by their indices, with marks where components of machines stand, and which
@@ -50,7 +48,8 @@ impl Model for Stored {
 }
 
 impl Stored {
-    ghost use Rattle.vx_cells.specs.SectorCells.{holds, only_air, cell_at, chest_at, is_chest, with_cell, with_slot, IsWhole, IsSlot};
+    ghost use Rattle.vx_store.specs.Codes.{is_chest};
+    ghost use Rattle.vx_cells.specs.SectorCells.{holds, only_air, cell_at, chest_at, with_cell, with_slot, IsWhole, IsSlot};
 
     /// The sector of that number, with nothing but air.
     pub fn new(alloc: Global, bounds: Bounds, sector: u32) -> Result<Stored, AllocError>

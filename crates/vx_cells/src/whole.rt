@@ -40,7 +40,7 @@ impl Whole {
     ghost use Rattle.std.specs.Prelude.{◌≢◌, IsOk};
     ghost use Rattle.vx_cells.specs.MapLaws.{IsFilled};
     ghost use Rattle.vx_cells.specs.Maps.{AreSectors};
-    ghost use Rattle.vx_cells.specs.SectorCells.{is_chest};
+    ghost use Rattle.vx_store.specs.Codes.{is_chest};
     ghost use Rattle.vx_cells.specs.Wholes.{with_cells_on};
 
     /// A world of this size with nothing but air.

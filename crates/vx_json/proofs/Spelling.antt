@@ -14,7 +14,7 @@ use Rattle.vx_block.specs.declared.part.Part.{Part}
 use Rattle.vx_block.specs.declared.delay.Delay.{Delay}
 use Rattle.vx_block.specs.declared.delay.Delay.TheVariants as delay
 use Rattle.vx_block.specs.declared.lamp.Lamp.{Lamp}
-use Rattle.vx_cells.specs.declared.stack.Stack.{Stack}
+use Rattle.vx_store.specs.declared.stack.Stack.{Stack}
 use Rattle.vx_decide.specs.Texts.{rule_text}
 use Rattle.vx_decide.specs.declared.rule.Rule.{Rule}
 use Rattle.vx_decide.specs.declared.rule.Rule.TheVariants as rule

@@ -11,9 +11,10 @@ ghost use Rattle.vx_places.specs.Places.{marked_in, is_at, steps_between, HasRoo
 use crate::around::{end_within, layers, least_within, steps_along};
 use std::alloc::{AllocError, Global};
 use std::marker::Model;
-use vx_cells::{Frozen, marked_places};
+use vx_cells::Frozen;
 use vx_geom::{Bounds, Pos};
 use vx_marks::Marks;
+use vx_store::marked_places;
 
 /// A set of positions of a world, kept by sector. A sector where nothing was marked takes no memory
 /// beside its entry.

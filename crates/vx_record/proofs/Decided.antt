@@ -22,7 +22,7 @@ use Rattle.vx_block.specs.declared.level.Level.{Level}
 use Rattle.vx_block.specs.declared.mount.Mount.{Mount}
 use Rattle.vx_block.specs.declared.part.Part.{Part}
 use Rattle.vx_block.specs.declared.repeater.Repeater.{Repeater}
-use Rattle.vx_cells.specs.SameSlots.{slots_decided}
+use Rattle.vx_store.specs.SameSlots.{slots_decided}
 use Rattle.vx_decide.specs.contracts.rule.RulePartialEq.TheImpl as rule
 use Rattle.vx_decide.specs.declared.rule.Rule.{Rule}
 use Rattle.vx_sector.specs.contracts.cmd.CmdPartialEq.TheImpl as cmd

@@ -1,8 +1,9 @@
 -- What the rules show of a chest, and the copies made of it before.
 use Rattle.std.proofs.Common.{◌≡◌, Bool, true, false, List, Option, Some, None, [], ◌∷◌, not, if◌then◌else◌, subst}
 use Rattle.vx_geom.specs.declared.pos.Pos.{Pos}
-use Rattle.vx_cells.specs.declared.stack.Stack.{Stack}
-use Rattle.vx_cells.specs.SectorCells.{SectorCells, is_chest, cell_at, chest_at}
+use Rattle.vx_store.specs.declared.stack.Stack.{Stack}
+use Rattle.vx_store.specs.Codes.{is_chest}
+use Rattle.vx_cells.specs.SectorCells.{SectorCells, cell_at, chest_at}
 use Rattle.vx_region.specs.Regions.{Regions}
 use Rattle.vx_decide.specs.declared.rule.Rule.{Rule}
 use Rattle.vx_decide.specs.declared.verdict.Verdict.{Verdict}

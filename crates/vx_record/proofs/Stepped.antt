@@ -8,7 +8,8 @@ use Rattle.vx_block.specs.declared.cell.Cell.{Cell}
 use Rattle.vx_block.specs.declared.cell.Cell.TheVariants as cell
 use Rattle.vx_cells.specs.MapLaws.{block_in, block_on, IsFilled}
 use Rattle.vx_cells.specs.Maps.{MapData, sector_at, cell_on}
-use Rattle.vx_cells.specs.SectorCells.{SectorCells, Block, IsWhole, IsBlock, is_chest, slot_count, placed}
+use Rattle.vx_store.specs.Codes.{is_chest}
+use Rattle.vx_cells.specs.SectorCells.{SectorCells, Block, IsWhole, IsBlock, slot_count, placed}
 use Rattle.vx_cells.proofs.Putting.{cell_of_block}
 use Rattle.vx_region.specs.Regions.{Regions}
 use Rattle.vx_power.specs.Laws.{dust_level}

@@ -1,6 +1,6 @@
 -- Copies of what an answer shows, made before it is given.
 use Rattle.std.specs.Prelude.{◌≡◌, List, Option, Some, Result, Ok}
-use Rattle.vx_cells.specs.declared.stack.Stack.{Stack}
+use Rattle.vx_store.specs.declared.stack.Stack.{Stack}
 use Rattle.vx_sector.specs.declared.reply.Reply.{Reply}
 use Rattle.vx_sector.specs.declared.reply.Reply.TheVariants.{Opened}
 use Rattle.vx_sector.specs.declared.refusal.Refusal.{Refusal}

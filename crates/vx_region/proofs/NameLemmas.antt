@@ -1,17 +1,12 @@
 -- What one name more or less on a list changes.
-use Rattle.std.proofs.Common.{◌≡◌, ℕ, suc, length, Bool, true, false, true≢false, cond, not, ◌&&◌, ◌||◌, if◌then◌else◌, List, [], ◌∷◌, ◌++◌, bytes_eq, inl, inr, refl, ap, sym, ◌∙◌, subst}
+use Rattle.std.proofs.Common.{◌≡◌, ℕ, Bool, true, false, true≢false, not, ◌&&◌, ◌||◌, if◌then◌else◌, List, [], ◌∷◌, ◌++◌, bytes_eq, inl, inr, refl, ap, sym, ◌∙◌, subst}
 use Rattle.std.proofs.Math.Bool.{or-false, or-true}
 use Rattle.std.proofs.lemmas.Bool.{or_cases}
 use Rattle.std.proofs.lemmas.Map.Views.{any-filter_same}
 use Rattle.std.proofs.lemmas.List.Folds.{list_any-append}
 use Rattle.std.proofs.lemmas.Slice.Eq.{bytes_eq-Decides}
-use Rattle.std.specs.List.{list_any, AllByRecursion, IsDistinct}
-use Rattle.std.specs.Set.{remove_key}
-use Rattle.indexmap.specs.IndexSet.{insert_key}
-use Rattle.vx_name.specs.declared.name.Name.{Name}
 use Rattle.vx_name.specs.Names.{names, names_with, names_without}
 use Rattle.vx_region.specs.Laws.{NamesOneMore, NamesOneLess}
-use Rattle.vx_name.specs.Texts.{texts}
 
 -- a name put among others adds that one and no other
 pub names_one_more : (ts : List (List ℕ)) (name : List ℕ) → NamesOneMore ts name (names_with ts name)

@@ -4,7 +4,7 @@ use Rattle.vx_geom.specs.declared.pos.Pos.{Pos}
 use Rattle.vx_geom.specs.Sizes.{AreSizes}
 use Rattle.vx_flag.specs.declared.action.Action.{Action}
 use Rattle.vx_flag.specs.declared.action.Action.TheVariants.{Placing, Breaking, Turning, Reaching}
-use Rattle.vx_cells.specs.declared.stack.Stack.{Stack}
+use Rattle.vx_store.specs.declared.stack.Stack.{Stack}
 use Rattle.vx_cells.specs.SectorCells.{SectorCells, holds, block_at}
 use Rattle.vx_cells.proofs.CellLaws.{other_blocks_stay}
 use Rattle.vx_region.specs.Regions.{Regions}

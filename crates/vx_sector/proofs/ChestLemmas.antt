@@ -1,7 +1,8 @@
 -- What is known of the slots at a position.
 use Rattle.std.proofs.Common.{◌≡◌, false, List, [], ◌∷◌, length, refl}
 use Rattle.vx_geom.specs.declared.pos.Pos.{Pos}
-use Rattle.vx_cells.specs.SectorCells.{SectorCells, IsWhole, is_chest, cell_at}
+use Rattle.vx_store.specs.Codes.{is_chest}
+use Rattle.vx_cells.specs.SectorCells.{SectorCells, IsWhole, cell_at}
 use Rattle.vx_cells.proofs.Copying.{is_block_at}
 use Rattle.vx_sector.specs.Acting.{slots_at}
 

@@ -1,6 +1,6 @@
 -- The text of some slots and one more.
 use Rattle.std.proofs.Common.{◌≡◌, ℕ, zero, suc, ◌+◌, ◌<◌, ◌≤◌, true, List, [], ◌∷◌, ◌++◌, Option, None, take, length, get_or, append_assoc, append-nil, refl, sym, arith}
-use Rattle.vx_cells.specs.declared.stack.Stack.{Stack}
+use Rattle.vx_store.specs.declared.stack.Stack.{Stack}
 use Rattle.vx_sector.specs.Texts.{slot_text, slots_text, contents_text}
 use Rattle.std.specs.List.{list_any}
 use Rattle.std.proofs.lemmas.List.{take_all}

@@ -12,7 +12,7 @@ use Rattle.vx_block.specs.declared.cell.Cell.TheVariants as cell
 use Rattle.vx_block.specs.declared.part.Part.{Part}
 use Rattle.vx_block.specs.declared.part.Part.TheVariants as part
 use Rattle.vx_block.specs.Part.{part_cell}
-use Rattle.vx_cells.specs.declared.stack.Stack.{Stack}
+use Rattle.vx_store.specs.declared.stack.Stack.{Stack}
 use Rattle.vx_cells.specs.SectorCells.{SectorCells, Block, IsWhole, IsBlock, IsSlot, slot_count, placed, holds, block_at, cell_at, with_content, with_block}
 use Rattle.vx_cells.proofs.CellLaws.{set_block_is_read, other_blocks_stay}
 use Rattle.vx_sector.specs.Acting.{refuse_if, is_air, is_extended, is_lever, turned, slots_at, slot_at, rules_answer, hindrance, effect_of, applied}

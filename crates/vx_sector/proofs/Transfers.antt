@@ -2,14 +2,15 @@
 use Rattle.std.proofs.Common.{◌≡◌, ◌≢◌, ℕ, ◌+◌, ◌-◌, ◌<◌, ◌≤◌, Bool, true, false, not, ◌||◌, nat_eq, nat_le, nat_lt, List, ◌∷◌, length, get_or, Option, Some, None, Ok, Err, if◌then◌else◌, refl, ap, sym, ◌∙◌, subst, rules, arith}
 use Rattle.std.proofs.lemmas.Bool.{eqb-true, eqb-false, leb-false, ltb-false}
 use Rattle.std.proofs.lemmas.List.{get_or-set_same, get_or-set_other}
-use Rattle.vx_cells.specs.declared.stack.TheConstants.{SLOTS}
+use Rattle.vx_store.specs.declared.stack.TheConstants.{SLOTS}
 use Rattle.vx_geom.specs.declared.dir.Dir.{Dir}
 use Rattle.vx_geom.specs.declared.pos.Pos.{Pos}
 use Rattle.vx_geom.specs.Sizes.{AreSizes}
 use Rattle.vx_block.specs.declared.cell.Cell.{Cell}
 use Rattle.vx_block.specs.declared.cell.Cell.TheVariants.{Chest, Lever}
-use Rattle.vx_cells.specs.declared.stack.Stack.{Stack}
-use Rattle.vx_cells.specs.SectorCells.{SectorCells, IsWhole, IsSlot, is_chest, most_count, placed, holds, block_at, cell_at, with_content, with_slot}
+use Rattle.vx_store.specs.declared.stack.Stack.{Stack}
+use Rattle.vx_store.specs.Codes.{is_chest}
+use Rattle.vx_cells.specs.SectorCells.{SectorCells, IsWhole, IsSlot, most_count, placed, holds, block_at, cell_at, with_content, with_slot}
 use Rattle.vx_cells.proofs.CellLaws.{set_block_is_read}
 use Rattle.vx_region.specs.Regions.{Regions}
 use Rattle.vx_sector.specs.SectorData.{SectorData, SeatData}

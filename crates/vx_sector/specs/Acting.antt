@@ -1,15 +1,16 @@
 use Rattle.std.specs.Prelude.{◌≡◌, ℕ, ◌+◌, ◌<◌, Bool, true, false, not, ◌||◌, nat_le, nat_lt, nat_eq, if◌then◌else◌, slice_index_or, List, [], ◌∷◌, Option, Some, None, Result, Ok, Err}
 use Rattle.std.specs.List.{list_any}
 use Rattle.std.specs.Option.{option_and_then}
-use Rattle.vx_cells.specs.declared.stack.TheConstants.{SLOTS}
+use Rattle.vx_store.specs.declared.stack.TheConstants.{SLOTS}
 use Rattle.vx_geom.specs.declared.pos.Pos.{Pos}
 use Rattle.vx_flag.specs.declared.action.Action.{Action}
 use Rattle.vx_flag.specs.declared.action.Action.TheVariants.{Placing, Breaking, Turning, Reaching}
 use Rattle.vx_block.specs.declared.cell.Cell.{Cell}
 use Rattle.vx_block.specs.declared.cell.Cell.TheVariants as cell
 use Rattle.vx_block.specs.Part.{part_cell}
-use Rattle.vx_cells.specs.declared.stack.Stack.{Stack}
-use Rattle.vx_cells.specs.SectorCells.{SectorCells, IsSlot, most_count, is_chest, block_at, cell_at, with_cell, with_slot}
+use Rattle.vx_store.specs.declared.stack.Stack.{Stack}
+use Rattle.vx_store.specs.Codes.{is_chest}
+use Rattle.vx_cells.specs.SectorCells.{SectorCells, IsSlot, most_count, block_at, cell_at, with_cell, with_slot}
 use Rattle.vx_region.specs.Regions.{Regions}
 use Rattle.vx_region.specs.Subjects.{Named}
 use Rattle.vx_decide.specs.declared.rule.Rule.{Rule}

@@ -4,7 +4,7 @@ use Rattle.vx_geom.specs.declared.pos.Pos.{Pos}
 use Rattle.vx_geom.specs.Sizes.{AreSizes}
 use Rattle.vx_block.specs.declared.cell.Cell.{Cell}
 use Rattle.vx_block.specs.declared.cell.Cell.TheVariants.{Chest, Lever}
-use Rattle.vx_cells.specs.declared.stack.Stack.{Stack}
+use Rattle.vx_store.specs.declared.stack.Stack.{Stack}
 use Rattle.vx_cells.specs.SectorCells.{SectorCells, IsWhole, holds, block_at, cell_at}
 use Rattle.vx_flag.specs.declared.action.Action.{Action}
 use Rattle.vx_flag.specs.declared.action.Action.TheVariants.{Reaching}

@@ -1,5 +1,5 @@
 use Rattle.std.specs.Prelude.{◌≡◌, ℕ, ◌+◌, ◌-◌, Bool, true, false, not, nat_eq, if◌then◌else◌, Option, Some, None}
-use Rattle.vx_cells.specs.declared.stack.Stack.{Stack}
+use Rattle.vx_store.specs.declared.stack.Stack.{Stack}
 use Rattle.vx_cells.specs.SectorCells.{IsSlot}
 
 -- how many items a slot holds

@@ -1,7 +1,7 @@
 use Rattle.std.specs.Prelude.{ℕ, ◌+◌, List, [], ◌∷◌, ◌++◌, codes, decimal, if◌then◌else◌, Option, Some, None}
 use Rattle.std.specs.List.{list_any}
 use Rattle.vx_block.specs.Cell.{cell_text}
-use Rattle.vx_cells.specs.declared.stack.Stack.{Stack}
+use Rattle.vx_store.specs.declared.stack.Stack.{Stack}
 use Rattle.vx_decide.specs.Texts.{rule_text}
 use Rattle.vx_sector.specs.Slots.{is_filled}
 use Rattle.vx_sector.specs.declared.reply.Reply.{Reply}

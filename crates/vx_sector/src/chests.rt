@@ -1,8 +1,9 @@
 //! What is shown of a chest, put into it and taken out of it.
 ghost use Rattle.std.specs.Prelude.{◌≡◌, ◌<◌, true, not, nat_le, [], ◌∷◌, IfOk, MatchResult, Some};
 ghost use Rattle.std.specs.List.{All, list_any};
-ghost use Rattle.vx_cells.specs.declared.stack.TheConstants.{SLOTS};
-ghost use Rattle.vx_cells.specs.SectorCells.{IsWhole, IsSlot, is_chest, holds, cell_at};
+ghost use Rattle.vx_store.specs.declared.stack.TheConstants.{SLOTS};
+ghost use Rattle.vx_store.specs.Codes.{is_chest};
+ghost use Rattle.vx_cells.specs.SectorCells.{IsWhole, IsSlot, holds, cell_at};
 ghost use Rattle.vx_sector.specs.Slots.{count_in, is_filled, holds_other};
 ghost use Rattle.vx_sector.specs.Acting.{refuse_if, ok_unless, first_some, hindrance, permitted_effect, Fits, slots_at, slot_at};
 

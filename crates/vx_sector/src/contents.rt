@@ -18,7 +18,7 @@ pub struct Contents {
 impl Model for Contents {
     ghost use Rattle.std.specs.Prelude.{List, Option};
     ghost use Rattle.std.specs.Arc.{arc_value};
-    ghost use Rattle.vx_cells.specs.declared.stack.Stack.{Stack};
+    ghost use Rattle.vx_store.specs.declared.stack.Stack.{Stack};
 
     ghost Value = { List (Option Stack) };
 
@@ -54,7 +54,7 @@ impl Contents {
 
 impl PartialEq for Contents {
     ghost use Rattle.std.specs.Cmp.{partial_equiv_from_equiv};
-    ghost use Rattle.vx_cells.specs.SameSlots.{same_slots, slots_equiv};
+    ghost use Rattle.vx_store.specs.SameSlots.{same_slots, slots_equiv};
 
     ghost eq = { same_slots };
 
@@ -67,7 +67,7 @@ impl PartialEq for Contents {
 }
 
 impl Eq for Contents {
-    ghost use Rattle.vx_cells.specs.SameSlots.{slots_equiv};
+    ghost use Rattle.vx_store.specs.SameSlots.{slots_equiv};
 
     ghost laws = { slots_equiv };
 }

@@ -2,7 +2,7 @@
 ghost use Rattle.std.specs.Prelude.{◌≡◌, ◌<◌, ◌≤◌, false, IfOk, IfSome};
 ghost use Rattle.std.specs.List.{All};
 ghost use Rattle.vx_step.specs.declared.workers.TheConstants.{MAX_WORKERS};
-ghost use Rattle.vx_cells.specs.SectorCells.{is_chest};
+ghost use Rattle.vx_store.specs.Codes.{is_chest};
 ghost use Rattle.vx_cells.specs.Wholes.{with_cells_on};
 ghost use Rattle.vx_geom.specs.Sizes.{sector_count};
 ghost use Rattle.vx_power.specs.Levels.{AreAllLevels};

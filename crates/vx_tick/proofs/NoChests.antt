@@ -7,7 +7,7 @@ use Rattle.vx_block.specs.declared.mobility.Mobility.TheVariants.{Empty, Moves, 
 use Rattle.vx_block.specs.Mobilities.{mobility_of}
 use Rattle.vx_cells.specs.MapLaws.{IsFilled}
 use Rattle.vx_cells.specs.Maps.{MapData, cell_on}
-use Rattle.vx_cells.specs.SectorCells.{is_chest}
+use Rattle.vx_store.specs.Codes.{is_chest}
 use Rattle.vx_power.specs.Laws.{dust_level}
 use Rattle.vx_power.specs.Walks.{IsAmong}
 use Rattle.vx_power.proofs.Linking.{among_either}

@@ -6,7 +6,7 @@ use Rattle.vx_geom.specs.Sizes.{sector_count}
 use Rattle.vx_block.specs.declared.cell.Cell.{Cell}
 use Rattle.vx_cells.specs.MapLaws.{IsFilled}
 use Rattle.vx_cells.specs.Maps.{MapData, cell_on}
-use Rattle.vx_cells.specs.SectorCells.{is_chest}
+use Rattle.vx_store.specs.Codes.{is_chest}
 use Rattle.vx_cells.specs.Wholes.{with_cells_on}
 use Rattle.vx_power.specs.Levels.{AreAllLevels}
 use Rattle.vx_power.specs.Walks.{IsAmong}

@@ -7,7 +7,7 @@ use Rattle.vx_block.specs.declared.cell.Cell.{Cell}
 use Rattle.vx_block.specs.Components.{is_dust}
 use Rattle.vx_cells.specs.Maps.{MapData}
 use Rattle.vx_cells.specs.SameCells.{same_cell}
-use Rattle.vx_cells.specs.SectorCells.{is_chest}
+use Rattle.vx_store.specs.Codes.{is_chest}
 use Rattle.vx_cells.specs.Wholes.{with_cells_on}
 use Rattle.vx_power.specs.Local.{shown}
 use Rattle.vx_region.specs.Regions.{Regions}

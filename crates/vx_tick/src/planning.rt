@@ -1,7 +1,7 @@
 //! A tick of a map that is only read.
 ghost use Rattle.std.specs.Prelude.{◌≡◌, false, IfOk, IfSome};
 ghost use Rattle.std.specs.List.{All};
-ghost use Rattle.vx_cells.specs.SectorCells.{is_chest};
+ghost use Rattle.vx_store.specs.Codes.{is_chest};
 ghost use Rattle.vx_cells.specs.Wholes.{with_cells_on};
 ghost use Rattle.vx_power.specs.Levels.{AreAllLevels};
 ghost use Rattle.vx_still.specs.Watching.{with_written, IsWatch};

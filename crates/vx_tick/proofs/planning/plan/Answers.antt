@@ -3,7 +3,7 @@ use Rattle.std.specs.List.{All}
 use Rattle.std.proofs.lemmas.Result.{IfOk-weaker}
 use Rattle.vx_geom.specs.declared.pos.Pos.{Pos}
 use Rattle.vx_block.specs.declared.cell.Cell.{Cell}
-use Rattle.vx_cells.specs.SectorCells.{is_chest}
+use Rattle.vx_store.specs.Codes.{is_chest}
 use Rattle.vx_cells.specs.Wholes.{with_cells_on}
 use Rattle.vx_tick.specs.Fates.{AreFates}
 use Rattle.vx_tick.specs.Leaving.{IsWorked}

@@ -2,7 +2,7 @@ use Rattle.std.proofs.Common.{◌≡◌, ◌<◌, length, get_or, unsigned_abs, 
 use Rattle.std.proofs.lemmas.Int.{ints}
 use Rattle.vx_geom.specs.Sizes.{index_in_sector}
 use Rattle.vx_geom.proofs.SectorLemmas.{inside_at}
-use Rattle.vx_cells.specs.Codes.{cell_of}
+use Rattle.vx_store.specs.Codes.{cell_of}
 use Rattle.vx_cells.proofs.Indices.{inside_from_holds, index_below}
 use Rattle.vx_cells.proofs.Sectioned.{index_by_sides, layer_within}
 use Rattle.vx_cells.proofs.StoredCells.{cell-stored}

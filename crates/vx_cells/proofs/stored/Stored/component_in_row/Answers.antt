@@ -6,8 +6,8 @@ use Rattle.vx_geom.specs.Sizes.{span, is_inside, index_in_sector}
 use Rattle.vx_marks.specs.Marks.{IsFirst}
 use Rattle.vx_cells.specs.Listed.{place}
 use Rattle.vx_cells.specs.SectorCells.{cell_at}
-use Rattle.vx_cells.specs.Stored.{stored, AreMarks}
-use Rattle.vx_cells.specs.MachineMarks.{MarkWords}
+use Rattle.vx_store.specs.MachineMarks.{AreMarks, MarkWords}
+use Rattle.vx_cells.specs.Stored.{stored}
 use Rattle.vx_cells.proofs.Indices.{inside_from_holds}
 use Rattle.vx_cells.proofs.Rows.{none_in_row, found_in_row, found_past_row, low_inside, place_is}
 use Rattle.vx_cells.proofs.StoredMarks.{marked_at}

@@ -2,8 +2,7 @@ use Rattle.std.proofs.Common.{◌≡◌, ◌*◌, length, IfOk, sym, subst, ◌�
 use Rattle.vx_block.specs.Components.{is_device}
 use Rattle.vx_geom.specs.Sizes.{sector_cells}
 use Rattle.vx_cells.specs.Listed.{devices_of}
-use Rattle.vx_cells.specs.Stored.{AreMarks}
-use Rattle.vx_cells.specs.MachineMarks.{MarkWords}
+use Rattle.vx_store.specs.MachineMarks.{AreMarks, MarkWords}
 use Rattle.vx_cells.proofs.StoredMarks.{marked_are}
 use Rattle.vx_cells.proofs.stored.Stored.devices.Goals as goal
 

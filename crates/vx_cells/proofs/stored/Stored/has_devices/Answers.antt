@@ -1,8 +1,7 @@
 use Rattle.std.proofs.Common.{nat_lt, length, ap, sym, subst, ◌∙◌}
 use Rattle.vx_block.specs.Components.{is_device}
 use Rattle.vx_cells.specs.Listed.{devices_of}
-use Rattle.vx_cells.specs.Stored.{AreMarks}
-use Rattle.vx_cells.specs.MachineMarks.{MarkWords}
+use Rattle.vx_store.specs.MachineMarks.{AreMarks, MarkWords}
 use Rattle.vx_cells.proofs.StoredMarks.{marked_are}
 use Rattle.vx_cells.proofs.stored.Stored.has_devices.Goals as goal
 

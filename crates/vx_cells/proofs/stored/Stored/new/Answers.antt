@@ -1,10 +1,10 @@
 use Rattle.std.proofs.Common.{◌/◌, replicate, refl, ap, sym, subst, ◌∙◌}
 use Rattle.vx_block.specs.Components.{is_device, is_component}
 use Rattle.vx_geom.specs.Sizes.{sector_cells}
-use Rattle.vx_cells.specs.Stored.{AreMachineMarks}
+use Rattle.vx_store.specs.MachineMarks.{AreMachineMarks}
 use Rattle.vx_cells.proofs.Sectioned.{whole_words, all_alike}
 use Rattle.vx_cells.proofs.StoredBlocks.{stored-fresh, fresh-stored}
-use Rattle.vx_cells.proofs.StoredMarks.{blank_marks}
+use Rattle.vx_store.proofs.Marks.{blank_marks}
 use Rattle.vx_cells.proofs.stored.Stored.new.Goals as goal
 
 pub invariant_of-result : goal.invariant_of-result

@@ -1,8 +1,9 @@
 use Rattle.std.proofs.Common.{◌≡◌, ℕ, ◌<◌, List, length, get_or, Result, Ok, Err, OnOk, OnErr, refl, sym, ap, subst, ◌∙◌, arith}
 use Rattle.std.specs.Arc.{arc_value}
 use Rattle.vx_geom.specs.Sizes.{Sizes}
-use Rattle.vx_cells.specs.Chests.{ChestData, SameSlots}
-use Rattle.vx_cells.specs.Stored.{stored, AreMachineMarks, IsBeside, IsStored}
+use Rattle.vx_store.specs.Chests.{ChestData, SameSlots}
+use Rattle.vx_store.specs.MachineMarks.{AreMachineMarks}
+use Rattle.vx_cells.specs.Stored.{stored, IsBeside, IsStored}
 use Rattle.vx_cells.proofs.Indices.{inside_from_holds}
 use Rattle.vx_cells.proofs.StoredCells.{put-held, put-stored, stored-still}
 use Rattle.vx_cells.proofs.stored.Stored.set.Goals as goal

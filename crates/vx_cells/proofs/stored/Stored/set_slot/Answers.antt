@@ -1,7 +1,7 @@
 use Rattle.std.proofs.Common.{ap, sym, subst, ◌∙◌}
 use Rattle.std.proofs.lemmas.Result.{on_ok_weaker, on_err_weaker}
 use Rattle.vx_cells.specs.Stored.{stored, IsStored}
-use Rattle.vx_cells.proofs.ChestParting.{either_way}
+use Rattle.vx_store.proofs.ChestParting.{either_way}
 use Rattle.vx_cells.proofs.Indices.{inside_from_holds}
 use Rattle.vx_cells.proofs.StoredCells.{chest-there, refilled-stored, refilled-held}
 use Rattle.vx_cells.proofs.stored.Stored.set_slot.Goals as goal

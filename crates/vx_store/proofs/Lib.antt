@@ -1,0 +1,6 @@
+pub mod ChestParting
+pub mod CodeLemmas
+pub mod MarkedPlaces
+pub mod Marks
+pub mod Paging
+pub mod Stacks

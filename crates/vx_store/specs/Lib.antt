@@ -1,0 +1,6 @@
+pub mod ChestParts
+pub mod Chests
+pub mod Codes
+pub mod MachineMarks
+pub mod MarkedPlaces
+pub mod SameSlots

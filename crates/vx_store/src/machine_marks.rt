@@ -1,0 +1,179 @@
+ghost use Rattle.std.specs.Prelude.{◌≡◌, ◌+◌, ◌*◌, ◌/◌, ◌%◌, ◌<◌, ℕ, List, true, false, nat_lt, length, replicate, None, IsSome, slice_index_or, slice_set, IfOk, OnOk, OnErr};
+ghost use Rattle.std.specs.List.{All};
+ghost use Rattle.vx_store.specs.Chests.{slots_of_chest, Changes, SameSlots, begun};
+ghost use Rattle.vx_store.specs.Codes.{code_count, cell_of, is_chest};
+ghost use Rattle.vx_store.specs.MarkedPlaces.{marked_places};
+ghost use Rattle.vx_store.specs.MachineMarks.{words_of, AreMachineMarks};
+ghost use Rattle.vx_geom.specs.Sizes.{Sizes, AreSizes, sector_count, sector_cells};
+ghost use Rattle.vx_marks.specs.Marks.{is_marked, IsFirst, IsFirstMarked};
+ghost use Rattle.vx_marks.specs.declared.page.TheConstants.{PAGE};
+
+use crate::chest_parts::ChestParts;
+use crate::code::{is_component, is_device};
+use crate::kind_marks::KindMarks;
+use crate::mark_kind::MarkKind;
+use crate::marked::places_in_order;
+use crate::shared_page::SharedPage;
+use std::alloc::{AllocError, Global};
+use std::marker::Model;
+use vx_geom::{Bounds, Pos};
+use vx_marks::PAGE;
+use vx_section::Sections;
+
+/// Where components of machines stand in a sector, and which of them are devices, as marks on the
+/// indices of their cells, in pages of 4,096: sixteen layers of a narrow sector, or four of a wide
+/// one. A page takes no memory before its first component, copies share the pages, and a change
+/// copies one of them.
+#[derive(Drop)]
+pub struct MachineMarks {
+    pages: Vec<SharedPage>,
+    // How many components stand there. No clause says so: only costs rest on it.
+    count: u32,
+}
+
+impl Model for MachineMarks {
+    ghost use Rattle.vx_store.specs.MachineMarks.{MarkWords, joined, ArePages};
+
+    ghost Value = { MarkWords };
+
+    ghost view = { λ a. joined a.pages.items };
+
+    ghost invariant = { λ a. ArePages a.pages.items };
+}
+
+impl MachineMarks {
+    /// None of so many indices marked.
+    pub fn new(alloc: Global, count: u32) -> Result<MachineMarks, AllocError>
+        requires { count % PAGE ≡ 0 }
+        ensures components { IfOk result (λ marks. marks.components ≡ replicate (count / 64) 0) }
+        ensures devices { IfOk result (λ marks. marks.devices ≡ replicate (count / 64) 0) }
+    {
+        let mut pages = Vec::with_capacity(alloc, (count / PAGE) as usize)?;
+        for _ in 0..count / PAGE {
+            pages.push(SharedPage::new())?;
+        }
+        Ok(MachineMarks { pages, count: 0 })
+    }
+
+    /// Whether the marks of a sector stay as they are where a byte is put down in place of another.
+    // It looks at no mark: the table is large, and the byte that was there is at hand.
+    #[inline(always)]
+    pub fn stay(was: u8, code: u8) -> bool
+        requires was { was < code_count }
+        requires code { code < code_count }
+        ensures { result ≡ true → (store : List ℕ) (index : ℕ) (marks : _) → index < length store
+            → slice_index_or store index 0 ≡ was → AreMachineMarks store marks
+            → AreMachineMarks (slice_set store index code) marks }
+    {
+        is_component(was) == is_component(code) && is_device(was) == is_device(code)
+    }
+
+    /// Puts a byte down whose cell has other marks than the one that was there, and marks its
+    /// index. The page of the index is made or copied before anything changes.
+    pub fn put_down(
+        &mut self,
+        alloc: Global,
+        store: &mut Sections,
+        chests: &mut ChestParts,
+        index: u32,
+        code: u8,
+    ) -> Result<(), AllocError>
+        requires within { index < length store.old }
+        requires codes { All (λ each. each < code_count) store.old }
+        requires code { code < code_count }
+        requires none { is_chest (cell_of (slice_index_or store.old index 0)) ≡ false
+            → slots_of_chest chests.old index ≡ None }
+        requires some { is_chest (cell_of (slice_index_or store.old index 0)) ≡ true
+            → IsSome (slots_of_chest chests.old index) }
+        requires marks { AreMachineMarks store.old self.old }
+        ensures store { OnOk result (store.new ≡ slice_set store.old index code) }
+        ensures chests { OnOk result (Changes chests.old chests.new index
+            (begun (is_chest (cell_of code)))) }
+        ensures err { OnErr result ((store.new ≡ store.old)
+            × SameSlots chests.old chests.new) }
+        ensures marks { AreMachineMarks store.new self.new }
+    {
+        let was = is_component(store.get(index));
+        self.pages[(index / PAGE) as usize].put_down(alloc, store, chests, index, code)?;
+        self.count = counted(self.count, was, is_component(code));
+        Ok(())
+    }
+
+    /// The positions of the sector whose indices have a mark of that kind, in order. It costs what
+    /// is marked, and a look at each page.
+    pub fn places(
+        &self,
+        alloc: Global,
+        bounds: Bounds,
+        sector: u32,
+        kind: MarkKind,
+    ) -> Result<Vec<Pos>, AllocError>
+        requires sector { sector < sector_count bounds }
+        requires all { 64 * length (words_of kind self.now) ≡ sector_cells bounds }
+        ensures { IfOk result (λ found.
+            found.items ≡ marked_places bounds sector (words_of kind self.now)) }
+    {
+        places_in_order(alloc, bounds, sector, &KindMarks { marks: self, kind })
+    }
+
+    /// The first index from this one on with a mark of that kind.
+    pub fn first_from(&self, kind: MarkKind, from: u32) -> Option<u32>
+        ensures { IsFirstMarked (words_of kind self.now) from result }
+    {
+        let end = PAGE * self.pages.len() as u32;
+        let mut next = from;
+        while next < end {
+            let number = next / PAGE;
+            if let Some(index) = self.pages[number as usize].first_from(kind, next % PAGE) {
+                return Some(PAGE * number + index);
+            }
+            next = PAGE * (number + 1);
+        }
+        None
+    }
+
+    /// The first index from this one on with a mark of that kind, in the same word of 64.
+    #[inline(always)]
+    pub fn first_in_word(&self, kind: MarkKind, from: u32) -> Option<u32>
+        requires { from < 64 * length (words_of kind self.now) }
+        ensures { IsFirst (is_marked (words_of kind self.now)) (64 * (from / 64 + 1)) from result }
+    {
+        let number = from / PAGE;
+        let index = self.pages[number as usize].first_in_word(kind, from % PAGE)?;
+        Some(PAGE * number + index)
+    }
+
+    /// Whether any index has a mark of that kind, in a sector of any world of so many cells a
+    /// sector. It costs a look at each page.
+    pub fn has_any(&self, kind: MarkKind) -> bool
+        ensures { (bounds : Sizes) (sector : ℕ) → AreSizes bounds → sector < sector_count bounds
+            → 64 * length (words_of kind self.now) ≡ sector_cells bounds
+            → result ≡ nat_lt 0 (length (marked_places bounds sector (words_of kind self.now))) }
+    {
+        self.first_from(kind, 0).is_some()
+    }
+
+    /// How many components stand there. No clause tells the number, since only costs rest on it.
+    pub fn count(&self) -> u32 {
+        self.count
+    }
+}
+
+impl Clone for MachineMarks {
+    ghost is_clone = { λ marks copy. copy ≡ marks };
+
+    fn clone(&self) -> Result<MachineMarks, AllocError> {
+        Ok(MachineMarks {
+            pages: self.pages.clone()?,
+            count: self.count,
+        })
+    }
+}
+
+// How many components there are once one cell has become another, of which each was or is one.
+fn counted(count: u32, was: bool, is: bool) -> u32 {
+    if was {
+        return if is { count } else { count.saturating_sub(1) };
+    }
+    if is { count.saturating_add(1) } else { count }
+}

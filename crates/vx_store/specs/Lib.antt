@@ -3,4 +3,5 @@ pub mod Chests
 pub mod Codes
 pub mod MachineMarks
 pub mod MarkedPlaces
+pub mod Placing
 pub mod SameSlots

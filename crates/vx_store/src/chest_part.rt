@@ -2,6 +2,7 @@ ghost use Rattle.std.specs.Prelude.{◌≡◌, ◌<◌, ◌↔◌, ℕ, IsTrue, 
 ghost use Rattle.std.specs.List.{All};
 ghost use Rattle.vx_store.specs.Chests.{slots_of_chest, Changes, SameSlots, begun};
 ghost use Rattle.vx_store.specs.Codes.{code_count, cell_of, is_chest};
+ghost use Rattle.vx_store.specs.Placing.{CanPut};
 ghost use Rattle.vx_store.specs.declared.stack.TheConstants.{SLOTS};
 
 use crate::chests::Chests;
@@ -61,13 +62,7 @@ impl ChestPart {
     /// Puts a byte down in the store, in place of the one that was there, with the chest that
     /// begins or goes there.
     pub fn put_down(&mut self, store: &mut Sections, index: u32, code: u8) -> Result<(), AllocError>
-        requires within { index < length store.old }
-        requires codes { All (λ each. each < code_count) store.old }
-        requires code { code < code_count }
-        requires none { is_chest (cell_of (slice_index_or store.old index 0)) ≡ false
-            → slots_of_chest self.old index ≡ None }
-        requires some { is_chest (cell_of (slice_index_or store.old index 0)) ≡ true
-            → IsSome (slots_of_chest self.old index) }
+        requires { CanPut store.old self.old index code }
         ensures store { OnOk result (store.new ≡ slice_set store.old index code) }
         ensures chests { OnOk result
             (Changes self.old self.new index (begun (is_chest (cell_of code)))) }

@@ -4,6 +4,7 @@ ghost use Rattle.std.specs.List.{All};
 ghost use Rattle.vx_store.specs.ChestParts.{chests_of, part_of, AreParted};
 ghost use Rattle.vx_store.specs.Chests.{slots_of_chest, Changes, SameSlots, begun, refilled};
 ghost use Rattle.vx_store.specs.Codes.{code_count, cell_of, is_chest};
+ghost use Rattle.vx_store.specs.Placing.{CanPut};
 ghost use Rattle.vx_store.specs.declared.chest_parts.TheConstants.{PARTS};
 ghost use Rattle.vx_store.specs.declared.stack.TheConstants.{SLOTS};
 
@@ -69,13 +70,7 @@ impl ChestParts {
     /// Puts a byte down in the store, in place of the one that was there, with the chest that
     /// begins or goes there. Where copies share its part, that part is copied.
     pub fn put_down(&mut self, store: &mut Sections, index: u32, code: u8) -> Result<(), AllocError>
-        requires within { index < length store.old }
-        requires codes { All (λ each. each < code_count) store.old }
-        requires code { code < code_count }
-        requires none { is_chest (cell_of (slice_index_or store.old index 0)) ≡ false
-            → slots_of_chest self.old index ≡ None }
-        requires some { is_chest (cell_of (slice_index_or store.old index 0)) ≡ true
-            → IsSome (slots_of_chest self.old index) }
+        requires { CanPut store.old self.old index code }
         ensures store { OnOk result (store.new ≡ slice_set store.old index code) }
         ensures chests { OnOk result
             (Changes self.old self.new index (begun (is_chest (cell_of code)))) }
@@ -154,13 +149,7 @@ fn put_down_in(
     code: u8,
 ) -> Result<(), AllocError>
     requires parted { AreParted (arc_value shared.old).items }
-    requires within { index < length store.old }
-    requires codes { All (λ each. each < code_count) store.old }
-    requires code { code < code_count }
-    requires none { is_chest (cell_of (slice_index_or store.old index 0)) ≡ false
-        → slots_of_chest (chests_of (arc_value shared.old).items) index ≡ None }
-    requires some { is_chest (cell_of (slice_index_or store.old index 0)) ≡ true
-        → IsSome (slots_of_chest (chests_of (arc_value shared.old).items) index) }
+    requires can { CanPut store.old (chests_of (arc_value shared.old).items) index code }
     ensures parted { AreParted (arc_value shared.new).items }
     ensures store { OnOk result (store.new ≡ slice_set store.old index code) }
     ensures chests { OnOk result (Changes

@@ -4,6 +4,7 @@ ghost use Rattle.vx_store.specs.Chests.{slots_of_chest, Changes, SameSlots, begu
 ghost use Rattle.vx_store.specs.Codes.{code_count, cell_of, is_chest};
 ghost use Rattle.vx_store.specs.MarkedPlaces.{marked_places};
 ghost use Rattle.vx_store.specs.MachineMarks.{words_of, AreMachineMarks};
+ghost use Rattle.vx_store.specs.Placing.{CanPut};
 ghost use Rattle.vx_geom.specs.Sizes.{Sizes, AreSizes, sector_count, sector_cells};
 ghost use Rattle.vx_marks.specs.Marks.{is_marked, IsFirst, IsFirstMarked};
 ghost use Rattle.vx_marks.specs.declared.page.TheConstants.{PAGE};
@@ -78,13 +79,7 @@ impl MachineMarks {
         index: u32,
         code: u8,
     ) -> Result<(), AllocError>
-        requires within { index < length store.old }
-        requires codes { All (λ each. each < code_count) store.old }
-        requires code { code < code_count }
-        requires none { is_chest (cell_of (slice_index_or store.old index 0)) ≡ false
-            → slots_of_chest chests.old index ≡ None }
-        requires some { is_chest (cell_of (slice_index_or store.old index 0)) ≡ true
-            → IsSome (slots_of_chest chests.old index) }
+        requires can { CanPut store.old chests.old index code }
         requires marks { AreMachineMarks store.old self.old }
         ensures store { OnOk result (store.new ≡ slice_set store.old index code) }
         ensures chests { OnOk result (Changes chests.old chests.new index

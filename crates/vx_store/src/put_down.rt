@@ -5,6 +5,7 @@ ghost use Rattle.std.specs.List.{All};
 ghost use Rattle.vx_store.specs.Chests.{slots_of_chest, Changes, SameSlots, begun};
 ghost use Rattle.vx_store.specs.Codes.{code_count, cell_of, is_chest};
 ghost use Rattle.vx_store.specs.MachineMarks.{AreMachineMarks};
+ghost use Rattle.vx_store.specs.Placing.{CanPut};
 
 use crate::chest_parts::ChestParts;
 use crate::chests::Chests;
@@ -23,13 +24,7 @@ pub fn put_over(
     index: u32,
     code: u8,
 ) -> Result<(), AllocError>
-    requires within { index < length store.old }
-    requires codes { All (λ each. each < code_count) store.old }
-    requires code { code < code_count }
-    requires none { is_chest (cell_of (slice_index_or store.old index 0)) ≡ false
-        → slots_of_chest chests.old index ≡ None }
-    requires some { is_chest (cell_of (slice_index_or store.old index 0)) ≡ true
-        → IsSome (slots_of_chest chests.old index) }
+    requires { CanPut store.old chests.old index code }
     ensures store { OnOk result (store.new ≡ slice_set store.old index code) }
     ensures chests { OnOk result (Changes chests.old chests.new index
         (begun (is_chest (cell_of code)))) }
@@ -52,13 +47,7 @@ pub fn put_marked(
     index: u32,
     code: u8,
 ) -> Result<(), AllocError>
-    requires within { index < length store.old }
-    requires codes { All (λ each. each < code_count) store.old }
-    requires code { code < code_count }
-    requires none { is_chest (cell_of (slice_index_or store.old index 0)) ≡ false
-        → slots_of_chest chests.old index ≡ None }
-    requires some { is_chest (cell_of (slice_index_or store.old index 0)) ≡ true
-        → IsSome (slots_of_chest chests.old index) }
+    requires can { CanPut store.old chests.old index code }
     requires marks { AreMachineMarks store.old (arc_value marks.old) }
     ensures store { OnOk result (store.new ≡ slice_set store.old index code) }
     ensures chests { OnOk result (Changes chests.old chests.new index
@@ -78,13 +67,7 @@ pub fn put_down(
     index: u32,
     code: u8,
 ) -> Result<(), AllocError>
-    requires within { index < length store.old }
-    requires codes { All (λ each. each < code_count) store.old }
-    requires code { code < code_count }
-    requires none { is_chest (cell_of (slice_index_or store.old index 0)) ≡ false
-        → slots_of_chest chests.old index ≡ None }
-    requires some { is_chest (cell_of (slice_index_or store.old index 0)) ≡ true
-        → IsSome (slots_of_chest chests.old index) }
+    requires { CanPut store.old chests.old index code }
     ensures store { OnOk result (store.new ≡ slice_set store.old index code) }
     ensures chests { OnOk result
         (Changes chests.old chests.new index (begun (is_chest (cell_of code)))) }

@@ -4,6 +4,7 @@ ghost use Rattle.std.specs.List.{All};
 ghost use Rattle.vx_store.specs.Chests.{slots_of_chest, Changes, SameSlots, begun};
 ghost use Rattle.vx_store.specs.Codes.{code_count, cell_of, is_chest};
 ghost use Rattle.vx_store.specs.MachineMarks.{words_of, blank_page, AreMarksSet};
+ghost use Rattle.vx_store.specs.Placing.{CanPut};
 ghost use Rattle.vx_marks.specs.Marks.{is_marked, IsFirst, IsFirstMarked};
 ghost use Rattle.vx_marks.specs.declared.page.TheConstants.{PAGE};
 
@@ -76,13 +77,7 @@ impl SharedPage {
         index: u32,
         code: u8,
     ) -> Result<(), AllocError>
-        requires within { index < length store.old }
-        requires codes { All (λ each. each < code_count) store.old }
-        requires code { code < code_count }
-        requires none { is_chest (cell_of (slice_index_or store.old index 0)) ≡ false
-            → slots_of_chest chests.old index ≡ None }
-        requires some { is_chest (cell_of (slice_index_or store.old index 0)) ≡ true
-            → IsSome (slots_of_chest chests.old index) }
+        requires { CanPut store.old chests.old index code }
         ensures store { OnOk result (store.new ≡ slice_set store.old index code) }
         ensures chests { OnOk result (Changes chests.old chests.new index
             (begun (is_chest (cell_of code)))) }
@@ -121,13 +116,7 @@ fn put_in(
     index: u32,
     code: u8,
 ) -> Result<(), AllocError>
-    requires within { index < length store.old }
-    requires codes { All (λ each. each < code_count) store.old }
-    requires code { code < code_count }
-    requires none { is_chest (cell_of (slice_index_or store.old index 0)) ≡ false
-        → slots_of_chest chests.old index ≡ None }
-    requires some { is_chest (cell_of (slice_index_or store.old index 0)) ≡ true
-        → IsSome (slots_of_chest chests.old index) }
+    requires { CanPut store.old chests.old index code }
     ensures store { OnOk result (store.new ≡ slice_set store.old index code) }
     ensures chests { OnOk result (Changes chests.old chests.new index
         (begun (is_chest (cell_of code)))) }
@@ -150,13 +139,7 @@ fn put_first(
     index: u32,
     code: u8,
 ) -> Result<Arc<MachinePage>, AllocError>
-    requires within { index < length store.old }
-    requires codes { All (λ each. each < code_count) store.old }
-    requires code { code < code_count }
-    requires none { is_chest (cell_of (slice_index_or store.old index 0)) ≡ false
-        → slots_of_chest chests.old index ≡ None }
-    requires some { is_chest (cell_of (slice_index_or store.old index 0)) ≡ true
-        → IsSome (slots_of_chest chests.old index) }
+    requires { CanPut store.old chests.old index code }
     ensures store { OnOk result (store.new ≡ slice_set store.old index code) }
     ensures chests { OnOk result (Changes chests.old chests.new index
         (begun (is_chest (cell_of code)))) }

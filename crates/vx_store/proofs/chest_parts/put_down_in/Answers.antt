@@ -8,21 +8,20 @@ use Rattle.vx_store.specs.Codes.{cell_of, is_chest}
 use Rattle.vx_store.proofs.ChestParting.{parts_taken, same_there, part_changed, part_still, either_way}
 use Rattle.vx_store.proofs.chest_parts.put_down_in.Goals as goal
 
-pub put_down-requires-clause-none : goal.put_down-requires-clause-none
-put_down-requires-clause-none c =
+pub put_down-requires : goal.put_down-requires
+put_down-requires c =
     let old = (arc_value c.args.shared.now).items in
     let own = c.in_ok-parts.parts.now.items in
     let copied = parts_taken _ _ c.in_ok-parts.ensures.value in
     let part = c.index_mut.result.now in
-    λ other. same_there old own c.args.index c.part_of-number.result part part c.requires.parted copied c.part_of-number.ensures.value c.index_mut.ensures.value ∙ c.requires.none other
-
-pub put_down-requires-clause-some : goal.put_down-requires-clause-some
-put_down-requires-clause-some c =
-    let old = (arc_value c.args.shared.now).items in
-    let own = c.in_ok-parts.parts.now.items in
-    let copied = parts_taken _ _ c.in_ok-parts.ensures.value in
-    let part = c.index_mut.result.now in
-    λ chest. subst IsSome (sym (same_there old own c.args.index c.part_of-number.result part part c.requires.parted copied c.part_of-number.ensures.value c.index_mut.ensures.value)) (c.requires.some chest)
+    let there = same_there old own c.args.index c.part_of-number.result part part c.requires.parted copied c.part_of-number.ensures.value c.index_mut.ensures.value in
+    record {
+      within = c.requires.can.within;
+      codes = c.requires.can.codes;
+      coded = c.requires.can.coded;
+      none = λ other. there ∙ c.requires.can.none other;
+      some = λ chest. subst IsSome (sym there) (c.requires.can.some chest);
+    }
 
 pub returns-clause-parted : goal.returns-clause-parted
 returns-clause-parted c =

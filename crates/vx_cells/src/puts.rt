@@ -1,8 +1,6 @@
 //! Cells put down on the sectors of a world that stand in a slice.
-ghost use Rattle.std.specs.Prelude.{◌≡◌, ◌≢◌, true, false, Some, None, Ok, IsOk, OnOk};
-ghost use Rattle.std.specs.List.{All};
+ghost use Rattle.std.specs.Prelude.{◌≡◌, ◌≢◌, true, false, Some, None, Ok, OnOk};
 ghost use Rattle.vx_cells.specs.Maps.{AreSectors};
-ghost use Rattle.vx_store.specs.Codes.{is_chest};
 ghost use Rattle.vx_cells.specs.Wholes.{with_cell_on, with_cells_on};
 
 use crate::cells::Cells;

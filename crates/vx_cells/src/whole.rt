@@ -37,10 +37,9 @@ impl Drop for Whole {
 }
 
 impl Whole {
-    ghost use Rattle.std.specs.Prelude.{◌≢◌, IsOk};
+    ghost use Rattle.std.specs.Prelude.{◌≢◌};
     ghost use Rattle.vx_cells.specs.MapLaws.{IsFilled};
     ghost use Rattle.vx_cells.specs.Maps.{AreSectors};
-    ghost use Rattle.vx_store.specs.Codes.{is_chest};
     ghost use Rattle.vx_cells.specs.Wholes.{with_cells_on};
 
     /// A world of this size with nothing but air.

@@ -1,9 +1,8 @@
-ghost use Rattle.std.specs.Prelude.{◌≡◌, ◌<◌, ◌↔◌, ℕ, IsTrue, [], true, false, length, None, IsSome, slice_index_or, slice_set, IfOk, OnOk, OnErr};
+ghost use Rattle.std.specs.Prelude.{◌≡◌, ◌<◌, ◌↔◌, ℕ, IsTrue, [], IsSome, slice_set, IfOk, OnOk, OnErr};
 ghost use Rattle.std.specs.Arc.{arc_value};
-ghost use Rattle.std.specs.List.{All};
 ghost use Rattle.vx_store.specs.ChestParts.{chests_of, part_of, AreParted};
 ghost use Rattle.vx_store.specs.Chests.{slots_of_chest, Changes, SameSlots, begun, refilled};
-ghost use Rattle.vx_store.specs.Codes.{code_count, cell_of, is_chest};
+ghost use Rattle.vx_store.specs.Codes.{cell_of, is_chest};
 ghost use Rattle.vx_store.specs.Placing.{CanPut};
 ghost use Rattle.vx_store.specs.declared.chest_parts.TheConstants.{PARTS};
 ghost use Rattle.vx_store.specs.declared.stack.TheConstants.{SLOTS};

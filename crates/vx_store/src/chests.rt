@@ -1,4 +1,4 @@
-ghost use Rattle.std.specs.Prelude.{◌≡◌, ◌<◌, ◌↔◌, ℕ, IsTrue, [], false, if◌then◌else◌, None, Some, IsSome, IsOk, IfOk, OnOk, OnErr};
+ghost use Rattle.std.specs.Prelude.{◌≡◌, ◌<◌, ◌↔◌, ℕ, IsTrue, [], None, Some, IsSome, OnOk, OnErr};
 ghost use Rattle.vx_store.specs.declared.stack.TheConstants.{SLOTS};
 
 use crate::stack::{SLOTS, Slot};

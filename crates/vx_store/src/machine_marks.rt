@@ -1,6 +1,5 @@
-ghost use Rattle.std.specs.Prelude.{◌≡◌, ◌+◌, ◌*◌, ◌/◌, ◌%◌, ◌<◌, ℕ, List, true, false, nat_lt, length, replicate, None, IsSome, slice_index_or, slice_set, IfOk, OnOk, OnErr};
-ghost use Rattle.std.specs.List.{All};
-ghost use Rattle.vx_store.specs.Chests.{slots_of_chest, Changes, SameSlots, begun};
+ghost use Rattle.std.specs.Prelude.{◌≡◌, ◌+◌, ◌*◌, ◌/◌, ◌%◌, ◌<◌, ℕ, List, true, nat_lt, length, replicate, slice_index_or, slice_set, IfOk, OnOk, OnErr};
+ghost use Rattle.vx_store.specs.Chests.{Changes, SameSlots, begun};
 ghost use Rattle.vx_store.specs.Codes.{code_count, cell_of, is_chest};
 ghost use Rattle.vx_store.specs.MarkedPlaces.{marked_places};
 ghost use Rattle.vx_store.specs.MachineMarks.{words_of, AreMachineMarks};

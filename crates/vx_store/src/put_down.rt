@@ -1,9 +1,8 @@
 //! A byte put down at an index of a sector, and what that does to the chest there.
-ghost use Rattle.std.specs.Prelude.{◌≡◌, ◌<◌, true, false, length, None, IsSome, slice_index_or, slice_set, OnOk, OnErr};
+ghost use Rattle.std.specs.Prelude.{◌≡◌, ◌<◌, true, length, None, slice_set, OnOk, OnErr};
 ghost use Rattle.std.specs.Arc.{arc_value};
-ghost use Rattle.std.specs.List.{All};
 ghost use Rattle.vx_store.specs.Chests.{slots_of_chest, Changes, SameSlots, begun};
-ghost use Rattle.vx_store.specs.Codes.{code_count, cell_of, is_chest};
+ghost use Rattle.vx_store.specs.Codes.{cell_of, is_chest};
 ghost use Rattle.vx_store.specs.MachineMarks.{AreMachineMarks};
 ghost use Rattle.vx_store.specs.Placing.{CanPut};
 

@@ -1,8 +1,7 @@
-ghost use Rattle.std.specs.Prelude.{◌≡◌, ◌+◌, ◌*◌, ◌/◌, ◌%◌, ◌<◌, true, false, length, None, IsSome, slice_index_or, slice_set, IfOk, OnOk, OnErr};
+ghost use Rattle.std.specs.Prelude.{◌≡◌, ◌+◌, ◌*◌, ◌/◌, ◌%◌, ◌<◌, slice_set, IfOk, OnOk, OnErr};
 ghost use Rattle.std.specs.Arc.{arc_value};
-ghost use Rattle.std.specs.List.{All};
-ghost use Rattle.vx_store.specs.Chests.{slots_of_chest, Changes, SameSlots, begun};
-ghost use Rattle.vx_store.specs.Codes.{code_count, cell_of, is_chest};
+ghost use Rattle.vx_store.specs.Chests.{Changes, SameSlots, begun};
+ghost use Rattle.vx_store.specs.Codes.{cell_of, is_chest};
 ghost use Rattle.vx_store.specs.MachineMarks.{words_of, blank_page, AreMarksSet};
 ghost use Rattle.vx_store.specs.Placing.{CanPut};
 ghost use Rattle.vx_marks.specs.Marks.{is_marked, IsFirst, IsFirstMarked};

@@ -227,6 +227,18 @@ def idle(r):
     return head + ["tick"], ticks(20_000)
 
 
+def placed(r):
+    """A part placed or broken in each of 64 sectors before each of 1,000 ticks, half of them of machines."""
+    sectors = [(32 * x, 32 * z) for z in range(8) for x in range(8)]
+    body = []
+    for n in range(1000):
+        for west, north in sectors:
+            at = f"{west + r.randrange(32)} {r.randrange(4)} {north + r.randrange(32)}"
+            body.append(f"as ann break {at}" if r.random() < 0.3 else f"as ann place {at} {r.choice(PARTS)}")
+        body.append("tick")
+    return world(8) + ["tick"], body
+
+
 def dust(r):
     """9,600 rings of five dust on three layers, all of which run, and 200 ticks."""
     tiles = [(4 * k, y, 4 * j) for y in (1, 5, 9) for j in range(64) for k in range(64)]
@@ -342,6 +354,7 @@ SCRIPTS = {
     "works": works,
     "edits": edits,
     "idle": idle,
+    "placed": placed,
     "dust": dust,
     "no_region": no_region,
     "50_regions": fifty_regions,

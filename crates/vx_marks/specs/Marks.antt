@@ -1,5 +1,5 @@
 -- Marks on indices, a bit for each, in words of 64.
-use Rattle.std.specs.Prelude.{◌≡◌, ℕ, ◌*◌, ◌/◌, ◌%◌, ◌<◌, ◌≤◌, Bool, true, false, nat_eq, nat_lt, List, length, slice_index_or, Option, Some, None}
+use Rattle.std.specs.Prelude.{◌≡◌, ℕ, ◌*◌, ◌/◌, ◌%◌, ◌<◌, ◌≤◌, Bool, true, false, nat_eq, nat_lt, List, length, slice_index_or, if◌then◌else◌, Option, Some, None}
 use Rattle.std.specs.Int.{bit_at}
 
 -- the bit of a word is set
@@ -33,7 +33,7 @@ pub record AreFilled (words filled : List ℕ) : Type 0 where
   pub room : length words ≤ 64 * length filled
   pub each : (k : ℕ) → is_marked filled k ≡ nat_lt 0 (slice_index_or words k 0)
 
--- and whether any index may be marked
-pub record AreNoted (words filled : List ℕ) (has_any : Bool) : Type 0 where
-  pub each_word : AreFilled words filled
-  pub none : has_any ≡ false → (index : ℕ) → is_marked words index ≡ false
+-- the mark of one index becomes another or stays, and each other mark stays
+pub record IsMarkSet (old new : List ℕ) (index : ℕ) (marked : Bool) : Type 0 where
+  pub long : length new ≡ length old
+  pub each : (i : ℕ) → is_marked new i ≡ (if nat_eq i index then marked else is_marked old i)

@@ -1,7 +1,7 @@
 //! Sets of indices below a bound, kept as bits in words: marks, found in order.
 #![tactic(auto)]
 
-mod bits;
+mod lazy_page;
 mod marks;
 mod page;
 mod words;

@@ -1,119 +1,77 @@
-ghost use Rattle.std.specs.Prelude.{◌≡◌, ◌+◌, ◌*◌, ◌/◌, ◌%◌, ◌<◌, ℕ, false, nat_eq, length, replicate, if◌then◌else◌, IfOk};
-ghost use Rattle.vx_marks.specs.Marks.{is_marked, IsFirst, IsFirstMarked};
+ghost use Rattle.std.specs.Prelude.{◌≡◌, ◌*◌, ◌%◌, ◌<◌, ℕ, true, false, length, IfOk, OnOk, OnErr};
+ghost use Rattle.vx_marks.specs.Marks.{is_marked, IsFirstMarked, IsMarkSet};
+ghost use Rattle.vx_marks.specs.declared.page.TheConstants.{PAGE};
 
-use crate::bits::Bits;
+use crate::lazy_page::LazyPage;
+use crate::page::PAGE;
 use std::alloc::{AllocError, Global};
 use std::marker::Model;
 
-/// Which indices below a bound are marked. The marked ones are found in order, and what is not
-/// marked is passed 4,096 indices at a time, or all at once where none was ever marked.
-// The second level has a bit for each word of the first that has any.
+/// Which indices below a bound are marked, in pages of 4,096. A page takes no memory before an
+/// index of it is marked. The marked ones are found in order.
 #[derive(Drop)]
 pub struct Marks {
-    bits: Bits,
-    filled: Bits,
-    has_any: bool,
-    // How many are marked. No clause says so: only costs rest on it.
-    count: u32,
+    pages: Vec<LazyPage>,
 }
 
 impl Model for Marks {
     ghost use Rattle.std.specs.Prelude.{ℕ, List};
-    ghost use Rattle.vx_marks.specs.Marks.{AreNoted};
+    ghost use Rattle.vx_marks.specs.Pages.{joined, ArePages};
 
     ghost Value = { List ℕ };
 
-    ghost view = { λ m. m.bits };
+    ghost view = { λ m. joined (λ page. page) m.pages.items };
 
-    ghost invariant = { λ m. AreNoted m.bits m.filled m.has_any };
+    ghost invariant = { λ m. ArePages (λ page. page) m.pages.items };
 }
 
 impl Marks {
     /// Room for so many indices, none of which is marked.
     pub fn new(alloc: Global, count: u32) -> Result<Marks, AllocError>
-        requires { count % 64 ≡ 0 }
-        ensures none { IfOk result (λ marks. (64 * length marks ≡ count)
-            × ((i : ℕ) → is_marked marks i ≡ false)) }
-        ensures blank { IfOk result (λ marks. marks ≡ replicate (count / 64) 0) }
+        requires { count % PAGE ≡ 0 }
+        ensures room { IfOk result (λ marks. 64 * length marks ≡ count) }
+        ensures none { IfOk result (λ marks. (i : ℕ) → is_marked marks i ≡ false) }
     {
-        let words = count / 64;
-        Ok(Marks {
-            bits: Bits::new(alloc, words)?,
-            filled: Bits::new(alloc, words.div_ceil(64))?,
-            has_any: false,
-            count: 0,
-        })
+        let mut pages = Vec::with_capacity(alloc, (count / PAGE) as usize)?;
+        for _ in 0..count / PAGE {
+            pages.push(LazyPage::new())?;
+        }
+        Ok(Marks { pages })
     }
 
-    /// Marks an index, or takes its mark away. It takes no memory.
-    pub fn set(&mut self, index: u32, marked: bool)
+    /// Marks an index. It takes memory for the first one of a page.
+    pub fn mark(&mut self, alloc: Global, index: u32) -> Result<(), AllocError>
         requires { index < 64 * length self.old }
-        ensures length { length self.new ≡ length self.old }
-        ensures marks { (i : ℕ) → is_marked self.new i
-            ≡ (if nat_eq i index then marked else is_marked self.old i) }
+        ensures ok { OnOk result (IsMarkSet self.old self.new index true) }
+        ensures err { OnErr result (self.new ≡ self.old) }
     {
-        if self.bits.has(index) == marked {
-            return;
-        }
-        self.bits.set(index, marked);
-        self.has_any = self.has_any || marked;
-        self.count = if marked {
-            self.count.saturating_add(1)
-        } else {
-            self.count.saturating_sub(1)
-        };
-        let word = index / 64;
-        self.filled.set(word, self.bits.has_marks(word));
+        self.pages[(index / PAGE) as usize].mark(alloc, index % PAGE)
     }
 
     /// Whether an index is marked. It takes no memory.
     pub fn has(&self, index: u32) -> bool
         ensures { result ≡ is_marked self.now index }
     {
-        self.bits.has(index)
+        let number = (index / PAGE) as usize;
+        if self.pages.len() <= number {
+            return false;
+        }
+        self.pages[number].has(index % PAGE)
     }
 
-    /// The first marked index from this one on.
+    /// The first marked index from this one on. It costs a look at each page without marks.
     pub fn first_from(&self, from: u32) -> Option<u32>
         ensures { IsFirstMarked self.now from result }
     {
-        if !self.has_any {
-            return None;
+        let end = PAGE * self.pages.len() as u32;
+        let mut next = from;
+        while next < end {
+            let number = next / PAGE;
+            if let Some(index) = self.pages[number as usize].first_from(next % PAGE) {
+                return Some(PAGE * number + index);
+            }
+            next = PAGE * (number + 1);
         }
-        if self.bits.count() <= from {
-            return None;
-        }
-        if let Some(index) = self.bits.first_in_word(from) {
-            return Some(index);
-        }
-        let word = self.filled.first_from(from / 64 + 1)?;
-        Some(self.bits.first_of_word(word))
-    }
-
-    /// The first marked index from this one on, in the same word of 64.
-    #[inline(always)]
-    pub fn first_in_word(&self, from: u32) -> Option<u32>
-        requires { from < 64 * length self.now }
-        ensures { IsFirst (is_marked self.now) (64 * (from / 64 + 1)) from result }
-    {
-        self.bits.first_in_word(from)
-    }
-
-    /// How many indices are marked: what going over all marks costs. No clause tells the number,
-    /// since nothing but costs rests on it.
-    pub fn count(&self) -> u32 {
-        self.count
-    }
-
-    /// A copy.
-    pub fn try_clone(&self) -> Result<Marks, AllocError>
-        ensures { IfOk result (λ copy. copy ≡ self.now) }
-    {
-        Ok(Marks {
-            bits: self.bits.try_clone()?,
-            filled: self.filled.try_clone()?,
-            has_any: self.has_any,
-            count: self.count,
-        })
+        None
     }
 }

@@ -1,5 +1,5 @@
-ghost use Rattle.std.specs.Prelude.{◌≡◌, ◌+◌, ◌*◌, ◌/◌, ◌<◌, ℕ, nat_eq, length, replicate, if◌then◌else◌};
-ghost use Rattle.vx_marks.specs.Marks.{is_marked, IsFirst, IsFirstMarked};
+ghost use Rattle.std.specs.Prelude.{◌≡◌, ◌+◌, ◌*◌, ◌/◌, ◌<◌, ℕ, replicate};
+ghost use Rattle.vx_marks.specs.Marks.{is_marked, IsFirst, IsFirstMarked, IsMarkSet};
 ghost use Rattle.vx_marks.specs.declared.page.TheConstants.{PAGE};
 
 use crate::words;
@@ -42,13 +42,18 @@ impl Page {
     /// Marks an index, or takes its mark away.
     pub fn set(&mut self, index: u32, marked: bool)
         requires { index < PAGE }
-        ensures length { length self.new ≡ length self.old }
-        ensures marks { (i : ℕ) → is_marked self.new i
-            ≡ (if nat_eq i index then marked else is_marked self.old i) }
+        ensures { IsMarkSet self.old self.new index marked }
     {
         words::set_mark(&mut self.words, index, marked);
         let word = index / 64;
         words::set_mark(&mut self.filled, word, words::has_marks(&self.words, word));
+    }
+
+    /// Whether an index is marked. Past the last one none is.
+    pub fn has(&self, index: u32) -> bool
+        ensures { result ≡ is_marked self.now index }
+    {
+        words::has_mark(&self.words, index)
     }
 
     /// The first marked index from this one on.

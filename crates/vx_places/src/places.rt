@@ -5,6 +5,7 @@ ghost use Rattle.vx_geom.specs.declared.pos.Pos.{Pos};
 ghost use Rattle.vx_geom.specs.Places.{positions};
 ghost use Rattle.vx_geom.specs.Sizes.{AreSizes, span, sector_count, sector_cells, is_inside};
 ghost use Rattle.vx_cells.specs.Maps.{cell_on};
+ghost use Rattle.vx_marks.specs.declared.page.TheConstants.{PAGE};
 ghost use Rattle.vx_places.specs.Around.{is_component_around, at_number, layer_of, row_of, Adds};
 ghost use Rattle.vx_places.specs.Places.{marked_in, is_at, steps_between, HasRoom};
 
@@ -17,7 +18,7 @@ use vx_marks::Marks;
 use vx_store::marked_places;
 
 /// A set of positions of a world, kept by sector. A sector where nothing was marked takes no memory
-/// beside its entry.
+/// beside its entry, and neither do 4,096 places of a sector of which none was.
 #[derive(Drop)]
 pub struct Places {
     bounds: Bounds,
@@ -75,7 +76,7 @@ impl Places {
         }
     }
 
-    /// Adds a position, if it is of the world. Memory is wanted for the first of a sector.
+    /// Adds a position, if it is of the world. Memory is wanted for the first of 4,096 places.
     pub fn mark(&mut self, alloc: Global, p: Pos) -> Result<(), AllocError>
         ensures sizes { self.new.sizes ≡ self.old.sizes }
         ensures marked { OnOk result ((q : Pos) → is_at self.new q
@@ -247,7 +248,7 @@ fn mark_in(
     count: u32,
     index: u32,
 ) -> Result<(), AllocError>
-    requires count { count % 64 ≡ 0 }
+    requires count { count % PAGE ≡ 0 }
     requires index { index < count }
     requires room { HasRoom count sector.old }
     ensures room { HasRoom count sector.new }
@@ -255,13 +256,10 @@ fn mark_in(
         ≡ (if nat_eq i index then true else marked_in sector.old i)) }
 {
     match sector {
-        Some(marks) => {
-            marks.set(index, true);
-            Ok(())
-        }
+        Some(marks) => marks.mark(alloc, index),
         None => {
             let mut marks = Marks::new(alloc, count)?;
-            marks.set(index, true);
+            marks.mark(alloc, index)?;
             *sector = Some(marks);
             Ok(())
         }

@@ -1,10 +1,9 @@
 -- Marks of components of machines and of devices, in pages of 4,096 indices.
-use Rattle.std.specs.Prelude.{◌≡◌, ℕ, ◌*◌, ◌^◌, ◌<◌, Bool, nat_eq, List, length, replicate, slice_index_or, if◌then◌else◌}
-use Rattle.std.specs.List.{All, flat_map}
+use Rattle.std.specs.Prelude.{◌≡◌, ℕ, ◌*◌, Bool, List, length, replicate, slice_index_or}
 use Rattle.vx_block.specs.declared.cell.Cell.{Cell}
 use Rattle.vx_block.specs.Components.{is_device, is_component}
-use Rattle.vx_marks.specs.Marks.{is_marked}
-use Rattle.vx_marks.specs.declared.page.TheConstants.{PAGE}
+use Rattle.vx_marks.specs.Marks.{is_marked, IsMarkSet}
+use Rattle.vx_marks.specs.Pages as pages
 use Rattle.vx_store.specs.Codes.{cell_of}
 use Rattle.vx_store.specs.declared.mark_kind.MarkKind.{MarkKind}
 use Rattle.vx_store.specs.declared.mark_kind.MarkKind.TheVariants.{Component, Device}
@@ -22,26 +21,17 @@ words_of Device marks = marks.devices
 unfoldable pub blank_page : MarkWords
 blank_page = record { components = replicate 64 0; devices = replicate 64 0 }
 
--- a page has 64 words of either
-pub record IsPage (page : MarkWords) : Type 0 where
-  pub components : length page.components ≡ 64
-  pub devices : length page.devices ≡ 64
-
 -- pages one after another
 abbrev pub joined : List MarkWords → MarkWords
-joined pages = record {
-  components = flat_map (λ page. page.components) pages;
-  devices = flat_map (λ page. page.devices) pages;
+joined all = record {
+  components = pages.joined (λ page. page.components) all;
+  devices = pages.joined (λ page. page.devices) all;
 }
 
-pub record ArePages (pages : List MarkWords) : Type 0 where
-  pub few : PAGE * length pages < 2 ^ 32
-  pub each : All IsPage pages
-
--- the mark of one index becomes another or stays, and each other mark stays
-pub record IsMarkSet (old new : List ℕ) (index : ℕ) (marked : Bool) : Type 0 where
-  pub long : length new ≡ length old
-  pub each : (i : ℕ) → is_marked new i ≡ (if nat_eq i index then marked else is_marked old i)
+-- pages of marks of either kind
+pub record ArePages (all : List MarkWords) : Type 0 where
+  pub components : pages.ArePages (λ (page : MarkWords). page.components) all
+  pub devices : pages.ArePages (λ (page : MarkWords). page.devices) all
 
 -- the marks of one index become those of a byte's cell
 pub record AreMarksSet (old new : MarkWords) (index code : ℕ) : Type 0 where

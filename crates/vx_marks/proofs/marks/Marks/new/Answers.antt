@@ -1,17 +1,26 @@
-use Rattle.std.proofs.Common.{ℕ, ◌/◌, arith}
+use Rattle.std.proofs.Common.{ℕ, ◌*◌, length, replicate, refl, ap, ◌∙◌, arith}
 use Rattle.std.proofs.lemmas.List.{length-replicate}
-use Rattle.vx_marks.proofs.Marking.{none_marked, none_filled}
+use Rattle.vx_marks.specs.Marks.{is_marked}
+use Rattle.vx_marks.proofs.Marking.{none_marked}
+use Rattle.vx_marks.proofs.Paging.{same_pages, blank_joined}
 use Rattle.vx_marks.proofs.marks.Marks.new.Goals as goal
 
 pub invariant_of-result : goal.invariant_of-result
 invariant_of-result c =
-    rw (c.in_ok-new.ensures, c.in_ok-new-2.ensures) (record {
-      each_word = none_filled (c.args.count / 64) c.div_ceil.result (omega (arith, c.div_ceil.ensures));
-      none = λ empty. none_marked (c.args.count / 64);
-    })
+    rw c.loop.invariant (same_pages (λ page. page) (replicate 64 0) c.loop.counter (length-replicate {A = ℕ} 64 0) (omega arith))
+
+pub returns-clause-room : goal.returns-clause-room
+returns-clause-room c =
+    rw c.loop.invariant
+    (omega (
+      arith,
+      ap length (blank_joined (λ page. page) (replicate 64 0) c.loop.counter refl),
+      length-replicate {A = ℕ} (64 * c.loop.counter) 0,
+      c.requires,
+    ))
 
 pub returns-clause-none : goal.returns-clause-none
-returns-clause-none c = rw c.in_ok-new.ensures (
-  omega (arith, length-replicate {A = ℕ} (c.args.count / 64) 0, c.requires),
-  none_marked (c.args.count / 64),
-)
+returns-clause-none c i =
+    rw c.loop.invariant
+    (ap (λ words. is_marked words i) (blank_joined (λ page. page) (replicate 64 0) c.loop.counter refl)
+    ∙ none_marked (64 * c.loop.counter) i)

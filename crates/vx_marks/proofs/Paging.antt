@@ -23,7 +23,7 @@ module _ {X : Type 0} (f : X → List ℕ) where
       ∙ ap (λ words. replicate 64 0 ++ words) (blank_joined page n blank)
       ∙ replicate-append-replicate 64 (64 * n) 0 ∙ ap (λ k. replicate k 0) more
 
-  pub joined_length : (pages : List X) → AreWhole f pages → length (flat_map f pages) ≡ 64 * length pages
+  joined_length : (pages : List X) → AreWhole f pages → length (flat_map f pages) ≡ 64 * length pages
   joined_length [] whole = refl
   joined_length (page ∷ pages) whole =
       omega (
@@ -33,6 +33,7 @@ module _ {X : Type 0} (f : X → List ℕ) where
         joined_length pages (rest_whole page pages whole),
       )
 
+  -- the word of a page among those of all
   word_at : (pages : List X) (n k : ℕ) (d : X) → AreWhole f pages → n < length pages → k < 64
       → get_or (flat_map f pages) (64 * n + k) 0 ≡ get_or (f (get_or pages n d)) k 0
   word_at [] n k d whole near low = absurd (omega arith)

@@ -13,6 +13,7 @@ pub record MarkWords : Type 0 where
   pub components : List ℕ
   pub devices : List ℕ
 
+-- those of one kind
 abbrev pub words_of : MarkKind → MarkWords → List ℕ
 words_of Component marks = marks.components
 words_of Device marks = marks.devices

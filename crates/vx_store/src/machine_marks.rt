@@ -87,9 +87,10 @@ impl MachineMarks {
             × SameSlots chests.old chests.new) }
         ensures marks { AreMachineMarks store.new self.new }
     {
-        let was = is_component(store.get(index));
+        let was = u32::from(is_component(store.get(index)));
         self.pages[(index / PAGE) as usize].put_down(alloc, store, chests, index, code)?;
-        self.count = counted(self.count, was, is_component(code));
+        let is = u32::from(is_component(code));
+        self.count = self.count.saturating_add(is).saturating_sub(was);
         Ok(())
     }
 
@@ -162,12 +163,4 @@ impl Clone for MachineMarks {
             count: self.count,
         })
     }
-}
-
-// How many components there are once one cell has become another, of which each was or is one.
-fn counted(count: u32, was: bool, is: bool) -> u32 {
-    if was {
-        return if is { count } else { count.saturating_sub(1) };
-    }
-    if is { count.saturating_add(1) } else { count }
 }

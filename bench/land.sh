@@ -136,8 +136,8 @@ sweep_named() {
     place) sweep place sweep_place "regions at a place, 20,000 commands" 1 2 4 8 16 32 64 128 ;;
     pistons) sweep pistons sweep_pistons "regions over 1,000 pistons, 50 ticks" 0 500 1000 1500 2000 2500 3000 3500 4000 ;;
     edits_a_tick) sweep edits sweep_edits "edits before each of 2,000 ticks, 4,000 regions" 0 1 5 20 100 ;;
-    members) sweep members sweep_members "members of a region, 20,000 other edits of it" 1 10 100 1000 5000 20000 ;;
-    names) sweep names sweep_names "members of a region, 2,000 edits that add or drop one" 1 10 100 1000 5000 20000 ;;
+    members) sweep members sweep_members "members of a region, 20,000 other edits of it" 1 10 100 1000 5000 ;;
+    names) sweep names sweep_names "members of a region, 2,000 edits that add or drop one" 1 10 100 1000 5000 ;;
     sectors) sweep sectors sweep_sectors "sectors, 40,000 idle ticks" 1 4 16 36 64 ;;
     awake) sweep awake sweep_awake "% of 4,800 dust awake, 1,000 ticks" 0.1 0.3 1 3 10 30 100 ;;
     loops) sweep loops sweep_loops "of 961 rings of 24 dust run, 200 ticks" 1 4 16 64 256 961 ;;

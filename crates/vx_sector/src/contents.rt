@@ -60,7 +60,7 @@ impl PartialEq for Contents {
 
     ghost laws = { partial_equiv_from_equiv slots_equiv };
 
-    #[tactic(auto, unfolding(vx_cells::specs::SameSlots::same_slots))]
+    #[tactic(auto, unfolding(vx_store::specs::SameSlots::same_slots))]
     fn eq(&self, other: &Contents) -> bool {
         *self.slots == *other.slots
     }

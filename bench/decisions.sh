@@ -8,7 +8,7 @@ trap 'rm -rf "$work"' EXIT
 cp -a "$root/crates" "$root/crates.txt" "$root/HANDLES" "$work/"
 mkdir -p "$work/crates/bench_decisions/src"
 cp "$root/bench/decisions.rt.in" "$work/crates/bench_decisions/src/main.rt"
-echo 'bench_decisions: vx_base vx_geom vx_flag vx_region vx_decide arrayvec indexmap thiserror anyhow' >>"$work/crates.txt"
+echo 'bench_decisions: vx_base vx_geom vx_flag vx_name vx_region vx_decide arrayvec indexmap thiserror anyhow' >>"$work/crates.txt"
 cd "$work/crates/bench_decisions"
 rt run </dev/null >"$work/first" 2>"$work/log" || { cat "$work/log" >&2; exit 1; }
 ./out/bench_decisions | column -t

@@ -9,9 +9,10 @@ NameIsRead = (text name : List ℕ) → read_name text ≡ Some name → IsName 
 abbrev pub NameReadsAsItself : Type 0
 NameReadsAsItself = (name : List ℕ) → IsName name → read_name name ≡ Some name
 
--- the same of ids
+-- what is read is an id
 abbrev pub IdIsRead : Type 0
 IdIsRead = (text id : List ℕ) → read_id text ≡ Some id → IsId id
 
+-- and an id is read as itself
 abbrev pub IdReadsAsItself : Type 0
 IdReadsAsItself = (id : List ℕ) → IsId id → read_id id ≡ Some id

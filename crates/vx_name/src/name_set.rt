@@ -161,7 +161,8 @@ fn drop_from(these: &mut IndexSet<Name>, name: &Name)
 
 // The first name alone.
 fn first(alloc: Global, name: Name) -> Result<Arc<IndexSet<Name>>, AllocError>
-    ensures { IfOk result (λ shared. texts (arc_value shared).keys ≡ names_with [] name.text.bytes) }
+    ensures { IfOk result (λ shared.
+        texts (arc_value shared).keys ≡ names_with [] name.text.bytes) }
 {
     let mut names = IndexSet::new(alloc);
     add_to(&mut names, name)?;

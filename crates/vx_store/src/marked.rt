@@ -8,7 +8,8 @@ use std::alloc::{AllocError, Global};
 use vx_geom::{Bounds, Pos};
 use vx_marks::Marks;
 
-/// The positions of a sector whose indices are marked, in order. It costs what is marked.
+/// The positions of a sector whose indices are marked, in order. It costs what is marked, and a
+/// look at each 4,096 of its cells.
 pub fn marked_places(
     alloc: Global,
     bounds: Bounds,
@@ -22,7 +23,8 @@ pub fn marked_places(
     places_in_order(alloc, bounds, sector, marks)
 }
 
-/// The same of any marks that are found in order.
+/// The positions of a sector whose indices are marked, by whatever finds its marks in order. It
+/// costs what is marked, and what it takes to pass over the rest.
 pub fn places_in_order<M: InOrder>(
     alloc: Global,
     bounds: Bounds,

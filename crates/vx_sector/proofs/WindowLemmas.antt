@@ -10,7 +10,7 @@ use Rattle.vx_sector.specs.declared.effect.Effect.{Effect}
 use Rattle.vx_cells.specs.SectorCells.{SectorCells, holds}
 use Rattle.vx_policy.specs.declared.version.Version.{Version}
 use Rattle.vx_region.specs.Regions.{Regions}
-use Rattle.vx_sector.specs.SectorData.{SectorData, SeatData, EntryData, FreshData, entry_of, sector_data}
+use Rattle.vx_sector.specs.SectorData.{SectorData, SeatData, EntryData, FreshData, WindowData, IsFresh, fresh_of, sector_of}
 use Rattle.vx_sector.specs.Commands.{place_of}
 use Rattle.vx_sector.specs.Acting.{rules_answer, applied, effect_by, cells_by}
 use Rattle.vx_sector.specs.Windows.{cells_after, IsWindow, IsSector, most_entries, count_of, is_full, answer_of, recorded, renewed, sector_after}
@@ -41,16 +41,16 @@ sector_recorded s entry sector next room = record {
   most = omega (arith, length-append s.entries (entry ∷ []));
 }
 
--- n is s, which is t, with something done at a position, and one more entry
-pub is_recorded_as : (s t n : SectorData) (entry : EntryData) (p : Pos) (effect : Effect)
-    → s ≡ t → p ≡ place_of entry.cmd → effect ≡ effect_by t.cells entry.cmd entry.answer
-    → n.base ≡ s.base → n.version ≡ s.version → n.closed ≡ s.closed → n.cells ≡ applied s.cells p effect → n.entries ≡ s.entries ++ entry ∷ []
-    → n ≡ recorded s entry
-is_recorded_as s t n entry p effect same there does base version closed cells entries =
-    let does_here : effect ≡ effect_by s.cells entry.cmd entry.answer = subst (λ (r : SectorData). effect ≡ effect_by r.cells entry.cmd entry.answer)
-    (sym same) does in
-    let cells_here : n.cells ≡ cells_by s.cells entry.cmd entry.answer = rw (← does_here, ← there) cells in
-    λ i. record { base = base i; cells = cells_here i; version = version i; entries = entries i; closed = closed i }
+-- a window in which the entry was recorded, with what it does, is that of the sector
+pub recorded_in : (window was : WindowData) (closed : ℕ) (s : SectorData) (entry : EntryData) (effect : Effect)
+    → window ≡ was → sector_of was closed ≡ s → effect ≡ effect_by s.cells entry.cmd entry.answer
+    → sector_of (record window { cells = applied window.cells (place_of entry.cmd) effect; entries = window.entries ++ entry ∷ [] }) closed
+    ≡ recorded (sector_of was closed) entry
+recorded_in window was closed s entry effect same view does =
+    let does_here : effect ≡ effect_by was.cells entry.cmd entry.answer = subst (λ (r : SectorData). effect ≡ effect_by r.cells entry.cmd entry.answer)
+    (sym view) does in
+    ap (λ (w : WindowData). sector_of (record w { cells = applied w.cells (place_of entry.cmd) effect; entries = w.entries ++ entry ∷ [] }) closed) same
+    ∙ ap (λ e. record (sector_of was closed) { cells = applied was.cells (place_of entry.cmd) e; entries = was.entries ++ entry ∷ [] }) does_here
 
 -- and so it is a sector
 pub is_sector_too : (s t n : SectorData) (entry : EntryData) → s ≡ t → IsSector s → IsNext t.version.policy t.cells entry
@@ -60,15 +60,6 @@ is_sector_too s t n entry same sector next room whole =
     let next_here : IsNext s.version.policy s.cells entry = subst (λ (r : SectorData). IsNext r.version.policy r.cells entry) (sym same) next in
     let room_here : count_of s < most_entries = subst (λ (r : SectorData). count_of r < most_entries) (sym same) room in
     subst IsSector (sym whole) (sector_recorded s entry sector next_here room_here)
-
--- both at once
-pub sector_changed : (s t n : SectorData) (entry : EntryData) (p : Pos) (effect : Effect)
-    → s ≡ t → IsSector s → IsNext t.version.policy t.cells entry → count_of t < most_entries → p ≡ place_of entry.cmd
-    → effect ≡ effect_by t.cells entry.cmd entry.answer
-    → n.base ≡ s.base → n.version ≡ s.version → n.closed ≡ s.closed → n.cells ≡ applied s.cells p effect → n.entries ≡ s.entries ++ entry ∷ []
-    → IsSector n
-sector_changed s t n entry p effect same sector next room there does base version closed cells entries =
-    is_sector_too s t n entry same sector next room (is_recorded_as s t n entry p effect same there does base version closed cells entries)
 
 -- what a command leaves is a sector
 pub command_keeps_sector : (s : SectorData) (seat : SeatData) (cmd : Cmd) → IsSector s → IsSector (sector_after s seat cmd (answer_of s seat cmd))
@@ -82,28 +73,22 @@ command_keeps_sector s seat cmd sector = elim (cases_Bool (holds s.cells (place_
   ]
 ]
 
--- how many entries there are with those of the windows before
-pub counted : (entries : Vec Entry Global) (closed n : ℕ) → n ≡ vec_len entries → closed + n ≡ length (map entry_of entries.items) + closed
-counted entries closed n same = omega (arith, length-map entries.items entry_of, entries.ok.0)
-
--- a window with no entry yet over cells that stand twice
-pub begun : (base cells : SectorCells) (version : Version) (entries : List Entry) (closed : ℕ) → base ≡ cells → entries ≡ [] → closed ≤ most_entries
-    → IsSector (sector_data base cells version entries closed)
-begun base cells version entries closed same none most = subst (λ l. IsSector (sector_data base cells version l closed)) (sym none) (record {
+-- a sector whose window has no entry yet
+pub begun : (window : WindowData) (closed : ℕ) → IsFresh window → closed ≤ most_entries → IsSector (sector_of window closed)
+begun window closed fresh most = subst (λ entries. IsSector (sector_of (record window { entries = entries }) closed)) (sym fresh.none) (record {
   window = tt;
-  cells = sym same;
+  cells = sym fresh.same;
   most = omega (arith, most);
 })
 
 -- and it is the next window of a sector that had so many entries
-pub is_renewed : (base cells : SectorCells) (version : Version) (entries : List Entry) (closed : ℕ) (old : SectorData) (fresh : FreshData)
-    → base ≡ cells → entries ≡ []
-    → record { cells = cells; version = version } ≡ fresh → closed ≡ count_of old → sector_data base cells version entries closed ≡ renewed old fresh
+pub is_renewed : (window : WindowData) (closed : ℕ) (old : SectorData) (fresh : FreshData) → IsFresh window → fresh_of window ≡ fresh → closed ≡ count_of old
+    → sector_of window closed ≡ renewed old fresh
 unfolding renewed
-is_renewed base cells version entries closed old fresh same none view count = λ i. record {
-  base = (same ∙ ap (λ (f : FreshData). f.cells) view) i;
+is_renewed window closed old fresh begins view count = λ i. record {
+  base = (begins.same ∙ ap (λ (f : FreshData). f.cells) view) i;
   cells = (view i).cells;
   version = (view i).version;
-  entries = map entry_of (none i);
+  entries = begins.none i;
   closed = count i;
 }

@@ -1,4 +1,4 @@
-use Rattle.std.specs.Prelude.{ℕ, List, Result, map}
+use Rattle.std.specs.Prelude.{◌≡◌, ℕ, List, [], Result}
 use Rattle.vx_cells.specs.SectorCells.{SectorCells}
 use Rattle.vx_policy.specs.declared.version.Version.{Version}
 use Rattle.vx_sector.specs.declared.cmd.Cmd.{Cmd}
@@ -17,6 +17,14 @@ pub record EntryData : Type 0 where
   pub seat : SeatData
   pub cmd : Cmd
   pub answer : Result Reply Refusal
+
+-- a window: the cells as it began and as they are, the version that judges its commands, and their
+-- record
+pub record WindowData : Type 0 where
+  pub base : SectorCells
+  pub cells : SectorCells
+  pub version : Version
+  pub entries : List EntryData
 
 -- what a window begins with: the cells, and the version that judges its commands
 pub record FreshData : Type 0 where
@@ -40,12 +48,21 @@ seat_of seat = record { number = seat.number; name = seat.name.text.bytes }
 abbrev pub entry_of : Entry → EntryData
 entry_of entry = record { seat = seat_of entry.seat; cmd = entry.cmd; answer = entry.answer }
 
--- a sector by its parts
-abbrev pub sector_data : SectorCells → SectorCells → Version → List Entry → ℕ → SectorData
-sector_data base cells version entries closed = record {
-  base = base;
-  cells = cells;
-  version = version;
-  entries = map entry_of entries;
+-- a sector by its window, and how many commands were recorded in the windows before
+abbrev pub sector_of : WindowData → ℕ → SectorData
+sector_of window closed = record {
+  base = window.base;
+  cells = window.cells;
+  version = window.version;
+  entries = window.entries;
   closed = closed;
 }
+
+-- what a window begins with
+abbrev pub fresh_of : WindowData → FreshData
+fresh_of window = record { cells = window.cells; version = window.version }
+
+-- nothing is recorded in the window, and so its cells are those with which it began
+pub record IsFresh (window : WindowData) : Type 0 where
+  pub same : window.base ≡ window.cells
+  pub none : window.entries ≡ []

@@ -1,7 +1,6 @@
 ghost use Rattle.std.specs.Prelude.{◌≡◌, IfOk};
 
-use crate::entry::Entry;
-use crate::judge::Judge;
+use crate::window::Window;
 use std::alloc::{AllocError, Global};
 use std::marker::Model;
 use vx_cells::Cells;
@@ -12,21 +11,18 @@ use vx_policy::Version;
 /// memory and beginning does not.
 #[derive(Drop)]
 pub struct Fresh {
-    pub(crate) base: Cells,
-    pub(crate) cells: Cells,
-    pub(crate) judge: Judge,
-    pub(crate) entries: Vec<Entry>,
+    pub(crate) window: Box<Window>,
 }
 
 impl Model for Fresh {
-    ghost use Rattle.std.specs.Prelude.{◌≡◌, []};
-    ghost use Rattle.vx_sector.specs.SectorData.{FreshData};
+    ghost use Rattle.std.specs.Prelude.{box_value};
+    ghost use Rattle.vx_sector.specs.SectorData.{FreshData, WindowData, IsFresh, fresh_of};
 
     ghost Value = { FreshData };
 
-    ghost view = { λ a. record { cells = a.cells; version = a.judge } };
+    ghost view = { λ a. fresh_of (box_value {X = WindowData} a.window) };
 
-    ghost invariant = { λ a. (a.base ≡ a.cells) × (a.entries.items ≡ []) };
+    ghost invariant = { λ a. IsFresh (box_value {X = WindowData} a.window) };
 }
 
 impl Fresh {
@@ -54,10 +50,7 @@ impl Fresh {
             fresh ≡ record { cells = cells; version = version.now }) }
     {
         Ok(Fresh {
-            base: cells.try_clone()?,
-            cells,
-            judge: Judge::new(alloc, version)?,
-            entries: Vec::new(alloc),
+            window: Box::new(alloc, Window::new(alloc, cells, version)?)?,
         })
     }
 }

@@ -15,6 +15,7 @@ mod refusal;
 mod reply;
 mod seat;
 mod sector;
+mod window;
 
 pub use cmd::Cmd;
 pub use contents::Contents;

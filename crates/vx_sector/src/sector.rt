@@ -1,4 +1,4 @@
-ghost use Rattle.std.specs.Prelude.{◌≡◌, ◌≢◌, ◌≤◌, ◌<◌, ◌⊎◌, ◌↔◌, true, false, [], map, Ok, Err, IfOk, IfErr, OnOk, OnErr};
+ghost use Rattle.std.specs.Prelude.{◌≡◌, ◌≢◌, ◌≤◌, ◌<◌, ◌⊎◌, ◌↔◌, true, false, [], box_value, map, Ok, Err, IfOk, IfErr, OnOk, OnErr};
 ghost use Rattle.vx_store.specs.declared.stack.TheConstants.{SLOTS};
 ghost use Rattle.vx_block.specs.Part.{part_cell};
 ghost use Rattle.vx_store.specs.Codes.{is_chest};
@@ -8,21 +8,19 @@ ghost use Rattle.vx_sector.specs.Commands.{place_of};
 ghost use Rattle.vx_sector.specs.SectorData.{seat_of, entry_of};
 ghost use Rattle.vx_sector.specs.Windows.{IsWindow, cells_after, most_entries, count_of, is_recorded, is_full, put_in, CanTamper};
 
-use crate::acting::outcome_of;
 use crate::cmd::Cmd;
 use crate::effect::Effect;
 use crate::entry::Entry;
 use crate::fresh::Fresh;
-use crate::judge::Judge;
-use crate::outcome::Outcome;
 use crate::refusal::Refusal;
 use crate::reply::Reply;
 use crate::seat::Seat;
+use crate::window::Window;
 use std::alloc::AllocError;
 use std::marker::Model;
 use std::mem;
-use vx_block::{Cell, Part};
-use vx_cells::{Cells, Slot};
+use vx_block::Part;
+use vx_cells::Cells;
 use vx_geom::Pos;
 use vx_policy::Version;
 
@@ -32,33 +30,29 @@ pub const MAX_ENTRIES: u64 = 1_099_511_627_776;
 /// One sector of the world: its cells, the version of the policy that judges the commands of its
 /// window, and their record.
 pub struct Sector {
-    base: Cells,
-    cells: Cells,
-    judge: Judge,
-    entries: Vec<Entry>,
+    // In a place of its own, so that a tick that takes sectors out and puts them back moves little.
+    window: Box<Window>,
     closed: u64,
 }
 
 impl Model for Sector {
-    ghost use Rattle.vx_sector.specs.SectorData.{SectorData, sector_data};
+    ghost use Rattle.std.specs.Prelude.{box_value};
+    ghost use Rattle.vx_sector.specs.SectorData.{SectorData, WindowData, sector_of};
     ghost use Rattle.vx_sector.specs.Windows.{IsSector};
 
     ghost Value = { SectorData };
 
-    ghost view = { λ a. sector_data a.base a.cells a.judge a.entries.items a.closed };
+    ghost view = { λ a. sector_of (box_value {X = WindowData} a.window) a.closed };
 
     ghost invariant = { λ a.
-        IsSector (sector_data a.base a.cells a.judge a.entries.items a.closed) };
+        IsSector (sector_of (box_value {X = WindowData} a.window) a.closed) };
 }
 
 // Written out, so that what is above this crate need not prove how its parts are let go.
 impl Drop for Sector {
     fn drop(self) {
         let Sector {
-            base: _base,
-            cells: _cells,
-            judge: _judge,
-            entries: _entries,
+            window: _window,
             closed: _,
         } = self;
     }
@@ -71,19 +65,8 @@ impl Sector {
     pub fn new(fresh: Fresh) -> Sector
         ensures { result ≡ first_window fresh }
     {
-        let Fresh {
-            base,
-            cells,
-            judge,
-            entries,
-        } = fresh;
-        Sector {
-            base,
-            cells,
-            judge,
-            entries,
-            closed: 0,
-        }
+        let Fresh { window } = fresh;
+        Sector { window, closed: 0 }
     }
 
     /// Begins the next window, and hands out the record of the one that it closes. It takes no
@@ -95,17 +78,9 @@ impl Sector {
         ensures entries { map entry_of result.items ≡ self.old.entries }
         ensures next { self.new ≡ renewed self.old fresh }
     {
-        let Fresh {
-            base,
-            cells,
-            judge,
-            entries,
-        } = fresh;
-        self.closed += self.entries.len() as u64;
-        self.base = base;
-        self.cells = cells;
-        self.judge = judge;
-        mem::replace(&mut self.entries, entries)
+        let Fresh { window } = fresh;
+        self.closed += self.window.count();
+        entries_of(mem::replace(&mut self.window, window))
     }
 
     /// Begins the next window of a sector in which nothing was recorded, over its cells as they
@@ -119,7 +94,7 @@ impl Sector {
           version = record self.old.version { tick = tick };
         }) }
     {
-        self.judge.go_on(tick);
+        self.window.go_on(tick);
     }
 
     /// Puts a part down in base and cells, as no rule does: it is there for tests. A chest begins
@@ -133,10 +108,9 @@ impl Sector {
         if !self.can_tamper(p) {
             return Ok(false);
         }
-        let mut changed = self.cells.try_clone()?;
+        let mut changed = self.cells().try_clone()?;
         changed.set(p, part.cell())?;
-        self.base = changed.try_clone()?;
-        self.cells = changed;
+        self.window.put_in(changed.try_clone()?, changed);
         Ok(true)
     }
 
@@ -144,7 +118,7 @@ impl Sector {
     pub fn base(&self) -> &Cells
         ensures { result.now ≡ self.now.base }
     {
-        &self.base
+        self.window.base()
     }
 
     /// The cells as they are: as the window began, and then changed by its entries.
@@ -152,14 +126,14 @@ impl Sector {
         ensures cells { result.now ≡ self.now.cells }
         ensures after { self.now.cells ≡ cells_after self.now.base self.now.entries }
     {
-        &self.cells
+        self.window.cells()
     }
 
     /// The version that judges the commands of this window.
     pub fn version(&self) -> &Version
         ensures { result.now ≡ self.now.version }
     {
-        self.judge.version()
+        self.window.version()
     }
 
     /// The record of this window, oldest first: each with the answer that the rules gave on the
@@ -168,7 +142,7 @@ impl Sector {
         ensures entries { map entry_of result.now ≡ self.now.entries }
         ensures window { IsWindow self.now.version.policy self.now.base self.now.entries }
     {
-        &self.entries
+        self.window.entries()
     }
 
     /// How many commands were recorded in the windows before.
@@ -183,21 +157,15 @@ impl Sector {
         ensures value { result ≡ count_of self.now }
         ensures most { count_of self.now ≤ most_entries }
     {
-        self.entries.len() as u64 + self.closed
+        self.window.count() + self.closed
     }
 
     /// The record of this window, oldest first. It takes no memory.
     pub fn into_entries(self) -> Vec<Entry>
         ensures { map entry_of result.items ≡ self.entries }
     {
-        let Sector {
-            base: _base,
-            cells: _cells,
-            judge: _judge,
-            entries,
-            closed: _,
-        } = self;
-        entries
+        let Sector { window, closed: _ } = self;
+        entries_of(window)
     }
 
     /// Carries out a command and records it with its answer, or refuses it by the first cause that
@@ -217,7 +185,7 @@ impl Sector {
         ensures full { (result ≡ Err Refusal.HistoryFull)
             ↔ ((holds self.old.cells (place_of cmd) ≡ true) × (is_full self.old ≡ true)) }
     {
-        if !self.cells.holds(cmd.place()) {
+        if !self.window.cells().holds(cmd.place()) {
             return Err(Refusal::OutOfWorld);
         }
         if self.is_full() {
@@ -236,9 +204,7 @@ impl Sector {
             ⊎ (result ≡ Err Refusal.NoMemory) }
         ensures after { self.new ≡ sector_after self.old (seat_of seat) cmd result }
     {
-        let alloc = *self.entries.allocator();
-        self.cells.soundness();
-        let outcome = outcome_of(alloc, &mut self.judge, &self.cells, &seat, &cmd)?;
+        let outcome = self.window.outcome(&seat, &cmd)?;
         let answer = copied(&outcome.answer)?;
         self.record(Entry { seat, cmd, answer }, outcome.effect)?;
         outcome.answer
@@ -256,22 +222,14 @@ impl Sector {
         ensures err { OnErr result (self.new ≡ self.old) }
         ensures memory { IfErr result (λ refusal. refusal ≡ Refusal.NoMemory) }
     {
-        self.entries.reserve(1).map_err(|_| Refusal::NoMemory)?;
-        let p = entry.cmd.place();
-        match effect {
-            Effect::Same => {}
-            Effect::NewCell(cell) => put_down(&mut self.cells, p, cell)?,
-            Effect::NewSlot(slot, content) => put_slot(&mut self.cells, p, slot, content)?,
-        }
-        self.entries.push_reserved(entry);
-        Ok(())
+        self.window.record(entry, effect)
     }
 
     // Whether a part may be put down at a position in base and cells.
     fn can_tamper(&self, p: Pos) -> bool
         ensures { (result ≡ true) ↔ CanTamper self.now p }
     {
-        self.entries.is_empty() && self.cells.holds(p)
+        self.window.count() == 0 && self.window.cells().holds(p)
     }
 
     // Whether as many commands were recorded as may be.
@@ -281,6 +239,13 @@ impl Sector {
     {
         MAX_ENTRIES <= self.count()
     }
+}
+
+// The record of a window, in a place of its own.
+fn entries_of(window: Box<Window>) -> Vec<Entry>
+    ensures { map entry_of result.items ≡ (box_value window).entries }
+{
+    Box::into_inner(window).into_entries()
 }
 
 // A copy of an answer.
@@ -295,29 +260,4 @@ fn copied(answer: &Result<Reply, Refusal>) -> Result<Result<Reply, Refusal>, Ref
         },
         Err(refusal) => Ok(Err(*refusal)),
     }
-}
-
-// Puts a cell down at a position of the sector.
-fn put_down(cells: &mut Cells, p: Pos, cell: Cell) -> Result<(), Refusal>
-    requires { holds cells.old p ≡ true }
-    ensures ok { OnOk result (cells.new ≡ with_cell cells.old p cell) }
-    ensures err { OnErr result (cells.new ≡ cells.old) }
-    ensures memory { IfErr result (λ refusal. refusal ≡ Refusal.NoMemory) }
-{
-    cells.set(p, cell).map_err(|_| Refusal::NoMemory)
-}
-
-// Puts something else into a slot of the chest at a position of the sector.
-fn put_slot(cells: &mut Cells, p: Pos, slot: u8, content: Slot) -> Result<(), Refusal>
-    requires held { holds cells.old p ≡ true }
-    requires chest { is_chest (cell_at cells.old p) ≡ true }
-    requires slot { slot < SLOTS }
-    requires content { IsSlot content }
-    ensures ok { OnOk result (cells.new ≡ with_slot cells.old p slot content) }
-    ensures err { OnErr result (cells.new ≡ cells.old) }
-    ensures memory { IfErr result (λ refusal. refusal ≡ Refusal.NoMemory) }
-{
-    cells
-        .set_slot(p, slot, content)
-        .map_err(|_| Refusal::NoMemory)
 }

@@ -1,0 +1,205 @@
+ghost use Rattle.std.specs.Prelude.{◌≡◌, ◌<◌, ◌∷◌, ◌++◌, true, [], map, length, box_value, IfOk, IfErr, OnOk, OnErr};
+ghost use Rattle.vx_store.specs.declared.stack.TheConstants.{SLOTS};
+ghost use Rattle.vx_store.specs.Codes.{is_chest};
+ghost use Rattle.vx_cells.specs.SectorCells.{IsSlot, IsWhole, holds, cell_at, with_cell, with_slot};
+ghost use Rattle.vx_sector.specs.Acting.{rules_answer, applied, effect_by, Fits};
+ghost use Rattle.vx_sector.specs.Commands.{place_of};
+ghost use Rattle.vx_sector.specs.SectorData.{seat_of, entry_of};
+
+use crate::acting::outcome_of;
+use crate::cmd::Cmd;
+use crate::effect::Effect;
+use crate::entry::Entry;
+use crate::judge::Judge;
+use crate::outcome::Outcome;
+use crate::refusal::Refusal;
+use crate::seat::Seat;
+use std::alloc::{AllocError, Global};
+use std::marker::Model;
+use vx_block::Cell;
+use vx_cells::{Cells, Slot};
+use vx_geom::Pos;
+use vx_policy::Version;
+
+/// A window of a sector: its cells as it began and as they are, the version of the policy that
+/// judges its commands, and their record.
+#[derive(Drop)]
+pub(crate) struct Window {
+    pub(crate) base: Cells,
+    pub(crate) cells: Cells,
+    pub(crate) judge: Judge,
+    pub(crate) entries: Vec<Entry>,
+}
+
+impl Model for Window {
+    ghost use Rattle.std.specs.Prelude.{map};
+    ghost use Rattle.vx_sector.specs.SectorData.{WindowData, entry_of};
+
+    ghost Value = { WindowData };
+
+    ghost view = { λ a. record {
+      base = a.base;
+      cells = a.cells;
+      version = a.judge;
+      entries = map entry_of a.entries.items;
+    } };
+}
+
+impl Window {
+    /// A window over these cells, judged by a copy of this version, with nothing recorded. The base
+    /// is a copy, which shares what they hold.
+    pub(crate) fn new(alloc: Global, cells: Cells, version: &Version) -> Result<Window, AllocError>
+        ensures { IfOk result (λ window. window ≡ record {
+          base = cells;
+          cells = cells;
+          version = version.now;
+          entries = [];
+        }) }
+    {
+        Ok(Window {
+            base: cells.try_clone()?,
+            cells,
+            judge: Judge::new(alloc, version)?,
+            entries: Vec::new(alloc),
+        })
+    }
+
+    /// The cells as it began.
+    pub(crate) fn base(&self) -> &Cells
+        ensures { result.now ≡ self.now.base }
+    {
+        &self.base
+    }
+
+    /// The cells as they are.
+    pub(crate) fn cells(&self) -> &Cells
+        ensures { result.now ≡ self.now.cells }
+    {
+        &self.cells
+    }
+
+    /// The version that judges its commands.
+    pub(crate) fn version(&self) -> &Version
+        ensures { result.now ≡ self.now.version }
+    {
+        self.judge.version()
+    }
+
+    /// Its record, oldest first.
+    pub(crate) fn entries(&self) -> &[Entry]
+        ensures { map entry_of result.now ≡ self.now.entries }
+    {
+        &self.entries
+    }
+
+    /// How many commands it has recorded.
+    pub(crate) fn count(&self) -> u64
+        ensures { result ≡ length self.now.entries }
+    {
+        self.entries.len() as u64
+    }
+
+    /// Goes on under another number, judged by the same policy.
+    pub(crate) fn go_on(&mut self, tick: u64)
+        ensures { self.new ≡ record self.old {
+          version = record self.old.version { tick = tick };
+        } }
+    {
+        self.judge.go_on(tick);
+    }
+
+    /// Goes on over these cells, as if it had begun with their copy.
+    pub(crate) fn put_in(&mut self, base: Cells, cells: Cells)
+        ensures { self.new ≡ record self.old { base = base; cells = cells } }
+    {
+        self.base = base;
+        self.cells = cells;
+    }
+
+    /// What the command of the seat does and what is answered, by the rules; nothing is done yet.
+    pub(crate) fn outcome(&mut self, seat: &Seat, cmd: &Cmd) -> Result<Outcome, Refusal>
+        requires held { holds self.old.cells (place_of cmd.now) ≡ true }
+        ensures answer { IfOk result (λ outcome. outcome.answer
+            ≡ rules_answer self.old.version.policy self.old.cells (seat_of seat.now) cmd.now) }
+        ensures effect { IfOk result (λ outcome.
+            outcome.effect ≡ effect_by self.old.cells cmd.now outcome.answer) }
+        ensures fits { IfOk result (λ outcome.
+            Fits self.old.cells (place_of cmd.now) outcome.effect) }
+        ensures memory { IfErr result (λ refusal. refusal ≡ Refusal.NoMemory) }
+        ensures same { self.new ≡ self.old }
+    {
+        let alloc = *self.entries.allocator();
+        self.cells.soundness();
+        outcome_of(alloc, &mut self.judge, &self.cells, seat, cmd)
+    }
+
+    /// Does what the command of an entry does, and puts the entry at the end of the record.
+    pub(crate) fn record(&mut self, entry: Entry, effect: Effect) -> Result<(), Refusal>
+        requires held { holds self.old.cells (place_of entry.cmd) ≡ true }
+        requires fits { Fits self.old.cells (place_of entry.cmd) effect }
+        ensures ok { OnOk result (self.new ≡ record self.old {
+          cells = applied self.old.cells (place_of entry.cmd) effect;
+          entries = self.old.entries ++ entry_of entry ∷ [];
+        }) }
+        ensures err { OnErr result (self.new ≡ self.old) }
+        ensures memory { IfErr result (λ refusal. refusal ≡ Refusal.NoMemory) }
+    {
+        self.entries.reserve(1).map_err(|_| Refusal::NoMemory)?;
+        apply(&mut self.cells, entry.cmd.place(), effect)?;
+        self.entries.push_reserved(entry);
+        Ok(())
+    }
+
+    /// Its record alone, oldest first. It takes no memory.
+    pub(crate) fn into_entries(self) -> Vec<Entry>
+        ensures { map entry_of result.items ≡ self.entries }
+    {
+        let Window {
+            base: _base,
+            cells: _cells,
+            judge: _judge,
+            entries,
+        } = self;
+        entries
+    }
+}
+
+// Does to the cells what a command does at a position of theirs.
+fn apply(cells: &mut Cells, p: Pos, effect: Effect) -> Result<(), Refusal>
+    requires held { holds cells.old p ≡ true }
+    requires fits { Fits cells.old p effect }
+    ensures ok { OnOk result (cells.new ≡ applied cells.old p effect) }
+    ensures err { OnErr result (cells.new ≡ cells.old) }
+    ensures memory { IfErr result (λ refusal. refusal ≡ Refusal.NoMemory) }
+{
+    match effect {
+        Effect::Same => Ok(()),
+        Effect::NewCell(cell) => put_down(cells, p, cell),
+        Effect::NewSlot(slot, content) => put_slot(cells, p, slot, content),
+    }
+}
+
+// Puts a cell down at a position of the sector.
+fn put_down(cells: &mut Cells, p: Pos, cell: Cell) -> Result<(), Refusal>
+    requires { holds cells.old p ≡ true }
+    ensures ok { OnOk result (cells.new ≡ with_cell cells.old p cell) }
+    ensures err { OnErr result (cells.new ≡ cells.old) }
+    ensures memory { IfErr result (λ refusal. refusal ≡ Refusal.NoMemory) }
+{
+    cells.set(p, cell).map_err(|_| Refusal::NoMemory)
+}
+
+// Puts something else into a slot of the chest at a position of the sector.
+fn put_slot(cells: &mut Cells, p: Pos, slot: u8, content: Slot) -> Result<(), Refusal>
+    requires held { holds cells.old p ≡ true }
+    requires chest { is_chest (cell_at cells.old p) ≡ true }
+    requires slot { slot < SLOTS }
+    requires content { IsSlot content }
+    ensures ok { OnOk result (cells.new ≡ with_slot cells.old p slot content) }
+    ensures err { OnErr result (cells.new ≡ cells.old) }
+    ensures memory { IfErr result (λ refusal. refusal ≡ Refusal.NoMemory) }
+{
+    cells
+        .set_slot(p, slot, content)
+        .map_err(|_| Refusal::NoMemory)
+}

@@ -1,8 +1,6 @@
 ghost use Rattle.std.specs.Prelude.{◌≡◌, ◌≢◌, ◌≤◌, ◌<◌, ◌⊎◌, ◌↔◌, true, false, [], box_value, map, Ok, Err, IfOk, IfErr, OnOk, OnErr};
-ghost use Rattle.vx_store.specs.declared.stack.TheConstants.{SLOTS};
 ghost use Rattle.vx_block.specs.Part.{part_cell};
-ghost use Rattle.vx_store.specs.Codes.{is_chest};
-ghost use Rattle.vx_cells.specs.SectorCells.{IsSlot, holds, cell_at, with_cell, with_slot};
+ghost use Rattle.vx_cells.specs.SectorCells.{holds};
 ghost use Rattle.vx_sector.specs.Acting.{rules_answer, effect_by, Fits};
 ghost use Rattle.vx_sector.specs.Commands.{place_of};
 ghost use Rattle.vx_sector.specs.SectorData.{seat_of, entry_of};

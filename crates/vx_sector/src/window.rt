@@ -1,7 +1,7 @@
-ghost use Rattle.std.specs.Prelude.{◌≡◌, ◌<◌, ◌∷◌, ◌++◌, true, [], map, length, box_value, IfOk, IfErr, OnOk, OnErr};
+ghost use Rattle.std.specs.Prelude.{◌≡◌, ◌<◌, ◌∷◌, ◌++◌, true, [], map, length, IfOk, IfErr, OnOk, OnErr};
 ghost use Rattle.vx_store.specs.declared.stack.TheConstants.{SLOTS};
 ghost use Rattle.vx_store.specs.Codes.{is_chest};
-ghost use Rattle.vx_cells.specs.SectorCells.{IsSlot, IsWhole, holds, cell_at, with_cell, with_slot};
+ghost use Rattle.vx_cells.specs.SectorCells.{IsSlot, holds, cell_at, with_cell, with_slot};
 ghost use Rattle.vx_sector.specs.Acting.{rules_answer, applied, effect_by, Fits};
 ghost use Rattle.vx_sector.specs.Commands.{place_of};
 ghost use Rattle.vx_sector.specs.SectorData.{seat_of, entry_of};

@@ -187,7 +187,7 @@ impl<A: Places, B: Seats> Session<A, B> {
         self.marks.reserve(1)?;
         let fates = self
             .world
-            .tick(rt, alloc, &mut self.keeper, self.workers, &NoGate)?;
+            .tick_alone(rt, alloc, &mut self.keeper, self.workers, &NoGate)?;
         self.marks.push_reserved(Mark::Tick);
         Ok(fates)
     }

@@ -2,6 +2,7 @@
 //! under another, passes for those who play, and the settlement in the end.
 #![tactic(auto)]
 
+mod alone;
 mod blanks;
 mod books;
 mod home;

@@ -3,9 +3,10 @@ ghost use Rattle.std.specs.Prelude.{◌≡◌, ◌+◌, ◌<◌, ◌≤◌, ◌+
 ghost use Rattle.vx_sector.specs.Windows.{count_of};
 ghost use Rattle.vx_keeper.specs.Marks.{WorldData, IsPartOf, AreParts};
 
+use crate::home::Home;
 use std::alloc::{AllocError, Global};
 use std::sync::ledger::Share;
-use vx_keeper::Places;
+use vx_keeper::{Keeper, Places};
 use vx_sector::Sector;
 
 /// The sectors that a tick has taken out of their locks, in order of their numbers, each beside its
@@ -36,8 +37,22 @@ impl<A: Places> Taken<A> {
         })
     }
 
-    /// Adds a sector. It takes no memory.
-    pub fn push(&mut self, sector: Sector, is_part: bool, share: Share<A>)
+    /// Adds a sector that was at home, with what the keeper's mark on it says. It takes no memory.
+    pub fn add(&mut self, keeper: &Keeper<A>, home: Home<A>)
+        requires more { vec_len self.old.sectors < A.all }
+        requires parts { AreParts keeper.now.world self.old.are_parts.items
+            self.old.sectors.items }
+        ensures parts { AreParts keeper.now.world self.new.are_parts.items
+            self.new.sectors.items }
+        ensures count { vec_len self.new.sectors ≡ vec_len self.old.sectors + 1 }
+    {
+        let is_part = keeper.has_marked(&home.marked);
+        let (marked, share) = home.into_parts();
+        self.push(marked.into_sector(), is_part, share);
+    }
+
+    // Adds a sector.
+    fn push(&mut self, sector: Sector, is_part: bool, share: Share<A>)
         requires more { vec_len self.old.sectors < A.all }
         requires one_part { share.parts ≡ 1 }
         requires counted { share.amount ≡ count_of sector }

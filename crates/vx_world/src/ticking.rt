@@ -10,10 +10,11 @@ ghost use Rattle.vx_world.specs.Ticks.{HasTicked, KnowsAsBefore};
 
 use crate::home::Home;
 use crate::seats::Seats;
+use crate::slot::Slot;
 use crate::taken::Taken;
 use crate::world::World;
 use std::alloc::Global;
-use std::sync::Wait;
+use std::sync::{Condvar, Mutex, Wait};
 use std::thread::Threads;
 use vx_geom::Pos;
 use vx_keeper::{Keeper, Marked, Places, TickError};
@@ -62,15 +63,7 @@ impl<A: Places, B: Seats> World<A, B> {
             taken.new.sectors.items }
     {
         for slot in &self.slots {
-            let mut place = self
-                .came
-                .wait_while(rt, slot.lock(rt), |slot| slot.home.is_none());
-            let Some(home) = place.home.take() else {
-                unreachable!()
-            };
-            let is_part = keeper.has_marked(&home.marked);
-            let (marked, share) = home.into_parts();
-            taken.push(marked.into_sector(), is_part, share);
+            taken.add(keeper, awaited(rt, &self.came, slot));
         }
     }
 
@@ -93,8 +86,21 @@ impl<A: Places, B: Seats> World<A, B> {
     }
 }
 
+// Takes a sector out of its lock, and waits while it is away.
+pub(crate) fn awaited<A: Places, R: Wait>(
+    rt: &R,
+    came: &Condvar,
+    slot: &Mutex<Slot<A>>,
+) -> Home<A> {
+    let mut place = came.wait_while(rt, slot.lock(rt), |slot| slot.home.is_none());
+    let Some(home) = place.home.take() else {
+        unreachable!()
+    };
+    home
+}
+
 // A sector with the mark of what the keeper knows, where its window began with its part of that.
-fn marked<A: Places>(keeper: &Keeper<A>, sector: Sector, is_part: bool) -> Marked<A>
+pub(crate) fn marked<A: Places>(keeper: &Keeper<A>, sector: Sector, is_part: bool) -> Marked<A>
     requires { is_part ≡ true → IsPartOf keeper.now.world sector }
     ensures { result ≡ sector }
 {
@@ -105,7 +111,7 @@ fn marked<A: Places>(keeper: &Keeper<A>, sector: Sector, is_part: bool) -> Marke
 }
 
 // Makes the tick of the sectors that were taken.
-fn make<A: Places, R: Threads + Wait + Sync, G: Gate + Sync>(
+pub(crate) fn make<A: Places, R: Threads + Wait + Sync, G: Gate + Sync>(
     rt: &R,
     alloc: Global,
     keeper: &mut Keeper<A>,

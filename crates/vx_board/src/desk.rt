@@ -1,5 +1,6 @@
-ghost use Rattle.std.specs.Prelude.{◌≡◌, ◌++◌, ◌∷◌, List, [], None, Ok, length, is_some, IsSome, IfOk, IfErr};
+ghost use Rattle.std.specs.Prelude.{◌≡◌, ◌<◌, ◌≤◌, ◌++◌, ◌∷◌, List, [], None, Ok, length, is_some, IsSome, IfOk, IfErr};
 ghost use Rattle.vx_board.specs.Accepted.{IsAnswer, IsRefused};
+ghost use Rattle.vx_board.specs.declared.desk.TheConstants.{MAX_VIEWS};
 ghost use Rattle.vx_board.specs.declared.view_error.ViewError.TheVariants.{NoView};
 ghost use Rattle.vx_policy.specs.Asked.{Asked, asked};
 ghost use Rattle.vx_policy.specs.Edits.{after, AreAccepted};
@@ -20,7 +21,7 @@ use std::sync::{Mutex, Wait};
 use vx_policy::{Edit, Policy, Version};
 
 /// A desk has at most so many views at once.
-const MAX_VIEWS: usize = 64;
+pub const MAX_VIEWS: usize = 64;
 
 /// A desk that threads share. An edit takes its lock; a view takes none.
 #[derive(Drop)]
@@ -38,13 +39,16 @@ where
 }
 
 impl<J: Board, R: Wait + Drop> Desk<J, R> {
-    /// A desk on its first policy, with no edit accepted, and with its first view.
+    /// A desk on its first policy, with no edit accepted, and with its first view. There may be so
+    /// many views of it at once; an edit costs a look at the place of each.
     pub fn new(
         rt: R,
         alloc: Global,
         policy: Policy,
         opened: Opened,
+        views: usize,
     ) -> Result<Desk<J, R>, AllocError>
+        requires views { (0 < views) × (views ≤ MAX_VIEWS) }
         requires first { policy ≡ J.first }
         requires edits { opened ≡ J.edits }
         ensures { IfOk result (λ desk. IsSome desk.first) }
@@ -54,7 +58,7 @@ impl<J: Board, R: Wait + Drop> Desk<J, R> {
         let two = Posted::new(policy.try_clone()?, start.again());
         let again = Posted::new(policy.try_clone()?, start.again());
         let mut writer: WriteHandle<Posted<J>, Posted<J>, R> = WriteHandle::new(
-            alloc, rt, one, two, MAX_VIEWS,
+            alloc, rt, one, two, views,
         )?;
         // From now on its log has room.
         if writer.append(again).is_err() {

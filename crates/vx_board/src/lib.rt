@@ -23,7 +23,7 @@ mod view;
 mod view_error;
 
 pub use board::Board;
-pub use desk::Desk;
+pub use desk::{Desk, MAX_VIEWS};
 pub use desk_error::DeskError;
 pub use desk_state::DeskState;
 pub use edited::Edited;

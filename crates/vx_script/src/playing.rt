@@ -33,6 +33,9 @@ use vx_record::Opening;
 use vx_session::Session;
 use vx_world::{Blanks, Report, Seats};
 
+// A session's keeper sees the desk by one view, and the session answers `explain` by another.
+const VIEWS: usize = 2;
+
 /// Plays the body of a script in a world that opens so: replies to its lines, settles the record,
 /// and writes the last line. A body that stops at a faulty line is settled too, so that what was
 /// replied before is known to be right. The types are named by the blanks and the book of edits.
@@ -75,7 +78,7 @@ pub fn play<
     ensures within { OnOk result (IfSome first (λ _. IsWithin lines.old (R.remaining reader.old))) }
     ensures fault { IfErr result IsOfRun }
 {
-    let mut desk = Desk::new(rt, alloc, opening.policy().try_clone()?, edits)?;
+    let mut desk = Desk::new(rt, alloc, opening.policy().try_clone()?, edits, VIEWS)?;
     let view = desk.first_view();
     let session = Session::<A, B>::begin(alloc, opening, view, blanks, workers)?;
     play_at(

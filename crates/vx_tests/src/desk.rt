@@ -10,7 +10,7 @@ use std::sync::Wait;
 use std::test::Fail;
 use std::thread;
 use std::thread::Threads;
-use vx_board::{Board, Desk, DeskError, DeskState, Edited, Opened, View};
+use vx_board::{Board, Desk, DeskError, DeskState, Edited, MAX_VIEWS, Opened, View};
 use vx_geom::{Pos, ShapeSpec};
 use vx_policy::{Edit, EditRefusal, Policy, Version};
 use vx_region::RegionNo;
@@ -108,7 +108,7 @@ fn spend_in<J: Board + Send + Sync, R: Threads + Wait + Abort + Sync>(
     requires first { policy ≡ J.first }
     requires edits { opened ≡ J.edits }
 {
-    let mut desk: Desk<J, &R> = Desk::new(rt, alloc, policy, opened)?;
+    let mut desk: Desk<J, &R> = Desk::new(rt, alloc, policy, opened, MAX_VIEWS)?;
     assert!(rt; desk.has_first());
     let mut view = desk.first_view();
     assert!(rt; !desk.has_first());

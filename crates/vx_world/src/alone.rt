@@ -38,7 +38,7 @@ impl<A: Places, B: Seats> World<A, B> {
         ensures full { (result ≡ Err HistoryFull)
             ↔ (most_ticks ≤ length keeper.old.chronicle.ticks) }
         ensures torn { (k : ℕ) → result ≡ Err (Torn k) → k < A.all }
-        ensures same { self.new ≡ self.old }
+        ensures bounds { self.new.bounds ≡ self.old.bounds }
     {
         if keeper.is_full() {
             return Err(TickError::HistoryFull);
@@ -56,11 +56,11 @@ impl<A: Places, B: Seats> World<A, B> {
         ensures all { vec_len taken.new.sectors ≡ A.all }
         ensures parts { AreParts keeper.now.world taken.new.are_parts.items
             taken.new.sectors.items }
-        ensures same { self.new ≡ self.old }
+        ensures bounds { self.new.bounds ≡ self.old.bounds }
     {
-        let World { slots, came, .. } = self;
-        for at in 0..slots.len() {
-            taken.add(keeper, home_in(rt, came, &mut slots[at]));
+        for at in 0..self.slots.len() {
+            let home = home_in(rt, &self.came, &mut self.slots[at]);
+            taken.add(keeper, home);
         }
     }
 
@@ -69,7 +69,7 @@ impl<A: Places, B: Seats> World<A, B> {
     fn put_each(&mut self, keeper: &Keeper<A>, taken: Taken<A>)
         requires all { vec_len taken.sectors ≡ A.all }
         requires parts { AreParts keeper.now.world taken.are_parts.items taken.sectors.items }
-        ensures same { self.new ≡ self.old }
+        ensures bounds { self.new.bounds ≡ self.old.bounds }
     {
         let mut taken = taken;
         for at in (0..self.slots.len()).rev() {

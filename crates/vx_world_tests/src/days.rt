@@ -9,7 +9,7 @@ use std::process::Abort;
 use std::sync::Wait;
 use std::test::Fail;
 use std::thread::Threads;
-use vx_board::{Desk, Opened};
+use vx_board::{Desk, MAX_VIEWS, Opened};
 use vx_geom::{Bounds, LOW_HEIGHT, Pos};
 use vx_keeper::{Keeper, Places};
 use vx_policy::Policy;
@@ -108,7 +108,7 @@ fn spend_in<A: Places + Send + Sync, B: Seats + Send + Sync, R: Threads + Wait +
     requires first { opening.policy ≡ A.first }
     requires edits { edits ≡ A.edits }
 {
-    let mut desk = Desk::new(rt, alloc, opening.policy().try_clone()?, edits)?;
+    let mut desk = Desk::new(rt, alloc, opening.policy().try_clone()?, edits, MAX_VIEWS)?;
     let view = desk.first_view();
     let (world, mut keeper, mut passes) = World::<A, B>::new(alloc, opening, view, blanks)?;
     played(rt, alloc, day, &world, &desk, &mut keeper, &mut passes)?;

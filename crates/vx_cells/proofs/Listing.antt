@@ -1,5 +1,5 @@
 -- What is listed of a sector, in the order of its positions.
-use Rattle.std.proofs.Common.{◌≡◌, ℕ, zero, suc, ◌+◌, ◌-◌, ◌*◌, ◌<◌, ◌≤◌, Bool, ◌∷◌, ◌++◌, slice_get, cond, Some, refl, ap, ◌∙◌, arith}
+use Rattle.std.proofs.Common.{◌≡◌, ℕ, zero, suc, ◌+◌, ◌<◌, ◌≤◌, Bool, ◌∷◌, slice_get, cond, Some, refl, ap, ◌∙◌, arith}
 use Rattle.std.specs.List.{filter}
 use Rattle.vx_block.specs.declared.cell.Cell.{Cell}
 use Rattle.vx_block.specs.Components.{is_device, is_component}

@@ -1,9 +1,10 @@
 -- The components of machines in a sector, in order.
-use Rattle.std.specs.Prelude.{ℕ, pos, Bool, List}
+use Rattle.std.specs.Prelude.{◌≡◌, ℕ, ◌+◌, pos, Bool, ◌&&◌, nat_lt, List}
 use Rattle.std.specs.List.{filter}
 use Rattle.vx_block.specs.Components.{is_device, is_component}
 use Rattle.vx_geom.specs.declared.pos.Pos.{Pos}
 use Rattle.vx_geom.specs.Places.{positions}
+use Rattle.vx_marks.specs.Marks.{is_set}
 use Rattle.vx_cells.specs.Maps.{MapData, cell_on}
 use Rattle.vx_cells.specs.SectorCells.{SectorCells, cell_at}
 
@@ -26,7 +27,8 @@ components_on m k = filter (λ p. is_component (cell_on m p)) (positions m.sizes
 unfoldable pub devices_on : MapData → ℕ → List Pos
 devices_on m k = filter (λ p. is_device (cell_on m p)) (positions m.sizes k)
 
--- a component stands in that column of a row of a layer
-abbrev pub is_component_in_column : MapData → ℕ → ℕ → ℕ → Bool
-is_component_in_column m y z x =
-    is_component (cell_on m (record { y = pos y; z = pos z; x = pos x }))
+-- in which of so many columns of a row of a layer, from one on, stands what passes a test: a bit for
+-- each
+abbrev pub AreInRow : (Pos → Bool) → ℕ → ℕ → ℕ → ℕ → ℕ → Type 0
+AreInRow test x y z count bits =
+    (k : ℕ) → is_set bits k ≡ (nat_lt k count && test (place (x + k) y z))

@@ -1,4 +1,4 @@
-use Rattle.std.specs.Prelude.{◌≡◌, ℕ, ◌≤◌, Bool, true, false, nat_eq, List, length, replicate, slice_index_or, slice_set, if◌then◌else◌, Option, Some, None}
+use Rattle.std.specs.Prelude.{◌≡◌, ℕ, ◌≤◌, Bool, false, nat_eq, List, length, replicate, slice_index_or, slice_set, if◌then◌else◌, Option, Some, None}
 use Rattle.std.specs.List.{All}
 use Rattle.std.specs.Option.{option_map_or}
 use Rattle.vx_store.specs.declared.stack.TheConstants.{SLOTS, MAX_COUNT}

@@ -1,6 +1,6 @@
 -- How a sector is stored: a byte for each cell, the slots of the chests by their indices, and marks
 -- where components stand.
-use Rattle.std.specs.Prelude.{◌≡◌, ℕ, ◌+◌, ◌*◌, ◌<◌, true, false, List, [], ◌∷◌, length, slice_index_or, All, Option, Some, None, unwrap_or}
+use Rattle.std.specs.Prelude.{◌≡◌, ℕ, ◌+◌, ◌<◌, true, false, List, [], ◌∷◌, length, slice_index_or, All, Option, Some, None, unwrap_or}
 use Rattle.vx_store.specs.declared.stack.TheConstants.{SLOTS}
 use Rattle.vx_geom.specs.Sizes.{Sizes, sector_count, sector_cells}
 use Rattle.vx_store.specs.Chests.{Slots, ChestData, slots_of_chest}

@@ -1,11 +1,10 @@
-ghost use Rattle.std.specs.Prelude.{◌≡◌, ◌+◌, ◌*◌, ◌/◌, ◌<◌, ◌≤◌, nat_lt, length, true, IfOk, OnOk, OnErr, IfSome};
+ghost use Rattle.std.specs.Prelude.{◌≡◌, ◌+◌, ◌%◌, ◌<◌, ◌≤◌, nat_lt, length, true, IfOk, OnOk, OnErr, IfSome};
 ghost use Rattle.std.specs.List.{All};
 ghost use Rattle.vx_store.specs.declared.stack.TheConstants.{SLOTS};
 ghost use Rattle.vx_geom.specs.Sizes.{span, sector_count};
 ghost use Rattle.vx_block.specs.Components.{is_dust, is_component};
 ghost use Rattle.vx_block.specs.Conductors.{conducts};
-ghost use Rattle.vx_marks.specs.Marks.{IsFirst};
-ghost use Rattle.vx_cells.specs.Listed.{place, components_of, devices_of};
+ghost use Rattle.vx_cells.specs.Listed.{place, components_of, devices_of, AreInRow};
 
 use crate::stored::Stored;
 use std::alloc::{AllocError, Global};
@@ -172,15 +171,15 @@ impl Cells {
         self.stored.devices(alloc)
     }
 
-    /// The first column from that one on, in a row of a layer of this sector, where a component of
-    /// machines stands.
+    /// In which of so many columns of a row of a layer of this sector, from that one on, a component
+    /// of machines stands, a bit for each.
     #[inline(always)]
-    pub fn component_in_row(&self, x: u32, y: u32, z: u32) -> Option<u32>
-        requires { holds self.now (place x y z) ≡ true }
-        ensures { IsFirst (λ c. is_component (cell_at self.now (place c y z)))
-            (span self.now.bounds * (x / span self.now.bounds + 1)) x result }
+    pub fn components_in_row(&self, x: u32, y: u32, z: u32, count: u32) -> u64
+        requires here { holds self.now (place x y z) ≡ true }
+        requires within { x % span self.now.bounds + count ≤ span self.now.bounds }
+        ensures { AreInRow (λ p. is_component (cell_at self.now p)) x y z count result }
     {
-        self.stored.component_in_row(x, y, z)
+        self.stored.components_in_row(x, y, z, count)
     }
 
     /// How many components of machines stand in this sector. No clause tells the number, since

@@ -1,6 +1,6 @@
 ghost use Rattle.std.specs.Int.{w64};
-ghost use Rattle.std.specs.Prelude.{◌≡◌, ◌+◌, ◌*◌, ◌/◌, ◌<◌, ◌≤◌, ◌+ℤ◌, ◌-ℤ◌, FitsSigned, pos, nat_lt, length, map, slice_get, true, None, Some, IfOk, IfSome, SomeIff};
-ghost use Rattle.vx_block.specs.Components.{is_dust};
+ghost use Rattle.std.specs.Prelude.{◌≡◌, ◌+◌, ◌%◌, ◌<◌, ◌≤◌, ◌+ℤ◌, ◌-ℤ◌, FitsSigned, pos, nat_lt, length, map, slice_get, true, None, Some, IfOk, IfSome, SomeIff};
+ghost use Rattle.vx_block.specs.Components.{is_dust, is_component};
 ghost use Rattle.vx_block.specs.Conductors.{conducts};
 ghost use Rattle.vx_block.specs.declared.cell.Cell.TheVariants.{Air};
 ghost use Rattle.vx_geom.specs.declared.bounds.TheConstants.{HIGH_HEIGHT, MAX_COLUMNS_EACH_WAY};
@@ -8,8 +8,7 @@ ghost use Rattle.vx_geom.specs.Neighbor.{neighbor};
 ghost use Rattle.vx_geom.specs.Sizes.{span, is_inside, sector_count};
 ghost use Rattle.vx_geom.specs.declared.dir.Dir.TheVariants.{Up, Down};
 ghost use Rattle.vx_geom.specs.declared.pos.Pos.{Pos};
-ghost use Rattle.vx_marks.specs.Marks.{IsFirst};
-ghost use Rattle.vx_cells.specs.Listed.{place, components_on, devices_on, is_component_in_column};
+ghost use Rattle.vx_cells.specs.Listed.{components_on, devices_on, AreInRow};
 ghost use Rattle.vx_cells.specs.MapLaws.{IsFilled};
 ghost use Rattle.vx_cells.specs.SectorCells.{holds, cell_at};
 
@@ -180,27 +179,23 @@ impl<'a> Frozen<'a> {
         self.sector_at(sector).devices(alloc)
     }
 
-    /// The first of the columns from one up to below another, in a row of a layer, where a
-    /// component of machines stands. It costs a look for each sector that the columns lie in.
-    pub fn component_in_row(&self, y: u32, z: u32, first: u32, end: u32) -> Option<u32>
+    /// In which of so many columns of a row of a layer, from that one on, a component of machines
+    /// stands, a bit for each. All of them lie in one sector, or outside the world.
+    #[inline(always)]
+    pub fn components_in_row(&self, x: u32, y: u32, z: u32, count: u32) -> u64
+        requires column { x < MAX_COLUMNS_EACH_WAY }
         requires layer { y < HIGH_HEIGHT }
         requires row { z < MAX_COLUMNS_EACH_WAY }
-        requires columns { end ≤ MAX_COLUMNS_EACH_WAY }
-        ensures { IsFirst (is_component_in_column self.now y z) end first result }
+        requires within { x % span self.now.sizes + count ≤ span self.now.sizes }
+        ensures { AreInRow (λ p. is_component (cell_on self.now p)) x y z count result }
     {
         self.soundness();
-        let span = self.bounds.span();
-        let mut x = first;
-        while x < end {
-            if !self.bounds.inside(Pos::new(x as i32, y as i32, z as i32)) {
-                return None;
-            }
-            if let Some(found) = self.component_in_sector(x, y, z) {
-                return if found < end { Some(found) } else { None };
-            }
-            x = span * (self.bounds.sides(x) + 1);
+        let p = Pos::new(x as i32, y as i32, z as i32);
+        if !self.bounds.inside(p) {
+            return 0;
         }
-        None
+        self.sector_at(self.bounds.sector_holding(p))
+            .components_in_row(x, y, z, count)
     }
 
     /// How many components of machines stand on the map. No clause tells the number, since nothing
@@ -231,23 +226,6 @@ impl<'a> Frozen<'a> {
         for sector in 0..self.bounds().sectors() {
             self.sector_at(sector).soundness();
         }
-    }
-
-    // The first column from that one on, in a row of a layer of the sector that holds it, where a
-    // component of machines stands.
-    #[inline(always)]
-    fn component_in_sector(&self, x: u32, y: u32, z: u32) -> Option<u32>
-        requires layer { y < HIGH_HEIGHT }
-        requires row { z < MAX_COLUMNS_EACH_WAY }
-        requires column { x < MAX_COLUMNS_EACH_WAY }
-        requires inside { is_inside self.now.sizes (place x y z) ≡ true }
-        ensures { IsFirst (is_component_in_column self.now y z)
-            (span self.now.sizes * (x / span self.now.sizes + 1)) x result }
-    {
-        self.soundness();
-        let p = Pos::new(x as i32, y as i32, z as i32);
-        self.sector_at(self.bounds.sector_holding(p))
-            .component_in_row(x, y, z)
     }
 
     // The sector of a number.

@@ -1,13 +1,12 @@
-ghost use Rattle.std.specs.Prelude.{◌≡◌, ◌+◌, ◌*◌, ◌/◌, ◌<◌, ◌≤◌, nat_lt, length, true, IfOk, OnOk, OnErr, IfSome};
+ghost use Rattle.std.specs.Prelude.{◌≡◌, ◌+◌, ◌%◌, ◌<◌, ◌≤◌, nat_lt, length, true, IfOk, OnOk, OnErr, IfSome};
 ghost use Rattle.std.specs.Bool.{Decides};
 ghost use Rattle.std.specs.List.{All};
 ghost use Rattle.vx_store.specs.declared.stack.TheConstants.{SLOTS};
 ghost use Rattle.vx_geom.specs.Sizes.{span, sector_count};
 ghost use Rattle.vx_block.specs.Components.{is_dust, is_component};
 ghost use Rattle.vx_block.specs.Conductors.{conducts};
-ghost use Rattle.vx_marks.specs.Marks.{IsFirst};
 ghost use Rattle.vx_store.specs.Codes.{code_count, cell_of};
-ghost use Rattle.vx_cells.specs.Listed.{place, components_of, devices_of};
+ghost use Rattle.vx_cells.specs.Listed.{place, components_of, devices_of, AreInRow};
 
 use std::alloc::{AllocError, Global};
 use std::marker::Model;
@@ -213,23 +212,18 @@ impl Stored {
             .places(alloc, self.bounds, self.sector, MarkKind::Device)
     }
 
-    /// The first column from that one on, in a row of a layer of this sector, where a component of
-    /// machines stands.
-    pub fn component_in_row(&self, x: u32, y: u32, z: u32) -> Option<u32>
-        requires { holds self.now (place x y z) ≡ true }
-        ensures { IsFirst (λ c. is_component (cell_at self.now (place c y z)))
-            (span self.now.bounds * (x / span self.now.bounds + 1)) x result }
+    /// In which of so many columns of a row of a layer of this sector, from that one on, a component
+    /// of machines stands, a bit for each.
+    #[inline(always)]
+    pub fn components_in_row(&self, x: u32, y: u32, z: u32, count: u32) -> u64
+        requires here { holds self.now (place x y z) ≡ true }
+        requires within { x % span self.now.bounds + count ≤ span self.now.bounds }
+        ensures { AreInRow (λ p. is_component (cell_at self.now p)) x y z count result }
     {
         self.bounds.soundness();
         let p = Pos::new(x as i32, y as i32, z as i32);
         let index = self.bounds.index_in_sector(p);
-        let found = self.marks.first_in_word(MarkKind::Component, index)?;
-        let column = x + (found - index);
-        if self.bounds.sides(column) == self.bounds.sides(x) {
-            Some(column)
-        } else {
-            None
-        }
+        self.marks.run(MarkKind::Component, index, count)
     }
 
     /// How many components of machines stand in this sector.

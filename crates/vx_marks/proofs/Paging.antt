@@ -1,14 +1,20 @@
 -- Marks in pages: the mark of an index among all is one of its page, and a page that changes changes
 -- the marks of its own indices alone.
-use Rattle.std.proofs.Common.{◌≡◌, ◌≢◌, ℕ, zero, suc, ◌+◌, ◌-◌, ◌*◌, ◌/◌, ◌%◌, ◌^◌, ◌<◌, ◌≤◌, Bool, false, if◌then◌else◌, List, [], ◌∷◌, ◌++◌, length, get_or, set, replicate, Option, Some, None, option_map, nat_eq, inl, inr, refl, ap, sym, ◌∙◌, arith}
+use Rattle.std.proofs.Common.{◌≡◌, ◌≢◌, ℕ, zero, suc, ◌+◌, ◌-◌, ◌*◌, ◌/◌, ◌%◌, ◌^◌, ◌<◌, ◌≤◌, Bool, false, ◌&&◌, ◌||◌, if◌then◌else◌, List, [], ◌∷◌, ◌++◌, length, get_or, set, replicate, Option, Some, None, option_map, nat_eq, nat_lt, nat_le, inl, inr, refl, ap, sym, ◌∙◌, arith}
 use Rattle.std.specs.List.{flat_map}
-use Rattle.std.proofs.lemmas.Bool.{cases_lt, cases_eq, eq-eqb, ne_eqb}
+use Rattle.std.proofs.Math.Bool.{or-false}
+use Rattle.std.proofs.lemmas.Bool.{cases_lt, cases_eq, and_left, eq-eqb, ne_eqb, le-ltb, le-leb, lt-leb}
 use Rattle.std.proofs.lemmas.List.{length-append, length-set, length-replicate, get_or_past, get_or-set_same, get_or-set_other, get_or_append_left, get_or-append-add, replicate-append-replicate}
 use Rattle.std.proofs.lemmas.List.Elements.{All-set, All-replicate}
-use Rattle.vx_marks.specs.Marks.{is_set, is_marked, IsFirst, IsFirstMarked, AreUnmarked, IsMarkSet}
+use Rattle.vx_marks.specs.Marks.{is_set, is_marked, IsFirst, IsFirstMarked, AreUnmarked, IsMarkSet, AreBits, in_run, IsRunMarked}
 use Rattle.vx_marks.specs.Pages.{joined, AreWhole, ArePages}
 use Rattle.vx_marks.specs.declared.page.TheConstants.{PAGE}
 use Rattle.vx_marks.proofs.WordBits.{unset}
+
+-- each mark becomes what its index and it tell
+record AreChanged (old new : List ℕ) (change : ℕ → Bool → Bool) : Type 0 where
+  long : length new ≡ length old
+  each : (i : ℕ) → is_marked new i ≡ change i (is_marked old i)
 
 module _ {X : Type 0} (f : X → List ℕ) where
   rest_whole : (page : X) (pages : List X) → AreWhole f (page ∷ pages) → AreWhole f pages
@@ -83,13 +89,11 @@ module _ {X : Type 0} (f : X → List ℕ) where
               ∙ first.3 (i - PAGE * n) (omega arith) (omega arith),
         )
 
-  -- one mark of a page changes, and so does that one among all
-  module _ (pages : List X) (n : ℕ) (page new : X) (index : ℕ) (marked : Bool) (whole : AreWhole f pages)
-      (near : n < length pages) (read : page ≡ get_or pages n page) (is : n ≡ index / PAGE)
-      (changed : IsMarkSet (f page) (f new) (index % PAGE) marked) where
-    abbrev then_marked : Bool → ℕ → Bool
-    then_marked here i = if here then marked else is_marked (flat_map f pages) i
-
+  -- marks of a page change, and so do these among all
+  module _ (pages : List X) (n : ℕ) (page new : X) (part all : ℕ → Bool → Bool) (whole : AreWhole f pages)
+      (near : n < length pages) (read : page ≡ get_or pages n page) (changed : AreChanged (f page) (f new) part)
+      (same : (i : ℕ) (b : Bool) → i / PAGE ≡ n → part (i % PAGE) b ≡ all i b)
+      (apart : (i : ℕ) (b : Bool) → i / PAGE ≢ n → all i b ≡ b) where
     set_whole : AreWhole f (set pages n new)
     set_whole =
         All-set (λ p. length (f p) ≡ 64) pages n new
@@ -98,41 +102,34 @@ module _ {X : Type 0} (f : X → List ℕ) where
     set_near : n < length (set pages n new)
     set_near = omega (arith, length-set pages n new)
 
-    same_index : (i : ℕ) → PAGE * n ≤ i → i < PAGE * (n + 1) → nat_eq (i - PAGE * n) (index % PAGE) ≡ nat_eq i index
-    same_index i low high = elim (cases_eq i index) [
-      | inl same ↦ eq-eqb (i - PAGE * n) (index % PAGE) (omega arith) ∙ sym (eq-eqb i index same)
-      | inr apart ↦ ne_eqb (i - PAGE * n) (index % PAGE) (λ same. apart (omega arith)) ∙ sym (ne_eqb i index apart)
-    ]
-
-    of_page : (i : ℕ) → PAGE * n ≤ i → i < PAGE * (n + 1)
-        → is_marked (flat_map f (set pages n new)) i ≡ then_marked (nat_eq i index) i
-    of_page i low high =
-        let k = i - PAGE * n in
-        in_page (set pages n new) n new page set_whole set_near (sym (get_or-set_same pages n new page near)) i low high
-        ∙ changed.each k
-        ∙ ap (λ b. if b then marked else is_marked (f page) k) (same_index i low high)
-        ∙ ap (λ b. if nat_eq i index then marked else b) (sym (in_page pages n page page whole near read i low high))
+    of_page : (i : ℕ) → i / PAGE ≡ n
+        → is_marked (flat_map f (set pages n new)) i ≡ all i (is_marked (flat_map f pages) i)
+    of_page i is =
+        let back : i - PAGE * n ≡ i % PAGE = omega (arith, is) in
+        in_page (set pages n new) n new page set_whole set_near (sym (get_or-set_same pages n new page near)) i
+        (omega (arith, is)) (omega (arith, is))
+        ∙ ap (is_marked (f new)) back ∙ changed.each (i % PAGE) ∙ same i _ is
+        ∙ ap (all i) (ap (is_marked (f page)) (sym back)
+        ∙ sym (in_page pages n page page whole near read i (omega (arith, is)) (omega (arith, is))))
 
     of_other : (i : ℕ) → i / PAGE ≢ n → is_marked (flat_map f (set pages n new)) i ≡ is_marked (flat_map f pages) i
-    of_other i apart = elim (cases_lt i (PAGE * length pages)) [
+    of_other i other = elim (cases_lt i (PAGE * length pages)) [
       | inl low ↦
           let m = i / PAGE in
           in_page (set pages n new) m (get_or pages m page) page set_whole (omega (arith, length-set pages n new))
-          (sym (get_or-set_other pages n m new page apart)) i (omega arith) (omega arith)
+          (sym (get_or-set_other pages n m new page other)) i (omega arith) (omega arith)
           ∙ sym (in_page pages m (get_or pages m page) page whole (omega arith) refl i (omega arith) (omega arith))
       | inr past ↦
           past_pages (set pages n new) i set_whole (omega (arith, length-set pages n new))
           ∙ sym (past_pages pages i whole past)
     ]
 
-    page_set : IsMarkSet (flat_map f pages) (flat_map f (set pages n new)) index marked
-    page_set = record {
+    page_changed : AreChanged (flat_map f pages) (flat_map f (set pages n new)) all
+    page_changed = record {
       long = omega (arith, joined_length pages whole, joined_length (set pages n new) set_whole, length-set pages n new);
       each = λ i. elim (cases_eq (i / PAGE) n) [
-        | inl same ↦ of_page i (omega arith) (omega arith)
-        | inr apart ↦
-            of_other i apart
-            ∙ sym (ap (λ b. then_marked b i) (ne_eqb i index (λ same. apart (ap (λ j. j / PAGE) same ∙ sym is))))
+        | inl is ↦ of_page i is
+        | inr other ↦ of_other i other ∙ sym (apart i _ other)
       ];
     }
 
@@ -157,14 +154,6 @@ module _ {X : Type 0} (f : X → List ℕ) (pages : List X) (are : ArePages f pa
         → IsFirst (is_marked (f page)) to from found
         → IsFirst (is_marked (joined f pages)) end start (option_map (λ k. PAGE * n + k) found)
     found_there = found_in_page f pages n page page are.each near read
-
-    -- in its word
-    pub word_of_page : (from : ℕ) (found : Option ℕ) → n ≡ from / PAGE
-        → IsFirst (is_marked (f page)) (64 * (from % PAGE / 64 + 1)) (from % PAGE) found
-        → IsFirst (is_marked (joined f pages)) (64 * (from / 64 + 1)) from (option_map (λ k. PAGE * n + k) found)
-    word_of_page from found is =
-        found_there (from % PAGE) (64 * (from % PAGE / 64 + 1)) from (64 * (from / 64 + 1)) found
-        (omega arith) (omega arith) (omega arith)
 
     long : length (f page) ≡ 64
     long = ap (λ p. length (f p)) read ∙ are.each n page near
@@ -202,17 +191,78 @@ module _ {X : Type 0} (f : X → List ℕ) (pages : List X) (are : ArePages f pa
           ],
         )
 
+    -- which of so many indices of one word are marked in it
+    pub bits_of_page : (first count bits : ℕ) → n ≡ first / PAGE → first % 64 + count ≤ 64
+        → AreBits (f page) (first % PAGE) count bits → AreBits (joined f pages) first count bits
+    bits_of_page first count bits is within told k = told k ∙ elim (cases_lt k count) [
+      | inl low ↦
+          let at : (first + k) % PAGE ≡ first % PAGE + k = omega arith in
+          ap (λ b. nat_lt k count && b)
+          (ap (is_marked (f page)) (sym at) ∙ sym (mark_of_page (first + k) (omega (arith, is))))
+      | inr high ↦ let past = le-ltb k count high in and_left _ _ past ∙ sym (and_left _ _ past)
+    ]
+
     -- one mark of the page changes, and so does that one among all
     module _ (new : X) (index : ℕ) (marked : Bool) (is : n ≡ index / PAGE)
         (changed : IsMarkSet (f page) (f new) (index % PAGE) marked) where
+      abbrev one_of : ℕ → ℕ → Bool → Bool
+      one_of at i b = if nat_eq i at then marked else b
+
+      same_index : (i : ℕ) (b : Bool) → i / PAGE ≡ n → one_of (index % PAGE) (i % PAGE) b ≡ one_of index i b
+      same_index i b here = ap (λ t. if t then marked else b) (elim (cases_eq i index) [
+        | inl one ↦ eq-eqb (i % PAGE) (index % PAGE) (ap (λ k. k % PAGE) one) ∙ sym (eq-eqb i index one)
+        | inr two ↦ ne_eqb (i % PAGE) (index % PAGE) (λ one. two (omega (arith, one, here, is))) ∙ sym (ne_eqb i index two)
+      ])
+
+      other_index : (i : ℕ) (b : Bool) → i / PAGE ≢ n → one_of index i b ≡ b
+      other_index i b other =
+          ap (λ t. if t then marked else b) (ne_eqb i index (λ one. other (ap (λ j. j / PAGE) one ∙ sym is)))
+
       pub mark_set : IsMarkSet (joined f pages) (joined f (set pages n new)) index marked
-      mark_set = page_set f pages n page new index marked are.each near read is changed
+      mark_set =
+          let all = page_changed f pages n page new (one_of (index % PAGE)) (one_of index) are.each near read
+          (record { long = changed.long; each = changed.each }) same_index other_index in
+          record { long = all.long; each = all.each }
 
       pub still_pages : ArePages f (set pages n new)
       still_pages = record {
         few = omega (arith, are.few, length-set pages n new);
         each = All-set (λ p. length (f p) ≡ 64) pages n new (changed.long ∙ long) are.each;
       }
+
+    -- a run of the page is marked, and so is that one among all
+    module _ (new : X) (first bits : ℕ) (is : n ≡ first / PAGE)
+        (changed : IsRunMarked (f page) (f new) (first % PAGE) bits) where
+      abbrev with_run : ℕ → ℕ → Bool → Bool
+      with_run at i b = b || in_run at bits i
+
+      same_run : (i : ℕ) (b : Bool) → i / PAGE ≡ n → with_run (first % PAGE) (i % PAGE) b ≡ with_run first i b
+      same_run i b here =
+          let further : i % PAGE - first % PAGE ≡ i - first = omega (arith, here, is) in
+          λ j. b || (word j && (behind j && is_set bits (further j)))
+        where
+          word : nat_eq (i % PAGE / 64) (first % PAGE / 64) ≡ nat_eq (i / 64) (first / 64)
+          word = elim (cases_eq (i / 64) (first / 64)) [
+            | inl one ↦ eq-eqb (i % PAGE / 64) (first % PAGE / 64) (omega (arith, one, here, is)) ∙ sym (eq-eqb _ _ one)
+            | inr two ↦
+                ne_eqb (i % PAGE / 64) (first % PAGE / 64) (λ one. two (omega (arith, one, here, is))) ∙ sym (ne_eqb _ _ two)
+          ]
+
+          behind : nat_le (first % PAGE) (i % PAGE) ≡ nat_le first i
+          behind = elim (cases_lt i first) [
+            | inl under ↦ lt-leb (first % PAGE) (i % PAGE) (omega (arith, under, here, is)) ∙ sym (lt-leb first i under)
+            | inr over ↦ le-leb (first % PAGE) (i % PAGE) (omega (arith, over, here, is)) ∙ sym (le-leb first i over)
+          ]
+
+      other_run : (i : ℕ) (b : Bool) → i / PAGE ≢ n → with_run first i b ≡ b
+      other_run i b other =
+          ap (λ t. b || t) (and_left _ _ (ne_eqb (i / 64) (first / 64) (λ one. other (omega (arith, one, is))))) ∙ or-false b
+
+      pub run_marked : IsRunMarked (joined f pages) (joined f (set pages n new)) first bits
+      run_marked =
+          let all = page_changed f pages n page new (with_run (first % PAGE)) (with_run first) are.each near read
+          (record { long = changed.long; each = changed.each }) same_run other_run in
+          record { long = all.long; each = all.each }
 
 -- so many pages of one kind
 pub same_pages : {X : Type 0} (f : X → List ℕ) (page : X) (n : ℕ) → length (f page) ≡ 64 → PAGE * n < 2 ^ 32 → ArePages f (replicate n page)

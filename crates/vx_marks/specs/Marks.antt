@@ -1,5 +1,5 @@
 -- Marks on indices, a bit for each, in words of 64.
-use Rattle.std.specs.Prelude.{◌≡◌, ℕ, ◌*◌, ◌/◌, ◌%◌, ◌<◌, ◌≤◌, Bool, true, false, nat_eq, nat_lt, List, length, slice_index_or, if◌then◌else◌, Option, Some, None}
+use Rattle.std.specs.Prelude.{◌≡◌, ℕ, ◌+◌, ◌-◌, ◌*◌, ◌/◌, ◌%◌, ◌<◌, ◌≤◌, Bool, true, false, ◌&&◌, ◌||◌, nat_eq, nat_lt, nat_le, List, length, slice_index_or, if◌then◌else◌, Option, Some, None}
 use Rattle.std.specs.Int.{bit_at}
 
 -- the bit of a word is set
@@ -37,3 +37,20 @@ pub record AreFilled (words filled : List ℕ) : Type 0 where
 pub record IsMarkSet (old new : List ℕ) (index : ℕ) (marked : Bool) : Type 0 where
   pub long : length new ≡ length old
   pub each : (i : ℕ) → is_marked new i ≡ (if nat_eq i index then marked else is_marked old i)
+
+-- which of so many indices from one on are marked, a bit for each
+abbrev pub AreBits : List ℕ → ℕ → ℕ → ℕ → Type 0
+AreBits words first count bits =
+    (k : ℕ) → is_set bits k ≡ (nat_lt k count && is_marked words (first + k))
+
+-- the index is told by such bits: the bit is set of how much further on it lies than the first, and
+-- it lies in the same word
+abbrev pub in_run : ℕ → ℕ → ℕ → Bool
+in_run first bits index =
+    nat_eq (index / 64) (first / 64) && (nat_le first index && is_set bits (index - first))
+
+-- the indices that bits tell are marked too, and each other mark stays
+pub record IsRunMarked (old new : List ℕ) (first bits : ℕ) : Type 0 where
+  pub long : length new ≡ length old
+  pub each : (index : ℕ)
+      → is_marked new index ≡ (is_marked old index || in_run first bits index)

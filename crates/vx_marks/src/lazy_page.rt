@@ -1,5 +1,6 @@
-ghost use Rattle.std.specs.Prelude.{◌≡◌, ◌<◌, true, replicate, box_value, IfOk, OnOk, OnErr};
-ghost use Rattle.vx_marks.specs.Marks.{is_marked, IsFirstMarked, IsMarkSet};
+ghost use Rattle.std.specs.Option.{option_map_or};
+ghost use Rattle.std.specs.Prelude.{◌≡◌, ◌<◌, ℕ, List, replicate, box_value, IfOk, OnOk, OnErr};
+ghost use Rattle.vx_marks.specs.Marks.{is_marked, IsFirstMarked, IsRunMarked};
 ghost use Rattle.vx_marks.specs.declared.page.TheConstants.{PAGE};
 
 use crate::page::{PAGE, Page};
@@ -39,15 +40,16 @@ impl LazyPage {
         }
     }
 
-    /// Marks an index.
-    pub fn mark(&mut self, alloc: Global, index: u32) -> Result<(), AllocError>
-        requires { index < PAGE }
-        ensures ok { OnOk result (IsMarkSet self.old self.new index true) }
+    /// Marks each index of a run, as far as the first one's word goes.
+    #[inline(always)]
+    pub fn mark_run(&mut self, alloc: Global, first: u32, bits: u64) -> Result<(), AllocError>
+        requires { first < PAGE }
+        ensures ok { OnOk result (IsRunMarked self.old self.new first bits) }
         ensures err { OnErr result (self.new ≡ self.old) }
     {
         match &mut self.page {
-            Some(page) => page.set(index, true),
-            None => self.page = Some(first(alloc, index)?),
+            Some(page) => page.mark_run(first, bits),
+            None => self.page = first_run(alloc, first, bits)?,
         }
         Ok(())
     }
@@ -64,12 +66,16 @@ impl LazyPage {
     }
 }
 
-// A page with one index marked.
-fn first(alloc: Global, index: u32) -> Result<Box<Page>, AllocError>
-    requires { index < PAGE }
-    ensures { IfOk result (λ page. IsMarkSet (replicate 64 0) (box_value page) index true) }
+// A page with a run marked; none where the run is empty.
+fn first_run(alloc: Global, first: u32, bits: u64) -> Result<Option<Box<Page>>, AllocError>
+    requires { first < PAGE }
+    ensures { IfOk result (λ page. IsRunMarked (replicate 64 0)
+        (option_map_or (λ p. box_value {X = List ℕ} p) page (replicate 64 0)) first bits) }
 {
+    if bits == 0 {
+        return Ok(None);
+    }
     let mut page = Page::new();
-    page.set(index, true);
-    Ok(Box::new(alloc, page)?)
+    page.mark_run(first, bits);
+    Ok(Some(Box::new(alloc, page)?))
 }

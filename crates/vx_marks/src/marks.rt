@@ -1,5 +1,5 @@
-ghost use Rattle.std.specs.Prelude.{◌≡◌, ◌*◌, ◌%◌, ◌<◌, ℕ, true, false, length, IfOk, OnOk, OnErr};
-ghost use Rattle.vx_marks.specs.Marks.{is_marked, IsFirstMarked, IsMarkSet};
+ghost use Rattle.std.specs.Prelude.{◌≡◌, ◌*◌, ◌%◌, ◌<◌, ℕ, false, length, IfOk, OnOk, OnErr};
+ghost use Rattle.vx_marks.specs.Marks.{is_marked, IsFirstMarked, IsRunMarked};
 ghost use Rattle.vx_marks.specs.declared.page.TheConstants.{PAGE};
 
 use crate::lazy_page::LazyPage;
@@ -39,13 +39,16 @@ impl Marks {
         Ok(Marks { pages })
     }
 
-    /// Marks an index. It takes memory for the first one of a page.
-    pub fn mark(&mut self, alloc: Global, index: u32) -> Result<(), AllocError>
-        requires { index < 64 * length self.old }
-        ensures ok { OnOk result (IsMarkSet self.old self.new index true) }
+    /// Marks each index of a run: the index so many further on than the first as a bit that is set.
+    /// What lies past the first one's word of 64 is left out. It takes memory for the first one of a
+    /// page.
+    #[inline(always)]
+    pub fn mark_run(&mut self, alloc: Global, first: u32, bits: u64) -> Result<(), AllocError>
+        requires { first < 64 * length self.old }
+        ensures ok { OnOk result (IsRunMarked self.old self.new first bits) }
         ensures err { OnErr result (self.new ≡ self.old) }
     {
-        self.pages[(index / PAGE) as usize].mark(alloc, index % PAGE)
+        self.pages[(first / PAGE) as usize].mark_run(alloc, first % PAGE, bits)
     }
 
     /// Whether an index is marked. It takes no memory.

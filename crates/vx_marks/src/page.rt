@@ -1,5 +1,5 @@
-ghost use Rattle.std.specs.Prelude.{◌≡◌, ◌+◌, ◌*◌, ◌/◌, ◌<◌, ℕ, replicate};
-ghost use Rattle.vx_marks.specs.Marks.{is_marked, IsFirst, IsFirstMarked, IsMarkSet};
+ghost use Rattle.std.specs.Prelude.{◌≡◌, ◌+◌, ◌%◌, ◌<◌, ◌≤◌, replicate};
+ghost use Rattle.vx_marks.specs.Marks.{is_marked, IsFirstMarked, IsMarkSet, AreBits, IsRunMarked};
 ghost use Rattle.vx_marks.specs.declared.page.TheConstants.{PAGE};
 
 use crate::words;
@@ -49,6 +49,22 @@ impl Page {
         words::set_mark(&mut self.filled, word, words::has_marks(&self.words, word));
     }
 
+    /// Marks each index of a run: the index so many further on than the first as a bit that is set.
+    /// What lies past the first one's word of 64 is left out.
+    #[inline(always)]
+    pub fn mark_run(&mut self, first: u32, bits: u64)
+        requires { first < PAGE }
+        ensures { IsRunMarked self.old self.new first bits }
+    {
+        words::mark_run(&mut self.words, first, bits);
+        let place = first / 64;
+        words::set_mark(
+            &mut self.filled,
+            place,
+            words::has_marks(&self.words, place),
+        );
+    }
+
     /// Whether an index is marked. Past the last one none is.
     pub fn has(&self, index: u32) -> bool
         ensures { result ≡ is_marked self.now index }
@@ -68,13 +84,16 @@ impl Page {
         Some(words::first_of_word(&self.words, word))
     }
 
-    /// The first marked index from this one on, in the same word of 64.
+    /// Which of so many indices from this one on are marked, a bit for each; all of them lie in its
+    /// word of 64.
     #[inline(always)]
-    pub fn first_in_word(&self, from: u32) -> Option<u32>
-        requires { from < PAGE }
-        ensures { IsFirst (is_marked self.now) (64 * (from / 64 + 1)) from result }
+    pub fn run(&self, first: u32, count: u32) -> u64
+        requires inside { first < PAGE }
+        requires few { count < 64 }
+        requires within { first % 64 + count ≤ 64 }
+        ensures { AreBits self.now first count result }
     {
-        words::first_in_word(&self.words, from)
+        words::run(&self.words, first, count)
     }
 }
 

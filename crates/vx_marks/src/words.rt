@@ -1,6 +1,6 @@
 //! Words of 64 bits, with a bit for each index.
-ghost use Rattle.std.specs.Prelude.{◌≡◌, ◌≢◌, ◌+◌, ◌*◌, ◌/◌, ◌^◌, ◌<◌, ℕ, nat_eq, nat_lt, Some, length, slice_index_or, if◌then◌else◌};
-ghost use Rattle.vx_marks.specs.Marks.{is_set, is_marked, IsFirst, IsFirstMarked};
+ghost use Rattle.std.specs.Prelude.{◌≡◌, ◌≢◌, ◌+◌, ◌-◌, ◌*◌, ◌/◌, ◌%◌, ◌^◌, ◌<◌, ◌≤◌, ◌&&◌, ◌||◌, ℕ, nat_eq, nat_lt, nat_le, Some, length, slice_index_or, if◌then◌else◌};
+ghost use Rattle.vx_marks.specs.Marks.{is_set, is_marked, IsFirst, IsFirstMarked, AreBits, IsRunMarked};
 
 /// Whether a bit of that word is set.
 #[inline(always)]
@@ -35,6 +35,30 @@ pub fn set_mark(words: &mut [u64], index: u32, marked: bool)
 {
     let word = (index / 64) as usize;
     words[word] = with_bit(words[word], index % 64, marked);
+}
+
+/// Sets the bit of each index of a run: the index so many further on than the first as a bit that is
+/// set. What lies past the first one's word is left out.
+#[inline(always)]
+pub fn mark_run(words: &mut [u64], first: u32, bits: u64)
+    requires { first < 64 * length words.old }
+    ensures marks { IsRunMarked words.old words.new first bits }
+    ensures words { (k : ℕ) → k ≢ first / 64
+        → slice_index_or words.new k 0 ≡ slice_index_or words.old k 0 }
+{
+    let word = (first / 64) as usize;
+    words[word] = with_run(words[word], first % 64, bits);
+}
+
+/// The bits of so many indices from this one on, all in its word.
+#[inline(always)]
+pub fn run(words: &[u64], first: u32, count: u32) -> u64
+    requires inside { first < 64 * length words.now }
+    requires few { count < 64 }
+    requires within { first % 64 + count ≤ 64 }
+    ensures { AreBits words.now first count result }
+{
+    bits_from(words[(first / 64) as usize], first % 64, count)
 }
 
 /// The first index from this one on, in the same word, whose bit is set.
@@ -91,6 +115,26 @@ fn with_bit(word: u64, bit: u32, marked: bool) -> u64
 {
     let mask = 1_u64 << bit;
     if marked { word | mask } else { word & !mask }
+}
+
+// The word with the bits of a run set that begins at that bit, as far as the word goes.
+#[inline(always)]
+fn with_run(word: u64, from: u32, bits: u64) -> u64
+    requires { from < 64 }
+    ensures { (i : ℕ) → i < 64
+        → is_set result i ≡ (is_set word i || (nat_le from i && is_set bits (i - from))) }
+{
+    word | bits << from
+}
+
+// So many bits of a word, from this one on.
+#[inline(always)]
+fn bits_from(word: u64, from: u32, count: u32) -> u64
+    requires from { from < 64 }
+    requires few { count < 64 }
+    ensures { (k : ℕ) → is_set result k ≡ (nat_lt k count && is_set word (from + k)) }
+{
+    word >> from & (1_u64 << count) - 1
 }
 
 // The first bit of a word, from this one on, that is set.

@@ -1,9 +1,9 @@
 -- Positions that are added one group after another.
-use Rattle.std.proofs.Common.{◌≡◌, ℕ, ◌+◌, ◌<◌, ◌≤◌, Bool, true, false, ◌&&◌, ◌||◌, nat_eq, nat_lt, inl, inr, refl, ap, sym, ◌∙◌, arith}
-use Rattle.std.proofs.lemmas.Bool.{cases_Bool, cases_lt, cases_order, and_left, and_right, or_left, or_right, or_from, eq-eqb, ne_eqb, lt-ltb, le-ltb}
+use Rattle.std.proofs.Common.{◌≡◌, ℕ, ◌+◌, ◌<◌, ◌≤◌, Bool, true, false, ◌&&◌, ◌||◌, nat_eq, nat_lt, nat_le, inl, inr, refl, ap, sym, ◌∙◌, arith}
+use Rattle.std.proofs.lemmas.Bool.{cases_Bool, cases_lt, cases_order, and_left, and_right, or_left, or_right, or_from, eq-eqb, ne_eqb, lt-ltb, le-ltb, le-leb}
 use Rattle.vx_geom.specs.declared.pos.Pos.{Pos}
 use Rattle.vx_geom.specs.Sizes.{is_inside}
-use Rattle.vx_places.specs.Around.{at_number, below_number, Adds}
+use Rattle.vx_places.specs.Around.{at_number, below_number, between_numbers, Adds}
 use Rattle.vx_places.specs.Places.{PlacesData, is_at}
 
 joined : (o i f g h : Bool) → (i ≡ true → (f || g) ≡ h) → ((o || (i && f)) || (i && g)) ≡ (o || (i && h))
@@ -59,15 +59,12 @@ one_further true m n = elim (cases_order m n) [
   ]
 ]
 
--- numbers are below both, or below neither, but for those between that do not pass
-same_below : (t : Bool) (k m n : ℕ) → m ≤ n → (m ≤ k → k < n → t ≡ false)
-    → (t && nat_lt k m) ≡ (t && nat_lt k n)
-same_below t k m n above none = elim (cases_lt k m) [
-  | inl less ↦ ap (λ b. t && b) (lt-ltb k m less ∙ sym (lt-ltb k n (omega arith)))
-  | inr least ↦ elim (cases_lt k n) [
-    | inl less ↦ let fails = none least less in and_left t _ fails ∙ sym (and_left t _ fails)
-    | inr past ↦ ap (λ b. t && b) (le-ltb k m least ∙ sym (le-ltb k n past))
-  ]
+more_further : (t : Bool) (k m n : ℕ) → m ≤ n
+    → ((t && nat_lt k m) || (t && (nat_le m k && nat_lt k n))) ≡ (t && nat_lt k n)
+more_further false k m n above = refl
+more_further true k m n above = elim (cases_lt k m) [
+  | inl less ↦ or_left _ _ (lt-ltb k m less) ∙ sym (lt-ltb k n (omega arith))
+  | inr least ↦ (λ i. le-ltb k m least i || (le-leb m k least i && nat_lt k n))
 ]
 
 -- what passes a test, added by its numbers one after another
@@ -89,13 +86,12 @@ module _ (number : Pos → ℕ) (test : Pos → Bool) (a : PlacesData) where
       adds_more (below_number number test n) (at_number number test n) (below_number number test (n + 1)) a b c
       first second (λ p _. one_further (test p) (number p) n)
 
-  -- where none has a number from one up to below another, those below the other are no more
-  pub none_between : (m n : ℕ) (b : PlacesData) → m ≤ n → Adds (below_number number test m) a b
-      → ((p : Pos) → is_inside a.sizes p ≡ true → m ≤ number p → number p < n → test p ≡ false)
-      → Adds (below_number number test n) a b
-  none_between m n b above first none =
-      adds_same (below_number number test m) (below_number number test n) a b first
-      (λ p inside. same_below (test p) (number p) m n above (none p inside))
+  -- those of all numbers up to below another
+  pub more_numbers : (m n : ℕ) (b c : PlacesData) → m ≤ n → Adds (below_number number test m) a b
+      → Adds (between_numbers number test m n) b c → Adds (below_number number test n) a c
+  more_numbers m n b c above first second =
+      adds_more (below_number number test m) (between_numbers number test m n) (below_number number test n) a b c
+      first second (λ p _. more_further (test p) (number p) m n above)
 
   -- where all have lesser numbers all are added
   pub all_numbers : (end : ℕ) (b : PlacesData) → Adds (below_number number test end) a b

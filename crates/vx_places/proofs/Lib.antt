@@ -2,5 +2,6 @@ pub mod Adding
 pub mod Finding
 pub mod Marked
 pub mod Near
+pub mod Runs
 pub mod Steps
 pub mod Widths

@@ -1,17 +1,16 @@
 -- Which layers, rows and columns lie within so many steps of a position.
-use Rattle.std.proofs.Common.{◌≡◌, ℕ, ◌+◌, ◌*◌, ◌<◌, ◌≤◌, true, false, nat_eq, inl, inr, pos, ◌-ℤ◌, unsigned_abs, ap, sym, ◌∙◌, arith}
+use Rattle.std.proofs.Common.{◌≡◌, ℕ, ◌+◌, ◌*◌, ◌<◌, ◌≤◌, Bool, ◌&&◌, true, false, nat_eq, nat_lt, nat_le, inl, inr, pos, ◌-ℤ◌, unsigned_abs, refl, ap, sym, ◌∙◌, arith}
 use Rattle.std.specs.Prelude.{ℤ, int_lt}
-use Rattle.std.proofs.lemmas.Bool.{cases_Bool, and_parts, and_from, leb-true, le-leb, eqb-true, eq-eqb, false_from_ne_true, true≢false}
+use Rattle.std.proofs.lemmas.Bool.{cases_Bool, and_parts, leb-true, ltb-true, le-leb, eqb-true}
 use Rattle.std.proofs.lemmas.Int.{ints}
 use Rattle.vx_geom.specs.declared.pos.Pos.{Pos}
 use Rattle.vx_geom.specs.Sizes.{Sizes, span, is_inside}
-use Rattle.vx_geom.proofs.Positions.{same_pos}
-use Rattle.vx_geom.proofs.SectorLemmas.{inside_at}
+use Rattle.vx_geom.proofs.SectorLemmas.{inside_at, below_from}
+use Rattle.vx_cells.specs.Listed.{place}
 use Rattle.vx_block.specs.declared.cell.Cell.{Cell}
 use Rattle.vx_block.specs.Components.{is_component}
-use Rattle.vx_places.specs.Around.{is_around, is_component_around, layer_of, row_of, column_of, at_number, least_within, end_within}
+use Rattle.vx_places.specs.Around.{is_around, is_component_around, is_component_in_run, layer_of, row_of, column_of, at_number, between_numbers, least_within, end_within}
 use Rattle.vx_places.specs.Places.{steps_between}
-use Rattle.vx_places.proofs.Steps.{is_place, place_is}
 
 -- the numbers within so many steps of a coordinate end below `count`
 pub end_most : (c : ℤ) (steps count : ℕ) → end_within c steps count ≤ count
@@ -47,6 +46,26 @@ module _ (c : ℤ) (steps count n : ℕ) where
     | inl under ↦ omega (arith, ints, under, rw under at low)
     | inr over ↦ omega (arith, ints, over, rw over at least, rw over at low)
   ]
+
+-- where its coordinates are below those of the world's end a position is of the world
+pub inside_below : (v : Sizes) (x y z : ℕ) → x < v.sx * span v → y < v.h → z < v.sz * span v
+    → is_inside v (place x y z) ≡ true
+unfolding is_inside
+inside_below v x y z low_x low_y low_z =
+    let in_x = below_from (pos x) (v.sx * span v) (omega (arith, ints)) (omega (arith, ints, low_x)) in
+    let in_y = below_from (pos y) v.h (omega (arith, ints)) (omega (arith, ints, low_y)) in
+    let in_z = below_from (pos z) (v.sz * span v) (omega (arith, ints)) (omega (arith, ints, low_z)) in
+    (λ i. in_x i && (in_y i && in_z i))
+
+-- a test that follows from others may be left out
+left_out : (a b l r c : Bool) → (l ≡ true → r ≡ true → c ≡ true → a ≡ true)
+    → (((b && l) && r) && c) ≡ ((((a && b) && l) && r) && c)
+left_out true b l r c follows = refl
+left_out false false l r c follows = refl
+left_out false true false r c follows = refl
+left_out false true true false c follows = refl
+left_out false true true true false follows = refl
+left_out false true true true true follows = sym (follows refl refl refl)
 
 -- the components of a world around a position
 module _ (w : Pos → Cell) (v : Sizes) (p : Pos) (steps : ℕ) (q : Pos) (inside : is_inside v q ≡ true) where
@@ -99,53 +118,22 @@ module _ (w : Pos → Cell) (v : Sizes) (p : Pos) (steps : ℕ) (q : Pos) (insid
             end_near p.x left count (column_of q) low near,
           )
 
-      -- the position of a column of the row
-      abbrev place : ℕ → Pos
-      place x = record { y = pos y; z = pos z; x = pos x }
-
-      in_row : at_number row_of (at_number layer_of (is_component_around w p steps) y) z q ≡ true
-          → q ≡ place (column_of q)
-      in_row around =
-          let at = inside_at v q inside in
-          let both = and_parts _ _ around in
-          let parts = and_parts _ _ both.0 in
-          same_pos q (place (column_of q))
-          (at.y_is ∙ ap pos (eqb-true (layer_of q) y parts.1))
-          (at.z_is ∙ ap pos (eqb-true (row_of q) z both.1))
-          at.x_is
-
-      -- and in a column where one stands there is this one
-      pub one_column : (x : ℕ) → unsigned_abs (p.x -ℤ pos x) ≤ left
-          → is_component (w (record { y = pos y; z = pos z; x = pos x })) ≡ true
-          → nat_eq (steps_between (record { y = pos y; z = pos z; x = pos x }) q) 0
-          ≡ at_number column_of (at_number row_of (at_number layer_of (is_component_around w p steps) y) z) x q
-      one_column x near stands =
-          let at = inside_at v q inside in
-          let r : Pos = record { y = pos y; z = pos z; x = pos x } in
-          let row = at_number row_of (at_number layer_of (is_component_around w p steps) y) z q in
-          let layer = at_number layer_of (is_component_around w p steps) y q in
-          elim (cases_Bool (nat_eq (steps_between r q) 0)) [
-            | inl is ↦
-                let same = place_is r q is in
-                let around : is_around p steps q ≡ true =
-                ap (is_around p steps) (sym same) ∙ le-leb (steps_between p r) steps (omega (arith, near, rest)) in
-                is ∙ sym (and_from row _
-                (and_from layer _
-                (and_from (is_component_around w p steps q) _
-                (and_from (is_around p steps q) _ around (ap (λ s. is_component (w s)) (sym same) ∙ stands))
-                (eq-eqb (layer_of q) y (ap layer_of (sym same))))
-                (eq-eqb (row_of q) z (ap row_of (sym same))))
-                (eq-eqb (column_of q) x (ap column_of (sym same))))
-            | inr apart ↦ apart ∙ sym (false_from_ne_true _ (λ all.
-                let both = and_parts row _ all in
-                let same = in_row both.0 ∙ ap place (eqb-true (column_of q) x both.1) in
-                true≢false (sym (is_place r q (sym same)) ∙ apart)))
-          ]
-
-      -- where none stands in its column it is none of them
-      pub none_column : is_component (w (record { y = pos y; z = pos z; x = pos (column_of q) })) ≡ false
-          → at_number row_of (at_number layer_of (is_component_around w p steps) y) z q ≡ false
-      none_column none = false_from_ne_true _ (λ all.
-          let parts = and_parts _ _ (and_parts _ _ all).0 in
-          let stands = (and_parts (is_around p steps q) (is_component (w q)) parts.0).1 in
-          true≢false (sym stands ∙ ap (λ s. is_component (w s)) (in_row all) ∙ none))
+      -- in columns that lie within these steps all components of the row are such
+      pub near_run : (x length : ℕ) → ((c : ℕ) → x ≤ c → c < x + length → unsigned_abs (p.x -ℤ pos c) ≤ left)
+          → is_component_in_run w x y z length q
+          ≡ between_numbers column_of (at_number row_of (at_number layer_of (is_component_around w p steps) y) z)
+          x (x + length) q
+      near_run x length near =
+          left_out (is_around p steps q) (is_component (w q)) (nat_eq (layer_of q) y) (nat_eq (row_of q) z) _ around
+        where
+          around : nat_eq (layer_of q) y ≡ true → nat_eq (row_of q) z ≡ true
+              → (nat_le x (column_of q) && nat_lt (column_of q) (x + length)) ≡ true → is_around p steps q ≡ true
+          around layer row columns =
+              let at = inside_at v q inside in
+              let in_y = ap (λ n. unsigned_abs (p.y -ℤ n)) (at.y_is ∙ ap pos (eqb-true (layer_of q) y layer)) in
+              let in_z = ap (λ n. unsigned_abs (p.z -ℤ n)) (at.z_is ∙ ap pos (eqb-true (row_of q) z row)) in
+              let in_x = ap (λ n. unsigned_abs (p.x -ℤ n)) at.x_is in
+              let ends = and_parts (nat_le x (column_of q)) _ columns in
+              let at_most = near (column_of q) (leb-true x (column_of q) ends.0)
+              (ltb-true (column_of q) (x + length) ends.1) in
+              le-leb (steps_between p q) steps (omega (arith, at_most, in_x, in_y, in_z, rest))

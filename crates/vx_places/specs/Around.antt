@@ -1,7 +1,7 @@
 -- The positions within so many steps of one, by layers, rows and columns.
-use Rattle.std.specs.Prelude.{◌≡◌, ℕ, ◌+◌, ◌-◌, min, Bool, ◌&&◌, ◌||◌, nat_eq, nat_lt, nat_le, if◌then◌else◌, ℤ, pos, int_lt, unsigned_abs}
+use Rattle.std.specs.Prelude.{◌≡◌, ℕ, ◌+◌, ◌-◌, ◌%◌, min, Bool, ◌&&◌, ◌||◌, nat_eq, nat_lt, nat_le, if◌then◌else◌, ℤ, pos, int_lt, unsigned_abs}
 use Rattle.vx_geom.specs.declared.pos.Pos.{Pos}
-use Rattle.vx_geom.specs.Sizes.{is_inside}
+use Rattle.vx_geom.specs.Sizes.{Sizes, span, is_inside}
 use Rattle.vx_block.specs.declared.cell.Cell.{Cell}
 use Rattle.vx_block.specs.Components.{is_component}
 use Rattle.vx_places.specs.Places.{PlacesData, is_at, steps_between}
@@ -32,6 +32,16 @@ at_number number test n p = test p && nat_eq (number p) n
 abbrev pub below_number : (Pos → ℕ) → (Pos → Bool) → ℕ → Pos → Bool
 below_number number test n p = test p && nat_lt (number p) n
 
+-- it passes a test, and its number lies from one up to below another
+abbrev pub between_numbers : (Pos → ℕ) → (Pos → Bool) → ℕ → ℕ → Pos → Bool
+between_numbers number test m n p = test p && (nat_le m (number p) && nat_lt (number p) n)
+
+-- a component of machines stands there, in one of so many columns of a row of a layer, from one on
+abbrev pub is_component_in_run : (Pos → Cell) → ℕ → ℕ → ℕ → ℕ → Pos → Bool
+is_component_in_run w x y z length =
+    between_numbers column_of (at_number row_of (at_number layer_of (λ q. is_component (w q)) y) z)
+    x (x + length)
+
 -- of the numbers below `count` those within so many steps of a coordinate lie from this one
 unfoldable pub least_within : ℤ → ℕ → ℕ → ℕ
 least_within c steps count =
@@ -43,6 +53,11 @@ end_within c steps count =
     if int_lt c (pos 0)
     then min (steps + 1 - unsigned_abs c) count
     else min (unsigned_abs c + steps + 1) count
+
+-- so many columns from one on lie in one sector of a world of either size
+unfoldable pub shared_columns : Sizes → Sizes → ℕ → ℕ
+shared_columns v w x =
+    if nat_lt 16 (span v) && nat_lt 16 (span w) then 32 - x % 32 else 16 - x % 16
 
 -- the positions of the world that pass a test were added
 pub record Adds (test : Pos → Bool) (old new : PlacesData) : Type 0 where

@@ -1,10 +1,10 @@
 -- Sets of positions of a world, kept as marks by sector.
-use Rattle.std.specs.Prelude.{◌≡◌, ℕ, ◌+◌, ◌*◌, Bool, false, List, length, slice_index_or, Option, Some, None, ◌-ℤ◌, unsigned_abs}
+use Rattle.std.specs.Prelude.{◌≡◌, ℕ, ◌+◌, ◌*◌, Bool, false, ◌&&◌, nat_eq, List, length, slice_index_or, Option, Some, None, ◌-ℤ◌, unsigned_abs}
 use Rattle.std.specs.List.{filter}
 use Rattle.vx_geom.specs.declared.pos.Pos.{Pos}
 use Rattle.vx_geom.specs.Places.{positions}
-use Rattle.vx_geom.specs.Sizes.{Sizes, AreSizes, sector_count, sector_cells, sector_of, index_in_sector}
-use Rattle.vx_marks.specs.Marks.{is_marked}
+use Rattle.vx_geom.specs.Sizes.{Sizes, AreSizes, sector_count, sector_cells, sector_number, sector_of, index_in_sector}
+use Rattle.vx_marks.specs.Marks.{is_marked, in_run}
 
 -- positions of a world: its size, and the marks of each sector by the indices of its places; none
 -- where nothing was ever marked
@@ -25,6 +25,12 @@ marks_at marks (Some sector) = slice_index_or marks sector None
 -- the position is one of them
 unfoldable pub is_at : PlacesData → Pos → Bool
 is_at d p = marked_in (marks_at d.marks (sector_of d.sizes p)) (index_in_sector d.sizes p)
+
+-- the position lies in the sector of another, and its index is of a run that begins with that one's
+abbrev pub in_run_from : Sizes → Pos → ℕ → Pos → Bool
+in_run_from v p bits q =
+    nat_eq (sector_number v q) (sector_number v p)
+    && in_run (index_in_sector v p) bits (index_in_sector v q)
 
 -- how many steps lead from one position to another
 abbrev pub steps_between : Pos → Pos → ℕ

@@ -1,7 +1,8 @@
 //! What of each coordinate lies within so many steps.
-ghost use Rattle.std.specs.Prelude.{◌≡◌, ◌≤◌, pos, ◌-ℤ◌, unsigned_abs};
+ghost use Rattle.std.specs.Prelude.{◌≡◌, ◌+◌, ◌%◌, ◌<◌, ◌≤◌, pos, ◌-ℤ◌, unsigned_abs};
+ghost use Rattle.vx_geom.specs.Sizes.{span};
 ghost use Rattle.vx_geom.specs.declared.bounds.TheConstants.{HIGH_HEIGHT, MAX_COLUMNS_EACH_WAY};
-ghost use Rattle.vx_places.specs.Around.{least_within, end_within};
+ghost use Rattle.vx_places.specs.Around.{least_within, end_within, shared_columns};
 
 use vx_geom::Bounds;
 
@@ -46,4 +47,24 @@ pub fn layers(bounds: Bounds) -> u32
 {
     bounds.soundness();
     bounds.height()
+}
+
+/// How many columns from that one on lie in one sector of a world of this size, and also in one of
+/// a world of that size.
+// Each width stands as a number, so that the machine need not divide.
+#[inline(always)]
+#[tactic(auto, unfolding(crate::specs::Around::shared_columns))]
+pub fn shared_columns(one: Bounds, other: Bounds, x: u32) -> u32
+    ensures value { result ≡ shared_columns one other x }
+    ensures some { 0 < result }
+    ensures here { x % span one + result ≤ span one }
+    ensures there { x % span other + result ≤ span other }
+{
+    one.soundness();
+    other.soundness();
+    if one.span() > 16 && other.span() > 16 {
+        32 - x % 32
+    } else {
+        16 - x % 16
+    }
 }

@@ -1,15 +1,16 @@
 ghost use Rattle.std.specs.Prelude.{◌≡◌, ◌+◌, ◌*◌, ◌%◌, ◌<◌, ◌≤◌, ◌&&◌, ◌||◌, ℕ, pos, ◌-ℤ◌, unsigned_abs, false, true, nat_eq, nat_le, length, replicate, slice_index_or, if◌then◌else◌, None, Some, IfOk, OnOk, IfSome};
 ghost use Rattle.std.specs.List.{filter, list_any};
-ghost use Rattle.vx_geom.specs.declared.bounds.TheConstants.{HIGH_HEIGHT, MAX_COLUMNS_EACH_WAY};
 ghost use Rattle.vx_geom.specs.declared.pos.Pos.{Pos};
 ghost use Rattle.vx_geom.specs.Places.{positions};
 ghost use Rattle.vx_geom.specs.Sizes.{AreSizes, span, sector_count, sector_cells, is_inside};
+ghost use Rattle.vx_cells.specs.Listed.{place};
 ghost use Rattle.vx_cells.specs.Maps.{cell_on};
+ghost use Rattle.vx_marks.specs.Marks.{in_run};
 ghost use Rattle.vx_marks.specs.declared.page.TheConstants.{PAGE};
-ghost use Rattle.vx_places.specs.Around.{is_component_around, at_number, layer_of, row_of, Adds};
-ghost use Rattle.vx_places.specs.Places.{marked_in, is_at, steps_between, HasRoom};
+ghost use Rattle.vx_places.specs.Around.{is_component_around, is_component_in_run, at_number, layer_of, row_of, Adds};
+ghost use Rattle.vx_places.specs.Places.{marked_in, in_run_from, is_at, steps_between, HasRoom};
 
-use crate::around::{end_within, layers, least_within, steps_along};
+use crate::around::{end_within, layers, least_within, shared_columns, steps_along};
 use std::alloc::{AllocError, Global};
 use std::marker::Model;
 use vx_cells::Frozen;
@@ -83,15 +84,11 @@ impl Places {
             ≡ (is_at self.old q
             || (is_inside self.old.sizes q && nat_eq (steps_between p q) 0))) }
     {
-        let Some(number) = self.bounds.sector_of(p) else {
-            return Ok(());
-        };
-        let count = self.bounds.sector_cells();
-        let index = self.bounds.index_in_sector(p);
-        let Some(sector) = self.sectors.get_mut(number as usize) else {
-            return Ok(());
-        };
-        mark_in(alloc, sector, count, index)
+        if self.bounds.inside(p) {
+            self.mark_from(alloc, p, 1)
+        } else {
+            Ok(())
+        }
     }
 
     /// Adds each position of a list that is of the world.
@@ -141,13 +138,14 @@ impl Places {
         y: u32,
     ) -> Result<(), AllocError>
         requires few { steps ≤ 8 }
-        requires low { y < HIGH_HEIGHT }
+        requires low { y < self.old.sizes.h }
         requires near { unsigned_abs (p.y -ℤ pos y) ≤ steps }
         ensures sizes { self.new.sizes ≡ self.old.sizes }
         ensures marked { OnOk result (Adds
             (at_number layer_of (is_component_around (cell_on map.now) p steps) y)
             self.old self.new) }
     {
+        self.soundness();
         let count = self.bounds().rows();
         let left = steps - steps_along(p.y, y);
         let first = least_within(p.z, left, count);
@@ -157,8 +155,8 @@ impl Places {
         Ok(())
     }
 
-    // Adds those of one row of a layer alone. It goes from one component to the next, and does not
-    // look at each column.
+    // Adds those of one row of a layer alone, run by run: as many columns at once as lie in one
+    // sector here and on the map.
     fn mark_row(
         &mut self,
         alloc: Global,
@@ -169,23 +167,71 @@ impl Places {
         z: u32,
     ) -> Result<(), AllocError>
         requires few { steps ≤ 8 }
-        requires low { y < HIGH_HEIGHT }
-        requires north { z < MAX_COLUMNS_EACH_WAY }
+        requires low { y < self.old.sizes.h }
+        requires north { z < self.old.sizes.sz * span self.old.sizes }
         requires near { unsigned_abs (p.y -ℤ pos y) + unsigned_abs (p.z -ℤ pos z) ≤ steps }
         ensures sizes { self.new.sizes ≡ self.old.sizes }
         ensures marked { OnOk result (Adds (at_number row_of
             (at_number layer_of (is_component_around (cell_on map.now) p steps) y) z)
             self.old self.new) }
     {
-        let count = self.bounds().columns();
+        self.soundness();
+        let bounds = self.bounds();
+        let count = bounds.columns();
         let left = steps - steps_along(p.y, y) - steps_along(p.z, z);
         let end = end_within(p.x, left, count);
         let mut next = least_within(p.x, left, count);
-        while let Some(x) = map.component_in_row(y, z, next, end) {
-            self.mark(alloc, Pos::new(x as i32, y as i32, z as i32))?;
-            next = x + 1;
+        while next < end {
+            let length = shared_columns(bounds, map.bounds(), next).min(end - next);
+            self.mark_run(alloc, map, next, y, z, length)?;
+            next += length;
         }
         Ok(())
+    }
+
+    // Adds the components of so many columns of a row of a layer, from that one on.
+    #[inline(always)]
+    fn mark_run(
+        &mut self,
+        alloc: Global,
+        map: &Frozen<'_>,
+        x: u32,
+        y: u32,
+        z: u32,
+        length: u32,
+    ) -> Result<(), AllocError>
+        requires inside { is_inside self.old.sizes (place x y z) ≡ true }
+        requires here { x % span self.old.sizes + length ≤ span self.old.sizes }
+        requires there { x % span map.now.sizes + length ≤ span map.now.sizes }
+        ensures sizes { self.new.sizes ≡ self.old.sizes }
+        ensures marked { OnOk result (Adds
+            (is_component_in_run (cell_on map.now) x y z length) self.old self.new) }
+    {
+        self.soundness();
+        let bits = map.components_in_row(x, y, z, length);
+        if bits == 0 {
+            return Ok(());
+        }
+        self.mark_from(alloc, Pos::new(x as i32, y as i32, z as i32), bits)
+    }
+
+    // Adds the positions of a run of indices that begins with that of a position.
+    #[inline(always)]
+    fn mark_from(&mut self, alloc: Global, p: Pos, bits: u64) -> Result<(), AllocError>
+        requires { is_inside self.old.sizes p ≡ true }
+        ensures sizes { self.new.sizes ≡ self.old.sizes }
+        ensures marked { OnOk result (Adds (in_run_from self.old.sizes p bits) self.old self.new) }
+    {
+        let number = self.bounds.sector_holding(p);
+        let index = self.bounds.index_in_sector(p);
+        let count = self.bounds.sector_cells();
+        mark_in(
+            alloc,
+            &mut self.sectors[number as usize],
+            count,
+            index,
+            bits,
+        )
     }
 
     /// The positions of a sector, in order. A sector without any costs a look.
@@ -241,25 +287,27 @@ fn unmarked(alloc: Global, count: u32) -> Result<Vec<Option<Marks>>, AllocError>
     Ok(sectors)
 }
 
-// Marks an index of a sector that has so many places.
+// Marks a run of indices of a sector that has so many places.
+#[inline(always)]
 fn mark_in(
     alloc: Global,
     sector: &mut Option<Marks>,
     count: u32,
-    index: u32,
+    first: u32,
+    bits: u64,
 ) -> Result<(), AllocError>
     requires count { count % PAGE ≡ 0 }
-    requires index { index < count }
+    requires index { first < count }
     requires room { HasRoom count sector.old }
     ensures room { HasRoom count sector.new }
     ensures marked { OnOk result ((i : ℕ) → marked_in sector.new i
-        ≡ (if nat_eq i index then true else marked_in sector.old i)) }
+        ≡ (marked_in sector.old i || in_run first bits i)) }
 {
     match sector {
-        Some(marks) => marks.mark(alloc, index),
+        Some(marks) => marks.mark_run(alloc, first, bits),
         None => {
             let mut marks = Marks::new(alloc, count)?;
-            marks.mark(alloc, index)?;
+            marks.mark_run(alloc, first, bits)?;
             *sector = Some(marks);
             Ok(())
         }

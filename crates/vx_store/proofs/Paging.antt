@@ -1,7 +1,7 @@
 -- Marks of components and devices in pages, kind by kind.
-use Rattle.std.proofs.Common.{◌≡◌, ℕ, ◌+◌, ◌*◌, ◌/◌, ◌%◌, ◌^◌, ◌<◌, ◌≤◌, false, List, length, get_or, set, replicate, Option, Some, None, option_map, refl, ap, ◌∙◌, subst, sym, arith}
+use Rattle.std.proofs.Common.{◌≡◌, ℕ, ◌+◌, ◌*◌, ◌/◌, ◌%◌, ◌^◌, ◌<◌, ◌≤◌, false, List, length, get_or, set, replicate, Some, None, refl, ap, ◌∙◌, subst, sym, arith}
 use Rattle.std.proofs.lemmas.List.{length-replicate}
-use Rattle.vx_marks.specs.Marks.{is_marked, IsFirst, IsFirstMarked, AreUnmarked}
+use Rattle.vx_marks.specs.Marks.{is_marked, IsFirstMarked, AreUnmarked, AreBits}
 use Rattle.vx_marks.specs.Pages as pages
 use Rattle.vx_marks.specs.declared.page.TheConstants.{PAGE}
 use Rattle.vx_marks.proofs.Marking.{none_marked}
@@ -50,16 +50,15 @@ are_blank n count is fits = record {
 pub kind_unmarked : (kind : MarkKind) (i : ℕ) → is_marked (words_of kind blank_page) i ≡ false
 kind_unmarked kind i = ap (λ words. is_marked words i) (kind_blank kind) ∙ none_marked 64 i
 
--- what is found first in a page that was read
+-- what is found in a page that was read
 module _ (kind : MarkKind) (ps : List MarkWords) (n : ℕ) (page : MarkWords) (are : ArePages ps)
     (near : n < length ps) (read : page ≡ get_or ps n page) where
-  -- in its word
-  pub word_of_page : (from : ℕ) (found : Option ℕ) → n ≡ from / PAGE
-      → IsFirst (is_marked (words_of kind page)) (64 * (from % PAGE / 64 + 1)) (from % PAGE) found
-      → IsFirst (is_marked (words_of kind (joined ps))) (64 * (from / 64 + 1)) from (option_map (λ k. PAGE * n + k) found)
-  word_of_page from found is first =
-      subst (λ words. IsFirst (is_marked words) (64 * (from / 64 + 1)) from (option_map (λ k. PAGE * n + k) found)) (sym (kind_joined kind ps))
-      (paging.word_of_page (words_of kind) ps (kind_are kind ps are) n page near read from found is first)
+  -- which of so many indices of one word are marked
+  pub bits_of_page : (first count bits : ℕ) → n ≡ first / PAGE → first % 64 + count ≤ 64
+      → AreBits (words_of kind page) (first % PAGE) count bits → AreBits (words_of kind (joined ps)) first count bits
+  bits_of_page first count bits is within told =
+      subst (λ words. AreBits words first count bits) (sym (kind_joined kind ps))
+      (paging.bits_of_page (words_of kind) ps (kind_are kind ps are) n page near read first count bits is within told)
 
   -- where nothing was marked before it, and nothing is in the page, nothing is before the next page
   pub none_to_next : (from next : ℕ) → n ≡ next / PAGE → AreUnmarked (words_of kind (joined ps)) from next

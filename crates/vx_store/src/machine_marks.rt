@@ -1,11 +1,11 @@
-ghost use Rattle.std.specs.Prelude.{◌≡◌, ◌+◌, ◌*◌, ◌/◌, ◌%◌, ◌<◌, ℕ, List, true, nat_lt, length, replicate, slice_index_or, slice_set, IfOk, OnOk, OnErr};
+ghost use Rattle.std.specs.Prelude.{◌≡◌, ◌+◌, ◌*◌, ◌/◌, ◌%◌, ◌<◌, ◌≤◌, ℕ, List, true, nat_lt, length, replicate, slice_index_or, slice_set, IfOk, OnOk, OnErr};
 ghost use Rattle.vx_store.specs.Chests.{Changes, SameSlots, begun};
 ghost use Rattle.vx_store.specs.Codes.{code_count, cell_of, is_chest};
 ghost use Rattle.vx_store.specs.MarkedPlaces.{marked_places};
 ghost use Rattle.vx_store.specs.MachineMarks.{words_of, AreMachineMarks};
 ghost use Rattle.vx_store.specs.Placing.{CanPut};
 ghost use Rattle.vx_geom.specs.Sizes.{Sizes, AreSizes, sector_count, sector_cells};
-ghost use Rattle.vx_marks.specs.Marks.{is_marked, IsFirst, IsFirstMarked};
+ghost use Rattle.vx_marks.specs.Marks.{IsFirstMarked, AreBits};
 ghost use Rattle.vx_marks.specs.declared.page.TheConstants.{PAGE};
 
 use crate::chest_parts::ChestParts;
@@ -127,15 +127,16 @@ impl MachineMarks {
         None
     }
 
-    /// The first index from this one on with a mark of that kind, in the same word of 64.
+    /// Which of so many indices from this one on have a mark of that kind, a bit for each; all of
+    /// them lie in its word of 64.
     #[inline(always)]
-    pub fn first_in_word(&self, kind: MarkKind, from: u32) -> Option<u32>
-        requires { from < 64 * length (words_of kind self.now) }
-        ensures { IsFirst (is_marked (words_of kind self.now)) (64 * (from / 64 + 1)) from result }
+    pub fn run(&self, kind: MarkKind, first: u32, count: u32) -> u64
+        requires inside { first < 64 * length (words_of kind self.now) }
+        requires few { count < 64 }
+        requires within { first % 64 + count ≤ 64 }
+        ensures { AreBits (words_of kind self.now) first count result }
     {
-        let number = from / PAGE;
-        let index = self.pages[number as usize].first_in_word(kind, from % PAGE)?;
-        Some(PAGE * number + index)
+        self.pages[(first / PAGE) as usize].run(kind, first % PAGE, count)
     }
 
     /// Whether any index has a mark of that kind, in a sector of any world of so many cells a

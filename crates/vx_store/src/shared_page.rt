@@ -1,10 +1,10 @@
-ghost use Rattle.std.specs.Prelude.{◌≡◌, ◌+◌, ◌*◌, ◌/◌, ◌%◌, ◌<◌, slice_set, IfOk, OnOk, OnErr};
+ghost use Rattle.std.specs.Prelude.{◌≡◌, ◌+◌, ◌%◌, ◌<◌, ◌≤◌, slice_set, IfOk, OnOk, OnErr};
 ghost use Rattle.std.specs.Arc.{arc_value};
 ghost use Rattle.vx_store.specs.Chests.{Changes, SameSlots, begun};
 ghost use Rattle.vx_store.specs.Codes.{cell_of, is_chest};
 ghost use Rattle.vx_store.specs.MachineMarks.{words_of, blank_page, AreMarksSet};
 ghost use Rattle.vx_store.specs.Placing.{CanPut};
-ghost use Rattle.vx_marks.specs.Marks.{is_marked, IsFirst, IsFirstMarked};
+ghost use Rattle.vx_marks.specs.Marks.{IsFirstMarked, AreBits};
 ghost use Rattle.vx_marks.specs.declared.page.TheConstants.{PAGE};
 
 use crate::chest_parts::ChestParts;
@@ -53,16 +53,18 @@ impl SharedPage {
         }
     }
 
-    /// The first index of the page, from this one on, with a mark of that kind, in the same word of
-    /// 64.
+    /// Which of so many indices of the page from this one on have a mark of that kind, a bit for
+    /// each; all of them lie in its word of 64.
     #[inline(always)]
-    pub fn first_in_word(&self, kind: MarkKind, from: u32) -> Option<u32>
-        requires { from < PAGE }
-        ensures { IsFirst (is_marked (words_of kind self.now)) (64 * (from / 64 + 1)) from result }
+    pub fn run(&self, kind: MarkKind, first: u32, count: u32) -> u64
+        requires inside { first < PAGE }
+        requires few { count < 64 }
+        requires within { first % 64 + count ≤ 64 }
+        ensures { AreBits (words_of kind self.now) first count result }
     {
         match &self.page {
-            Some(page) => page.of(kind).first_in_word(from),
-            None => None,
+            Some(page) => page.of(kind).run(first, count),
+            None => 0,
         }
     }
 

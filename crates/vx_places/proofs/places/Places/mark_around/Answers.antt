@@ -44,7 +44,7 @@ mark_layer-requires-clause-low c =
     let b = (goal.at.mark_layer-requires-clause-low c).After-end_within-y-end in
     let low = below_end c.args.p.y c.args.steps c.layers-count.result c.loop-y.y
     (omega (arith, c.loop-y-test.true, end b)) in
-    omega (arith, low, c.layers-count.ensures.most)
+    omega (arith, low, many b, ap (λ (v : Sizes). v.h) c.loop-y.invariant.sizes)
 
 pub mark_layer-requires-clause-near : goal.mark_layer-requires-clause-near
 mark_layer-requires-clause-near c =

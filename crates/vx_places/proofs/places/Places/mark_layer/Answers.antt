@@ -54,7 +54,7 @@ mark_row-requires-clause-north c =
     let b = (goal.at.mark_row-requires-clause-north c).After-end_within-z-end in
     let low = below_end c.args.p.z (left b) c.rows-count.result c.loop-z.z
     (omega (arith, c.loop-z-test.true, end b)) in
-    omega (arith, low, c.rows-count.ensures.most)
+    omega (arith, low, many b, ap (λ (v : Sizes). v.sz * span v) c.loop-z.invariant.sizes)
 
 pub mark_row-requires-clause-near : goal.mark_row-requires-clause-near
 mark_row-requires-clause-near c =

@@ -4,12 +4,12 @@ use Rattle.vx_places.specs.Around.{is_component_around, at_number, below_number,
 use Rattle.vx_places.proofs.places.Places.mark_row.Given as goal
 
 -- those of the columns so far are added
-abbrev pub invariant-loop-x : goal.invariant-loop-x
-invariant-loop-x l = record {
+abbrev pub invariant-loop-next : goal.invariant-loop-next
+invariant-loop-next l = record {
   least : l.initial.next ≤ l.next;
   added : Adds (below_number column_of (at_number row_of (at_number layer_of (is_component_around (cell_on l.fn.map) l.fn.p l.steps) l.y) l.z) l.next)
       l.fn.self l.self;
 }
 
-abbrev pub decreases-loop-x : goal.decreases-loop-x
-decreases-loop-x l = l.end - l.next
+abbrev pub decreases-loop-next : goal.decreases-loop-next
+decreases-loop-next l = l.end - l.next

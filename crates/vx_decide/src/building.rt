@@ -155,8 +155,16 @@ impl Building<'_> {
     }
 
     // Whether the region is of highest priority and admits the subject.
-    #[tactic(auto, unfolding(crate::specs::Query::contains), using(crate::proofs::Shortcuts::home_there))]
+    #[tactic(auto, using(crate::proofs::Shortcuts::home_high))]
     fn is_home(&self, number: RegionNo, region: &Region) -> bool
+        ensures { result ≡ is_home (case_of self.now.contest.inquiry.now) (number.0, region.now) }
+    {
+        self.contest.is_high(region) && self.is_home_there(number, region)
+    }
+
+    // The same, where no region that counts has a higher priority.
+    #[tactic(auto, unfolding(crate::specs::Query::contains), using(crate::proofs::Shortcuts::home_there))]
+    fn is_home_there(&self, number: RegionNo, region: &Region) -> bool
         ensures { result ≡ is_home (case_of self.now.contest.inquiry.now) (number.0, region.now) }
     {
         region.contains(self.contest.inquiry.place) && self.admits_on_top(number, region)

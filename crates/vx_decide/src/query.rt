@@ -2,7 +2,7 @@ ghost use Rattle.std.specs.Prelude.{◌≡◌, ◌&&◌, if◌then◌else◌, So
 ghost use Rattle.vx_region.specs.Ancestry.{is_above};
 ghost use Rattle.vx_decide.specs.Cases.{case_of};
 ghost use Rattle.vx_decide.specs.Query.{counts, is_top, speaks, is_taken, is_denying, first_denying, first_taken, decider, answer_at, decided, query};
-ghost use Rattle.vx_decide.specs.RegionGroups.{is_above_one};
+ghost use Rattle.vx_decide.specs.RegionGroups.{is_above_one, none_higher};
 ghost use Rattle.vx_decide.specs.Tops.{top, raised, is_at_most};
 
 use crate::answer::Answer;
@@ -56,7 +56,8 @@ impl Inquiry<'_> {
         best
     }
 
-    // The best so far, or the priority of this region, if it counts and is higher.
+    // The best so far, or the priority of this region, if it counts and is higher. Whether it
+    // counts is asked only where it is higher.
     fn best_with(
         &self,
         question: Question,
@@ -67,8 +68,12 @@ impl Inquiry<'_> {
         ensures { result ≡ (if counts question (case_of self.now) (number.0, region.now)
             then Some (raised best region.now.priority) else best) }
     {
+        let higher = Some(raised(best, region.priority()));
+        if best == higher {
+            return best;
+        }
         if self.counts(question, number, region) {
-            return Some(raised(best, region.priority()));
+            return higher;
         }
         best
     }
@@ -102,13 +107,21 @@ impl Contest<'_> {
     }
 
     /// Whether the region counts and none that counts has a higher priority.
-    #[tactic(auto, unfolding(crate::specs::Query::is_top, crate::specs::RegionGroups::is_highest), using(crate::proofs::Highest::highest))]
+    #[tactic(auto, unfolding(crate::specs::Query::is_top, crate::specs::RegionGroups::is_highest))]
     pub fn is_top(&self, number: RegionNo, region: &Region) -> bool
         ensures { result
             ≡ is_top self.now.question (case_of self.now.inquiry.now) (number.0, region.now) }
     {
+        self.is_high(region) && self.inquiry.counts(self.question, number, region)
+    }
+
+    /// Whether no region that counts has a higher priority than this one.
+    #[tactic(auto, using(crate::proofs::Highest::highest))]
+    pub fn is_high(&self, region: &Region) -> bool
+        ensures { result ≡ none_higher (counts self.now.question (case_of self.now.inquiry.now))
+            self.now.inquiry.now.asker.now.regions.now.entries region.now.priority }
+    {
         is_at_most(self.best, region.priority())
-            && self.inquiry.counts(self.question, number, region)
     }
 
     #[tactic(auto, unfolding(crate::specs::Query::decider))]
@@ -150,8 +163,17 @@ impl Contest<'_> {
     }
 
     // Whether the region is taken and its value denies.
-    #[tactic(auto, unfolding(crate::specs::Query::contains), using(crate::proofs::Shortcuts::denying_there))]
+    #[tactic(auto, using(crate::proofs::Shortcuts::denying_high))]
     fn is_denying(&self, number: RegionNo, region: &Region) -> bool
+        ensures { result
+            ≡ is_denying self.now.question (case_of self.now.inquiry.now) (number.0, region.now) }
+    {
+        self.is_high(region) && self.denies_there(number, region)
+    }
+
+    // The same, where no region that counts has a higher priority.
+    #[tactic(auto, unfolding(crate::specs::Query::contains), using(crate::proofs::Shortcuts::denying_there))]
+    fn denies_there(&self, number: RegionNo, region: &Region) -> bool
         ensures { result
             ≡ is_denying self.now.question (case_of self.now.inquiry.now) (number.0, region.now) }
     {

@@ -11,7 +11,7 @@ use Rattle.vx_geom.specs.Outline.{is_in}
 use Rattle.vx_region.specs.Forest.{IsAscending, IsForest, IsNumbered}
 use Rattle.vx_region.specs.Regions.{Entry, RegionData, Regions, region_at}
 use Rattle.vx_region.proofs.Lookups.{region_at_place}
-use Rattle.vx_decide.specs.Candidates.{AreNumbers, Ascend, HoldCandidates, entry_at, regions_at, Suffice}
+use Rattle.vx_decide.specs.Candidates.{AreNumbers, AreOf, Ascend, HoldCandidates, entry_at, regions_at, Suffice}
 use Rattle.vx_decide.proofs.Picks.{at_head, in_tail, in_none, head_or_tail}
 
 -- a reference to read was found where what it refers to was
@@ -164,6 +164,25 @@ from_regions rs (m ∷ ms) e there = by (region_at rs m) refl there (from_region
       | inl same ↦ subst (λ (d : Entry). region_at rs d.0 ≡ Some d.1) same is
       | inr later ↦ rest later
     ]
+
+-- so each of them is a region with its number
+each_at : (rs : Regions) (numbers : List ℕ) → AreOf rs (regions_at rs numbers)
+each_at rs [] i e there = cc
+each_at rs (m ∷ ms) i e there = by (region_at rs m) refl i there (λ j. each_at rs ms j e)
+  where
+    by : (o : Option RegionData) → region_at rs m ≡ o → (j : ℕ) → slice_get (cons_option (option_map (λ r. (m, r)) o) (regions_at rs ms)) j ≡ Some e
+        → ((k : ℕ) → slice_get (regions_at rs ms) k ≡ Some e → region_at rs e.0 ≡ Some e.1) → region_at rs e.0 ≡ Some e.1
+    by None is j here rest = rest j here
+    by (Some r) is zero here rest = let same : (m, r) ≡ e = cc in subst (λ (d : Entry). region_at rs d.0 ≡ Some d.1) same is
+    by (Some r) is (suc j) here rest = rest j here
+
+pub regions_of_numbers : (rs : Regions) (numbers : List ℕ) (these : List Entry) → these ≡ regions_at rs numbers → AreOf rs these
+regions_of_numbers rs numbers these same = subst (AreOf rs) (sym same) (each_at rs numbers)
+
+-- and so is each of all
+pub all_regions : (rs : Regions) (these : List Entry) → IsForest rs → these ≡ rs.entries → AreOf rs these
+all_regions rs these forest same =
+    subst (AreOf rs) (sym same) (λ i e there. region_at_place rs i e.0 e.1 forest.numbered there)
 
 -- the region of a number stands among all with it
 found_among : (n : ℕ) (r : RegionData) (es : List Entry) → option_map (λ (e : Entry). e.1) (find (λ e. nat_eq n e.0) es) ≡ Some r → Contains es (n, r)

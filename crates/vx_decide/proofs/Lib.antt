@@ -1,5 +1,6 @@
 pub mod Answering
 pub mod ByNumber
+pub mod Childless
 pub mod Defaults
 pub mod Highest
 pub mod Inherited

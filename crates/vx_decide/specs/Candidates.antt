@@ -1,4 +1,4 @@
-use Rattle.std.specs.Prelude.{◌≡◌, ℕ, ◌<◌, true, List, Option, Some, None, IsSome, option_map, Contains}
+use Rattle.std.specs.Prelude.{◌≡◌, ℕ, ◌<◌, true, slice_get, List, Option, Some, None, IsSome, option_map, Contains}
 use Rattle.std.specs.List.{filter, filter_map, AllPairs}
 use Rattle.std.specs.List.Sorted.{IsStrictlyIncreasing}
 use Rattle.vx_geom.specs.declared.pos.Pos.{Pos}
@@ -20,6 +20,10 @@ pub record HoldCandidates (rs : Regions) (p : Pos) (numbers : List ℕ) : Type 0
 -- the region of a number, with the number
 abbrev pub entry_at : Regions → ℕ → Option Entry
 entry_at rs n = option_map (λ r. (n, r)) (region_at rs n)
+
+-- each of these is a region with its number
+abbrev pub AreOf : Regions → List Entry → Type 0
+AreOf rs these = (i : ℕ) (e : Entry) → slice_get these i ≡ Some e → region_at rs e.0 ≡ Some e.1
 
 -- the regions of these numbers
 abbrev pub regions_at : Regions → List ℕ → List Entry

@@ -1,5 +1,6 @@
-ghost use Rattle.std.specs.Prelude.{◌≡◌, ◌&&◌, option_map};
+ghost use Rattle.std.specs.Prelude.{◌≡◌, ◌&&◌, option_map, Some};
 ghost use Rattle.vx_region.specs.Ancestry.{is_above};
+ghost use Rattle.vx_region.specs.Regions.{region_at};
 ghost use Rattle.vx_decide.specs.Cases.{case_of};
 ghost use Rattle.vx_decide.specs.Build.{is_insider, admits, is_home, is_satisfied, is_failing, first_failing, first_home, ruled, by_build, in_the_open, by_passthrough, by_membership, build};
 ghost use Rattle.vx_decide.specs.RegionGroups.{is_above_one};
@@ -114,6 +115,8 @@ impl Building<'_> {
     // Whether the region is of highest priority and not satisfied.
     #[tactic(auto, unfolding(crate::specs::Build::is_failing))]
     fn is_failing(&self, number: RegionNo, region: &Region) -> bool
+        requires { region_at self.now.contest.inquiry.now.asker.now.regions.now number.0
+            ≡ Some region.now }
         ensures { result
             ≡ is_failing (case_of self.now.contest.inquiry.now) (number.0, region.now) }
     {
@@ -135,6 +138,10 @@ impl Building<'_> {
         ensures { result ≡ is_above_one (is_home (case_of self.now.contest.inquiry.now))
             self.now.contest.inquiry.now.asker.now.regions.now number.0 }
     {
+        // One without a child is an ancestor of none, and most regions have no child.
+        if !self.contest.inquiry.asker.regions.has_child(number) {
+            return false;
+        }
         for i in 0..self.contest.inquiry.candidates.count() {
             let (lower, region) = self.contest.inquiry.candidates.nth(i);
             if self.is_home_below(number, lower, region) {
@@ -147,6 +154,8 @@ impl Building<'_> {
     // Whether `upper` is an ancestor of the region, and this one is of highest priority and admits
     // the subject.
     fn is_home_below(&self, upper: RegionNo, number: RegionNo, region: &Region) -> bool
+        requires { region_at self.now.contest.inquiry.now.asker.now.regions.now number.0
+            ≡ Some region.now }
         ensures { result
             ≡ (is_above self.now.contest.inquiry.now.asker.now.regions.now upper.0 region.now
             && is_home (case_of self.now.contest.inquiry.now) (number.0, region.now)) }
@@ -155,8 +164,20 @@ impl Building<'_> {
     }
 
     // Whether the region is of highest priority and admits the subject.
-    #[tactic(auto, unfolding(crate::specs::Query::contains), using(crate::proofs::Shortcuts::home_there))]
+    #[tactic(auto, using(crate::proofs::Shortcuts::home_high))]
     fn is_home(&self, number: RegionNo, region: &Region) -> bool
+        requires { region_at self.now.contest.inquiry.now.asker.now.regions.now number.0
+            ≡ Some region.now }
+        ensures { result ≡ is_home (case_of self.now.contest.inquiry.now) (number.0, region.now) }
+    {
+        self.contest.is_high(region) && self.is_home_there(number, region)
+    }
+
+    // The same, where no region that counts has a higher priority.
+    #[tactic(auto, unfolding(crate::specs::Query::contains), using(crate::proofs::Shortcuts::home_there))]
+    fn is_home_there(&self, number: RegionNo, region: &Region) -> bool
+        requires { region_at self.now.contest.inquiry.now.asker.now.regions.now number.0
+            ≡ Some region.now }
         ensures { result ≡ is_home (case_of self.now.contest.inquiry.now) (number.0, region.now) }
     {
         region.contains(self.contest.inquiry.place) && self.admits_on_top(number, region)
@@ -166,6 +187,8 @@ impl Building<'_> {
     // subject is asked about first.
     #[tactic(auto, unfolding(crate::specs::Build::is_home))]
     fn admits_on_top(&self, number: RegionNo, region: &Region) -> bool
+        requires { region_at self.now.contest.inquiry.now.asker.now.regions.now number.0
+            ≡ Some region.now }
         ensures { result ≡ is_home (case_of self.now.contest.inquiry.now) (number.0, region.now) }
     {
         self.contest.inquiry.admits(number) && self.contest.is_top(number, region)

@@ -1,14 +1,16 @@
-ghost use Rattle.std.specs.Prelude.{◌≡◌, is_some, option_map};
+ghost use Rattle.std.specs.Prelude.{◌≡◌, Some, is_some, option_map};
 ghost use Rattle.vx_flag.specs.declared.association.Association.{Association};
+ghost use Rattle.vx_flag.specs.Group.{fits};
+ghost use Rattle.vx_region.specs.Ancestry.{chain};
 ghost use Rattle.vx_region.specs.Association.{association};
-ghost use Rattle.vx_region.specs.Regions.{parent_of, setting_at};
+ghost use Rattle.vx_region.specs.Regions.{parent_of, region_at, setting_at};
 ghost use Rattle.vx_region.specs.Subjects.{actor_of};
-ghost use Rattle.vx_decide.specs.Effective.{heard, value_at, effective, has_value, is_allow, is_deny};
+ghost use Rattle.vx_decide.specs.Effective.{heard, value_at, first_of, effective, has_value, is_allow, is_deny};
 
 use crate::asker::Asker;
 use crate::value::Value;
-use vx_flag::{Flag, Setting, State, fits};
-use vx_region::{RegionNo, RegionSet};
+use vx_flag::{Flag, Group, Setting, State, fits};
+use vx_region::{Region, RegionNo, RegionSet};
 
 /// The value of the flag for the subject at the region of that number: the one of the nearest
 /// region of its ancestry that sets the flag for a group that the subject is of, as the subject is
@@ -17,8 +19,42 @@ pub fn effective(asker: &Asker, flag: Flag, number: RegionNo) -> Option<Value>
     ensures { result ≡ effective asker.now.regions.now (actor_of asker.now.subject.now) flag
         number.0 }
 {
-    let mut at = number;
-    for _ in 0..u64::from(asker.regions.last()) + 1 {
+    nearest(
+        asker,
+        flag,
+        number,
+        number,
+        u64::from(asker.regions.last()) + 1,
+    )
+}
+
+/// The same of a region that is at hand, which is not looked up again.
+pub fn effective_of(asker: &Asker, flag: Flag, number: RegionNo, region: &Region) -> Option<Value>
+    requires { region_at asker.now.regions.now number.0 ≡ Some region.now }
+    ensures { result ≡ effective asker.now.regions.now (actor_of asker.now.subject.now) flag
+        number.0 }
+{
+    // Says that no region has number 0, that of the world at large.
+    asker.regions.soundness();
+    let own = heard(asker, number, number, region.setting(flag));
+    if own.is_some() {
+        return own;
+    }
+    match region.parent() {
+        Some(parent) => nearest(asker, flag, number, parent, u64::from(asker.regions.last())),
+        None => None,
+    }
+}
+
+// The value of the nearest of so many regions of an ancestry that sets the flag for those who are
+// to the region `number` what the subject is.
+fn nearest(asker: &Asker, flag: Flag, number: RegionNo, from: RegionNo, count: u64) -> Option<Value>
+    ensures { result ≡ first_of (value_at asker.now.regions.now flag
+        (association asker.now.regions.now (actor_of asker.now.subject.now) number.0))
+        (chain count asker.now.regions.now from.0) }
+{
+    let mut at = from;
+    for _ in 0..count {
         let (value, parent) = value_at(asker, flag, number, at);
         if value.is_some() {
             return value;
@@ -31,13 +67,14 @@ pub fn effective(asker: &Asker, flag: Flag, number: RegionNo) -> Option<Value>
     None
 }
 
-/// Whether the flag has a value for the subject at the region of that number.
+/// Whether the flag has a value for the subject at the region of that number, which is at hand.
 #[tactic(auto, unfolding(crate::specs::Effective::has_value))]
-pub fn has_value(asker: &Asker, flag: Flag, number: RegionNo) -> bool
+pub fn has_value(asker: &Asker, flag: Flag, number: RegionNo, region: &Region) -> bool
+    requires { region_at asker.now.regions.now number.0 ≡ Some region.now }
     ensures { result ≡ has_value asker.now.regions.now (actor_of asker.now.subject.now) flag
         number.0 }
 {
-    effective(asker, flag, number).is_some()
+    effective_of(asker, flag, number, region).is_some()
 }
 
 /// Whether the value is there and denies.
@@ -99,11 +136,20 @@ fn heard(asker: &Asker, number: RegionNo, at: RegionNo, setting: Option<Setting>
         (association asker.now.regions.now (actor_of asker.now.subject.now) number.0) setting }
 {
     let setting = setting?;
-    if !fits(setting.group, asker.association(number)) {
+    if !is_of(asker, number, setting.group) {
         return None;
     }
     Some(Value {
         state: setting.state,
         from: at,
     })
+}
+
+// Whether the group is that of those who are to the region `number` what the subject is. Everyone
+// is of all, and then it is not asked what the subject is.
+fn is_of(asker: &Asker, number: RegionNo, group: Group) -> bool
+    ensures { result ≡ fits group
+        (association asker.now.regions.now (actor_of asker.now.subject.now) number.0) }
+{
+    matches!(group, Group::All) || fits(group, asker.association(number))
 }

@@ -1,13 +1,14 @@
 ghost use Rattle.std.specs.Prelude.{◌≡◌, ◌&&◌, if◌then◌else◌, Some, option_map};
 ghost use Rattle.vx_region.specs.Ancestry.{is_above};
+ghost use Rattle.vx_region.specs.Regions.{region_at};
 ghost use Rattle.vx_decide.specs.Cases.{case_of};
 ghost use Rattle.vx_decide.specs.Query.{counts, is_top, speaks, is_taken, is_denying, first_denying, first_taken, decider, answer_at, decided, query};
-ghost use Rattle.vx_decide.specs.RegionGroups.{is_above_one};
+ghost use Rattle.vx_decide.specs.RegionGroups.{is_above_one, none_higher};
 ghost use Rattle.vx_decide.specs.Tops.{top, raised, is_at_most};
 
 use crate::answer::Answer;
 use crate::contest::Contest;
-use crate::effective::{effective, has_value, is_deny};
+use crate::effective::{effective, effective_of, has_value, is_deny};
 use crate::inquiry::Inquiry;
 use crate::question::Question;
 use vx_flag::Flag;
@@ -56,7 +57,8 @@ impl Inquiry<'_> {
         best
     }
 
-    // The best so far, or the priority of this region, if it counts and is higher.
+    // The best so far, or the priority of this region, if it counts and is higher. Whether it
+    // counts is asked only where it is higher.
     fn best_with(
         &self,
         question: Question,
@@ -64,11 +66,16 @@ impl Inquiry<'_> {
         number: RegionNo,
         region: &Region,
     ) -> Option<i32>
+        requires { region_at self.now.asker.now.regions.now number.0 ≡ Some region.now }
         ensures { result ≡ (if counts question (case_of self.now) (number.0, region.now)
             then Some (raised best region.now.priority) else best) }
     {
+        let higher = Some(raised(best, region.priority()));
+        if best == higher {
+            return best;
+        }
         if self.counts(question, number, region) {
-            return Some(raised(best, region.priority()));
+            return higher;
         }
         best
     }
@@ -102,13 +109,23 @@ impl Contest<'_> {
     }
 
     /// Whether the region counts and none that counts has a higher priority.
-    #[tactic(auto, unfolding(crate::specs::Query::is_top, crate::specs::RegionGroups::is_highest), using(crate::proofs::Highest::highest))]
+    #[tactic(auto, unfolding(crate::specs::Query::is_top, crate::specs::RegionGroups::is_highest))]
     pub fn is_top(&self, number: RegionNo, region: &Region) -> bool
+        requires { region_at self.now.inquiry.now.asker.now.regions.now number.0
+            ≡ Some region.now }
         ensures { result
             ≡ is_top self.now.question (case_of self.now.inquiry.now) (number.0, region.now) }
     {
+        self.is_high(region) && self.inquiry.counts(self.question, number, region)
+    }
+
+    /// Whether no region that counts has a higher priority than this one.
+    #[tactic(auto, using(crate::proofs::Highest::highest))]
+    pub fn is_high(&self, region: &Region) -> bool
+        ensures { result ≡ none_higher (counts self.now.question (case_of self.now.inquiry.now))
+            self.now.inquiry.now.asker.now.regions.now.entries region.now.priority }
+    {
         is_at_most(self.best, region.priority())
-            && self.inquiry.counts(self.question, number, region)
     }
 
     #[tactic(auto, unfolding(crate::specs::Query::decider))]
@@ -150,8 +167,21 @@ impl Contest<'_> {
     }
 
     // Whether the region is taken and its value denies.
-    #[tactic(auto, unfolding(crate::specs::Query::contains), using(crate::proofs::Shortcuts::denying_there))]
+    #[tactic(auto, using(crate::proofs::Shortcuts::denying_high))]
     fn is_denying(&self, number: RegionNo, region: &Region) -> bool
+        requires { region_at self.now.inquiry.now.asker.now.regions.now number.0
+            ≡ Some region.now }
+        ensures { result
+            ≡ is_denying self.now.question (case_of self.now.inquiry.now) (number.0, region.now) }
+    {
+        self.is_high(region) && self.denies_there(number, region)
+    }
+
+    // The same, where no region that counts has a higher priority.
+    #[tactic(auto, unfolding(crate::specs::Query::contains), using(crate::proofs::Shortcuts::denying_there))]
+    fn denies_there(&self, number: RegionNo, region: &Region) -> bool
+        requires { region_at self.now.inquiry.now.asker.now.regions.now number.0
+            ≡ Some region.now }
         ensures { result
             ≡ is_denying self.now.question (case_of self.now.inquiry.now) (number.0, region.now) }
     {
@@ -162,6 +192,8 @@ impl Contest<'_> {
     // first, since it costs less than the regions below.
     #[tactic(auto, unfolding(crate::specs::Query::is_denying))]
     fn denies_if_taken(&self, number: RegionNo, region: &Region) -> bool
+        requires { region_at self.now.inquiry.now.asker.now.regions.now number.0
+            ≡ Some region.now }
         ensures { result
             ≡ is_denying self.now.question (case_of self.now.inquiry.now) (number.0, region.now) }
     {
@@ -170,13 +202,15 @@ impl Contest<'_> {
             question,
             ..
         } = self;
-        let value = effective(inquiry.asker, question.flag(), number);
+        let value = effective_of(inquiry.asker, question.flag(), number, region);
         is_deny(value) && self.is_taken(number, region)
     }
 
     // Whether the region speaks and is no ancestor of another that does.
     #[tactic(auto, unfolding(crate::specs::Query::is_taken, crate::specs::RegionGroups::is_lowest))]
     fn is_taken(&self, number: RegionNo, region: &Region) -> bool
+        requires { region_at self.now.inquiry.now.asker.now.regions.now number.0
+            ≡ Some region.now }
         ensures { result
             ≡ is_taken self.now.question (case_of self.now.inquiry.now) (number.0, region.now) }
     {
@@ -188,6 +222,10 @@ impl Contest<'_> {
         ensures { result ≡ is_above_one (speaks self.now.question (case_of self.now.inquiry.now))
             self.now.inquiry.now.asker.now.regions.now number.0 }
     {
+        // One without a child is an ancestor of none, and most regions have no child.
+        if !self.inquiry.asker.regions.has_child(number) {
+            return false;
+        }
         for i in 0..self.inquiry.candidates.count() {
             let (lower, region) = self.inquiry.candidates.nth(i);
             if self.speaks_below(number, lower, region) {
@@ -199,6 +237,8 @@ impl Contest<'_> {
 
     // Whether `upper` is an ancestor of the region, and this one speaks.
     fn speaks_below(&self, upper: RegionNo, number: RegionNo, region: &Region) -> bool
+        requires { region_at self.now.inquiry.now.asker.now.regions.now number.0
+            ≡ Some region.now }
         ensures { result ≡ (is_above self.now.inquiry.now.asker.now.regions.now upper.0 region.now
             && speaks self.now.question (case_of self.now.inquiry.now) (number.0, region.now)) }
     {
@@ -208,6 +248,8 @@ impl Contest<'_> {
     // Whether the region is of highest priority and has a value.
     #[tactic(auto, unfolding(crate::specs::Query::speaks))]
     fn speaks(&self, number: RegionNo, region: &Region) -> bool
+        requires { region_at self.now.inquiry.now.asker.now.regions.now number.0
+            ≡ Some region.now }
         ensures { result
             ≡ speaks self.now.question (case_of self.now.inquiry.now) (number.0, region.now) }
     {
@@ -216,7 +258,7 @@ impl Contest<'_> {
             question,
             ..
         } = self;
-        self.is_top(number, region) && has_value(inquiry.asker, question.flag(), number)
+        self.is_top(number, region) && has_value(inquiry.asker, question.flag(), number, region)
     }
 }
 

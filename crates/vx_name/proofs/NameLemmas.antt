@@ -1,5 +1,5 @@
 -- Names as the texts that clauses see.
-use Rattle.std.proofs.Common.{◌≡◌, ℕ, suc, length, Bool, true, false, cond, not, ◌&&◌, ◌||◌, if◌then◌else◌, List, [], ◌∷◌, ◌++◌, bytes_eq, refl, ap, sym, ◌∙◌, subst}
+use Rattle.std.proofs.Common.{◌≡◌, ℕ, suc, length, Bool, true, false, true≢false, cond, not, ◌||◌, if◌then◌else◌, List, [], ◌∷◌, ◌++◌, bytes_eq, refl, ap, sym, ◌∙◌, subst}
 use Rattle.std.proofs.lemmas.Slice.Eq.{bytes_eq-Decides}
 use Rattle.std.specs.List.{list_any, AllByRecursion, IsDistinct}
 use Rattle.std.specs.Set.{remove_key}
@@ -57,3 +57,13 @@ texts_remove_key (k ∷ ns) n apart = by (same_name n k) refl (texts_remove_key 
     by true is rest =
         sym (others_stay n.text.bytes ns (subst (λ t. AllByRecursion (λ (d : Name). bytes_eq t d.text.bytes ≡ false) ns) (sym ((bytes_eq-Decides n.text.bytes k.text.bytes).0 is)) apart.0))
     by false is rest = ap (λ ts. k.text.bytes ∷ ts) rest
+
+-- texts among which one is not stay as they are without it
+pub absent_stays : (ts : List (List ℕ)) (text : List ℕ) → names ts text ≡ false → names_without ts text ≡ ts
+absent_stays [] text absent = refl
+absent_stays (t ∷ ts) text absent = by (bytes_eq text t) absent (absent_stays ts text)
+  where
+    by : (b : Bool) → (b || names ts text) ≡ false → (names ts text ≡ false → names_without ts text ≡ ts)
+        → cond (not b) (t ∷ names_without ts text) (names_without ts text) ≡ t ∷ ts
+    by true absent rest = absurd (true≢false absent)
+    by false absent rest = ap (λ us. t ∷ us) (rest absent)

@@ -1,4 +1,4 @@
-ghost use Rattle.std.specs.Prelude.{◌≡◌, [], false, bytes_eq, IfOk, OnOk, OnErr};
+ghost use Rattle.std.specs.Prelude.{◌≡◌, [], true, false, bytes_eq, IfOk, OnOk, OnErr};
 ghost use Rattle.std.specs.Arc.{arc_value};
 ghost use Rattle.std.specs.List.{list_any};
 ghost use Rattle.vx_name.specs.Names.{names, names_with, names_without};
@@ -88,11 +88,15 @@ impl NameSet {
         }
     }
 
-    /// Takes a name away. Nothing changes where it is not there.
+    /// Takes a name away. Nothing changes where it is not there, and that needs no room.
     pub fn remove(&mut self, name: &Name) -> Result<(), AllocError>
         ensures ok { OnOk result (self.new ≡ names_without self.old name.now.text.bytes) }
         ensures err { OnErr result (self.new ≡ self.old) }
+        ensures there { OnErr result (names self.old name.now.text.bytes ≡ true) }
     {
+        if !self.has(name) {
+            return Ok(());
+        }
         match &mut self.names {
             Some(shared) => take_out(shared, name),
             None => Ok(()),

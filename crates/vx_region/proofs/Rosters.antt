@@ -1,8 +1,9 @@
 -- The names on each roster: what one more or one less changes.
-use Rattle.std.proofs.Common.{◌≡◌, ◌≢◌, ℕ, Bool, true, nat_eq, if◌then◌else◌, List, [], ◌∷◌, ◌++◌, Option, None, Some, IsSomeAnd, option_map, refl, ap, sym, ◌∙◌, subst}
+use Rattle.std.proofs.Common.{◌≡◌, ◌≢◌, ℕ, Bool, true, false, nat_eq, if◌then◌else◌, List, [], ◌∷◌, ◌++◌, Option, None, Some, IsSome, IsSomeAnd, option_map, refl, ap, sym, ◌∙◌, subst}
 use Rattle.std.specs.Map.{lookup, set_value}
 use Rattle.std.proofs.lemmas.Bool.{false≢true}
 use Rattle.std.proofs.lemmas.Map.Steps.{set_value_same}
+use Rattle.vx_name.proofs.NameLemmas.{absent_stays}
 use Rattle.vx_region.specs.Association.{is_such, has_name}
 use Rattle.vx_region.specs.Forest.{IsNumbered}
 use Rattle.vx_region.specs.Laws.{GainsName, LosesName}
@@ -11,7 +12,7 @@ use Rattle.vx_region.specs.Regions.{RegionData, Regions, names_of, with_names, r
 use Rattle.vx_region.specs.declared.roster.Roster.{Roster}
 use Rattle.vx_region.specs.declared.roster.Roster.TheVariants.{Owners, Members, Domains}
 use Rattle.vx_region.proofs.Changes.{region_changed}
-use Rattle.vx_region.proofs.Lookups.{lookup_is, changed_by_write}
+use Rattle.vx_region.proofs.Lookups.{lookup_is, known_found, changed_by_write}
 use Rattle.vx_region.proofs.NameLemmas.{names_one_more, names_one_less}
 use Rattle.vx_region.proofs.Numbers.{distinct_numbers}
 
@@ -122,3 +123,27 @@ named_already rs n roster name numbered has = by (lookup (nat_eq n) rs.entries) 
         ap (λ es. record rs { entries = es })
         (sym (changed_by_write (gaining roster name) n rs.entries r (distinct_numbers 0 rs.entries numbered.ascending) there)
         ∙ ap (set_value (nat_eq n) rs.entries) (gains_nothing roster name r has) ∙ set_value_same (nat_eq n) rs.entries r there)
+
+-- a region that does not have the name loses nothing
+loses_nothing : (roster : Roster) (name : List ℕ) (r : RegionData) → names (names_of roster r) name ≡ false → losing roster name r ≡ r
+loses_nothing Owners name r absent = ap (λ kept. record r { owners = kept }) (absent_stays r.owners name absent)
+loses_nothing Members name r absent = ap (λ kept. record r { members = kept }) (absent_stays r.members name absent)
+loses_nothing Domains name r absent = ap (λ kept. record r { domains = kept }) (absent_stays r.domains name absent)
+
+-- and the set stays as it was
+pub absent_already : (rs : Regions) (n : ℕ) (roster : Roster) (name : List ℕ) → IsNumbered rs → IsSome (region_at rs n) → has_name rs roster name n ≡ false
+    → without_name rs n roster name ≡ rs
+unfolding region_at has_name without_name
+absent_already rs n roster name numbered known hasnt =
+    by (lookup (nat_eq n) rs.entries) refl (known_found n rs known) (ap (is_such named) (lookup_is n rs.entries) ∙ hasnt)
+  where
+    named : RegionData → Bool
+    named r = names (names_of roster r) name
+
+    by : (o : Option RegionData) → lookup (nat_eq n) rs.entries ≡ o → IsSome o → is_such named o ≡ false
+        → record rs { entries = changed_at (losing roster name) n rs.entries } ≡ rs
+    by None none some hasnt = cc
+    by (Some r) there some hasnt =
+        ap (λ es. record rs { entries = es })
+        (sym (changed_by_write (losing roster name) n rs.entries r (distinct_numbers 0 rs.entries numbered.ascending) there)
+        ∙ ap (set_value (nat_eq n) rs.entries) (loses_nothing roster name r hasnt) ∙ set_value_same (nat_eq n) rs.entries r there)

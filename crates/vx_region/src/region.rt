@@ -1,4 +1,4 @@
-ghost use Rattle.std.specs.Prelude.{◌≡◌, false, option_map, Some, None, IfOk, OnOk, OnErr};
+ghost use Rattle.std.specs.Prelude.{◌≡◌, true, false, option_map, Some, None, IfOk, OnOk, OnErr};
 ghost use Rattle.std.specs.Bool.{Decides};
 ghost use Rattle.vx_flag.specs.Settings.{setting_of, with_setting};
 ghost use Rattle.vx_geom.specs.Outline.{is_in};
@@ -151,6 +151,8 @@ impl Region {
     pub(crate) fn drop_name(&mut self, roster: Roster, name: &Name) -> Result<(), AllocError>
         ensures ok { OnOk result (self.new ≡ losing roster name.now.text.bytes self.old) }
         ensures err { OnErr result (self.new ≡ self.old) }
+        // A name that is not there needs no room to be dropped.
+        ensures there { OnErr result (names (names_of roster self.old) name.now.text.bytes ≡ true) }
         ensures parent { self.new.parent ≡ self.old.parent }
         ensures id { self.new.id ≡ self.old.id }
     {

@@ -1,6 +1,7 @@
 //! What changes a region that is there, or the flags of the world at large. Memory is taken only
 //! for a region that copies share.
-ghost use Rattle.std.specs.Prelude.{◌≡◌, Some, None, IsSome, OnOk, OnErr};
+ghost use Rattle.std.specs.Prelude.{◌≡◌, true, Some, None, IsSome, OnOk, OnErr};
+ghost use Rattle.vx_region.specs.Association.{has_name};
 ghost use Rattle.vx_region.specs.Regions.{region_at, HasSettings, with_shape, with_priority, with_flag, without_name};
 
 use super::RegionSet;
@@ -78,7 +79,13 @@ impl RegionSet {
         ensures ok { OnOk result
             (self.new ≡ without_name self.old number.0 roster name.now.text.bytes) }
         ensures err { OnErr result (self.new ≡ self.old) }
+        // A name that is not there needs no room to be dropped.
+        ensures there { OnErr result (has_name self.old roster name.now.text.bytes number.0 ≡ true) }
     {
+        // A region that does not have it is not copied.
+        if !self.has_name(roster, name, number) {
+            return Ok(());
+        }
         self.regions.own(number.0)?.drop_name(roster, name)
     }
 }

@@ -5,6 +5,9 @@ use Rattle.vx_decide.proofs.Leasts.{least_next, least_here}
 use Rattle.vx_decide.proofs.Sufficing.{home_of_all}
 use Rattle.vx_decide.proofs.building.Building.first_home.Goals as goal
 
+pub is_home-requires : goal.is_home-requires
+is_home-requires c = c.args.self.now.contest.inquiry.now.known c.loop-i.i _ c.nth.ensures
+
 pub loop-i-init : goal.loop-i-init
 loop-i-init c = home_of_all (case_of c.args.self.now.contest.inquiry.now) c.args.self.now.contest.inquiry.now.candidates c.args.self.now.contest.inquiry.now.whole
 

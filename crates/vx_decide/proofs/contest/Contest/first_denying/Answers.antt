@@ -5,6 +5,9 @@ use Rattle.vx_decide.proofs.Leasts.{least_next, least_here}
 use Rattle.vx_decide.proofs.Sufficing.{denying_of_all}
 use Rattle.vx_decide.proofs.contest.Contest.first_denying.Goals as goal
 
+pub is_denying-requires : goal.is_denying-requires
+is_denying-requires c = c.args.self.now.inquiry.now.known c.loop-i.i _ c.nth.ensures
+
 pub loop-i-init : goal.loop-i-init
 loop-i-init c = denying_of_all c.args.self.now.question (case_of c.args.self.now.inquiry.now) c.args.self.now.inquiry.now.candidates c.args.self.now.inquiry.now.whole
 

@@ -6,6 +6,9 @@ use Rattle.vx_decide.proofs.Highest.{top_step}
 use Rattle.vx_decide.proofs.Sufficing.{top_of_all}
 use Rattle.vx_decide.proofs.inquiry.Inquiry.top.Goals as goal
 
+pub best_with-best-requires : goal.best_with-best-requires
+best_with-best-requires c = c.args.self.now.known c.loop-i.i _ c.nth.ensures
+
 pub loop-i-init : goal.loop-i-init
 loop-i-init c = top_of_all c.args.question (case_of c.args.self.now) c.args.self.now.candidates c.args.self.now.whole
 

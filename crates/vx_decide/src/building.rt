@@ -173,7 +173,8 @@ impl Building<'_> {
         self.contest.is_high(region) && self.is_home_there(number, region)
     }
 
-    // The same, where no region that counts has a higher priority.
+    // Whether the region is of highest priority and admits the subject, where it is known that no
+    // region that counts has a higher priority.
     #[tactic(auto, unfolding(crate::specs::Query::contains), using(crate::proofs::Shortcuts::home_there))]
     fn is_home_there(&self, number: RegionNo, region: &Region) -> bool
         requires { region_at self.now.contest.inquiry.now.asker.now.regions.now number.0

@@ -28,7 +28,7 @@ pub fn effective(asker: &Asker, flag: Flag, number: RegionNo) -> Option<Value>
     )
 }
 
-/// The same of a region that is at hand, which is not looked up again.
+/// The value of the flag for the subject at a region that is at hand, which is not looked up again.
 pub fn effective_of(asker: &Asker, flag: Flag, number: RegionNo, region: &Region) -> Option<Value>
     requires { region_at asker.now.regions.now number.0 ≡ Some region.now }
     ensures { result ≡ effective asker.now.regions.now (actor_of asker.now.subject.now) flag

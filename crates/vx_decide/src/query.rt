@@ -177,7 +177,8 @@ impl Contest<'_> {
         self.is_high(region) && self.denies_there(number, region)
     }
 
-    // The same, where no region that counts has a higher priority.
+    // Whether the region is taken and its value denies, where it is known that no region that counts
+    // has a higher priority.
     #[tactic(auto, unfolding(crate::specs::Query::contains), using(crate::proofs::Shortcuts::denying_there))]
     fn denies_there(&self, number: RegionNo, region: &Region) -> bool
         requires { region_at self.now.inquiry.now.asker.now.regions.now number.0

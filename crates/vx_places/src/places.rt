@@ -280,7 +280,7 @@ impl Places {
 fn unmarked(alloc: Global, count: u32) -> Result<Vec<Option<Marks>>, AllocError>
     ensures { IfOk result (λ sectors. sectors.items ≡ replicate count None) }
 {
-    let mut sectors = Vec::new(alloc);
+    let mut sectors = Vec::with_capacity(alloc, count as usize)?;
     for _number in 0..count {
         sectors.push(None)?;
     }

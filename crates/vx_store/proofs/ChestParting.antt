@@ -7,7 +7,6 @@ use Rattle.std.specs.Map.{update}
 use Rattle.std.proofs.Math.ListN.{get_or-map}
 use Rattle.std.proofs.lemmas.Bool.{cases_eq, ne_eqb}
 use Rattle.std.proofs.lemmas.List.{length-map, map-set}
-use Rattle.std.proofs.lemmas.List.Elements.{same_from_all_zip}
 use Rattle.std.proofs.lemmas.Map.{update_here, update_apart}
 use Rattle.std.proofs.lemmas.Option.{slice_get-map}
 use Rattle.std.specs.Option.{option_map}
@@ -86,7 +85,7 @@ module _ {P : Type 0} (chests : P → ChestData) where
           → AreParted chests stride (slice_set own k new) × Changes (chests_of chests old) (chests_of chests (slice_set own k new)) index slots
       part_changed slots changed =
           let all = parts.part_changed nat_eq (part_of stride) PARTS (part_below stride) (other_part stride) (map chests old) (map chests own) index k (chests part) (chests new)
-              parted.1 copied is (read_chests own k part read) slots changed in
+          parted.1 copied is (read_chests own k part read) slots changed in
           let put = sym (map-set chests own k new) in (
             (parted.0, subst (parted_by.AreParted nat_eq (part_of stride) PARTS) put all.0),
             subst (λ (held : List ChestData). Changes (chests_of chests old) (all_of held) index slots) put all.1,

@@ -12,12 +12,13 @@ use std::alloc::{AllocError, Global};
 use std::marker::Model;
 use vx_section::Sections;
 
-// The chests of those indices that leave one rest by 61 and, divided by it, one more.
+// The chests of 61 indices in a row, of the 61 that stand 3,721 further on, and so forth. Only what
+// a change costs rests on the strides.
 type ChestGroup = Parted<ChestPart, 1>;
 
 /// The slots of the chests in one sector by their indices, in 61 groups of 61 parts. Copies share
-/// all of them. A change copies one part, which has the chests of 36 cells at most, and the lists
-/// of the parts of its group and of the groups: as much, however many chests there are.
+/// all of them. However many chests there are, a change copies one part, which has the chests of at
+/// most 36 cells of a sector, and the pointers to the parts of its group and to the groups.
 #[derive(Drop)]
 pub struct ChestParts {
     groups: Parted<ChestGroup, PARTS>,

@@ -14,11 +14,12 @@ use std::marker::Model;
 use std::sync::Arc;
 use vx_section::Sections;
 
-/// So many parts there are: a prime, so that rows, walls and columns spread over all.
+/// How many parts chests stand in: a prime, so that rows, walls and columns spread over all.
 pub const PARTS: u32 = 61;
 
-/// The chests of a sector in 61 parts: so many indices in a row are of one part, and those that
-/// follow of the next. Copies share all parts, and a change takes one of them from the others.
+/// Chests of a sector in 61 parts. As many indices in a row as the stride is are of one part, as
+/// many behind them of the next, and behind the last part of the first again. Copies share all
+/// parts. A change takes pointers of its own to them, and changes one of them.
 #[derive(Drop)]
 pub struct Parted<P: HasChests, const STRIDE: u32> {
     parts: Arc<Vec<P>>,
@@ -123,7 +124,7 @@ fn set_in<P: HasChests>(
         (chests_of P.chests (arc_value shared.old).items)
         (chests_of P.chests (arc_value shared.new).items) index
         (refilled slot content
-            (slots_of_chest (chests_of P.chests (arc_value shared.old).items) index))) }
+        (slots_of_chest (chests_of P.chests (arc_value shared.old).items) index))) }
     ensures err { OnErr result (chests_of P.chests (arc_value shared.new).items
         ≡ chests_of P.chests (arc_value shared.old).items) }
 {
@@ -163,7 +164,7 @@ fn same_parts<P: HasChests>(stride: u32, these: &[P], those: &[P]) -> bool
     requires those { AreParted P.chests stride those.now }
     ensures { IsTrue result ↔ ((index : ℕ)
         → slots_of_chest (chests_of P.chests these.now) index
-            ≡ slots_of_chest (chests_of P.chests those.now) index) }
+        ≡ slots_of_chest (chests_of P.chests those.now) index) }
 {
     for number in 0..PARTS as usize {
         if !these[number].same(&those[number]) {

@@ -1,10 +1,10 @@
-use Rattle.std.proofs.Common.{IsSome, List, slice_set, map, is_ok, ap, sym, subst, ◌∙◌}
+use Rattle.std.proofs.Common.{IsSome, List, slice_set, is_ok, ap, sym, subst, ◌∙◌}
 use Rattle.std.proofs.lemmas.Result.{on_ok_weaker, on_err_weaker}
 use Rattle.std.specs.Arc.{arc_value}
 use Rattle.std.specs.Global.{Vec}
 use Rattle.vx_base.specs.Parts.{all_of}
 use Rattle.vx_store.specs.ChestParts.{chests_of, AreParted}
-use Rattle.vx_store.specs.Chests.{ChestData, slots_of_chest, Changes, refilled}
+use Rattle.vx_store.specs.Chests.{slots_of_chest, Changes, refilled}
 use Rattle.vx_store.proofs.ChestParting.{parts_taken, parted_alike, same_there, part_changed, part_left, either_way, on_any_err, refused}
 use Rattle.vx_store.proofs.parted.set_in.Goals as goal
 

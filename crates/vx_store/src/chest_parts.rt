@@ -12,16 +12,22 @@ use std::alloc::{AllocError, Global};
 use std::marker::Model;
 use vx_section::Sections;
 
-// The chests of 61 indices in a row, of the 61 that stand 3,721 further on, and so forth. Only what
-// a change costs rests on the strides.
-type ChestGroup = Parted<ChestPart, 1>;
+// So many indices in a row are of one group. Only what a change costs rests on the strides.
+const GROUP: u32 = PARTS * PARTS;
 
-/// The slots of the chests in one sector by their indices, in 61 groups of 61 parts. Copies share
-/// all of them. However many chests there are, a change copies one part, which has the chests of at
-/// most 36 cells of a sector, and the pointers to the parts of its group and to the groups.
+// The chests of 17 indices in a row, of the 17 that stand 4,913 further on, and so forth.
+type ChestRun = Parted<ChestPart, 1>;
+
+// Those of 17 such runs.
+type ChestGroup = Parted<ChestRun, PARTS>;
+
+/// The slots of the chests in one sector by their indices, in 17 groups of 17 runs of 17 parts.
+/// Copies share all of them. However many chests there are, a change copies one part, which has the
+/// chests of at most 27 cells of a sector, and 51 pointers: to the parts of its run, to the runs of
+/// its group and to the groups.
 #[derive(Drop)]
 pub struct ChestParts {
-    groups: Parted<ChestGroup, PARTS>,
+    groups: Parted<ChestGroup, GROUP>,
 }
 
 impl Model for ChestParts {
@@ -37,7 +43,8 @@ impl ChestParts {
     pub fn new(alloc: Global) -> Result<ChestParts, AllocError>
         ensures { IfOk result (λ chests. chests ≡ []) }
     {
-        let group: ChestGroup = Parted::new(alloc, &ChestPart::new(alloc)?)?;
+        let run: ChestRun = Parted::new(alloc, &ChestPart::new(alloc)?)?;
+        let group: ChestGroup = Parted::new(alloc, &run)?;
         Ok(ChestParts {
             groups: Parted::new(alloc, &group)?,
         })

@@ -15,9 +15,9 @@ use std::sync::Arc;
 use vx_section::Sections;
 
 /// How many parts chests stand in: a prime, so that rows, walls and columns spread over all.
-pub const PARTS: u32 = 61;
+pub const PARTS: u32 = 17;
 
-/// Chests of a sector in 61 parts. As many indices in a row as the stride is are of one part, as
+/// Chests of a sector in 17 parts. As many indices in a row as the stride is are of one part, as
 /// many behind them of the next, and behind the last part of the first again. Copies share all
 /// parts. A change takes pointers of its own to them, and changes one of them.
 #[derive(Drop)]

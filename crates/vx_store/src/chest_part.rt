@@ -1,10 +1,7 @@
-ghost use Rattle.std.specs.Prelude.{◌≡◌, ◌<◌, ◌↔◌, ℕ, IsTrue, [], IsSome, slice_set, IfOk, OnOk, OnErr};
-ghost use Rattle.vx_store.specs.Chests.{slots_of_chest, Changes, SameSlots, begun};
-ghost use Rattle.vx_store.specs.Codes.{cell_of, is_chest};
-ghost use Rattle.vx_store.specs.Placing.{CanPut};
-ghost use Rattle.vx_store.specs.declared.stack.TheConstants.{SLOTS};
+ghost use Rattle.std.specs.Prelude.{◌≡◌, [], IfOk};
 
 use crate::chests::Chests;
+use crate::has_chests::HasChests;
 use crate::put_down::put_down;
 use crate::stack::{SLOTS, Slot};
 use std::alloc::{AllocError, Global};
@@ -28,8 +25,6 @@ impl Model for ChestPart {
 }
 
 impl ChestPart {
-    ghost use Rattle.vx_store.specs.Chests.{refilled};
-
     /// No chests.
     pub fn new(alloc: Global) -> Result<ChestPart, AllocError>
         ensures { IfOk result (λ part. part ≡ []) }
@@ -38,43 +33,27 @@ impl ChestPart {
             chests: Arc::new(alloc, Chests::new(alloc))?,
         })
     }
+}
 
-    /// The slots of the chest at that index.
-    pub fn get(&self, index: u32) -> Option<[Slot; SLOTS]>
-        ensures { result ≡ slots_of_chest self.now index }
-    {
+impl HasChests for ChestPart {
+    ghost chests = { λ part. part };
+
+    ghost copied = { λ part copy same. same };
+
+    fn get(&self, index: u32) -> Option<[Slot; SLOTS]> {
         self.chests.get(index)
     }
 
-    /// Puts something else into a slot of the chest at that index.
-    pub fn set(&mut self, index: u32, slot: u8, content: Slot) -> Result<(), AllocError>
-        requires there { IsSome (slots_of_chest self.old index) }
-        requires slot { slot < SLOTS }
-        ensures ok { OnOk result (Changes self.old self.new index
-            (refilled slot content (slots_of_chest self.old index))) }
-        ensures err { OnErr result (self.new ≡ self.old) }
-    {
+    fn set(&mut self, index: u32, slot: u8, content: Slot) -> Result<(), AllocError> {
         Arc::make_mut(&mut self.chests)?.set(index, slot, content);
         Ok(())
     }
 
-    /// Puts a byte down in the store, in place of the one that was there, with the chest that
-    /// begins or goes there.
-    pub fn put_down(&mut self, store: &mut Sections, index: u32, code: u8) -> Result<(), AllocError>
-        requires { CanPut store.old self.old index code }
-        ensures store { OnOk result (store.new ≡ slice_set store.old index code) }
-        ensures chests { OnOk result
-            (Changes self.old self.new index (begun (is_chest (cell_of code)))) }
-        ensures err { OnErr result ((store.new ≡ store.old) × SameSlots self.old self.new) }
-    {
+    fn put_down(&mut self, store: &mut Sections, index: u32, code: u8) -> Result<(), AllocError> {
         put_down(store, Arc::make_mut(&mut self.chests)?, index, code)
     }
 
-    /// Whether both have chests at the same indices, with the same in each slot.
-    pub fn same(&self, other: &ChestPart) -> bool
-        ensures { IsTrue result
-            ↔ ((index : ℕ) → slots_of_chest self.now index ≡ slots_of_chest other.now index) }
-    {
+    fn same(&self, other: &ChestPart) -> bool {
         self.chests.same(&other.chests)
     }
 }

@@ -48,7 +48,11 @@ impl Chests {
         ensures err { OnErr result (self.new ≡ self.old) }
     {
         match self.slots.insert(index, [None; SLOTS]) {
-            Ok(_) => Ok(()),
+            Ok(_) => {
+                // It made room for nine, and most parts have one chest or a few.
+                self.slots.shrink_to_fit();
+                Ok(())
+            }
             Err(_) => Err(AllocError),
         }
     }

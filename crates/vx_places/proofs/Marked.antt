@@ -1,15 +1,17 @@
 -- What a set of positions has, and what it has once an index of a sector was marked.
-use Rattle.std.proofs.Common.{◌≡◌, ℕ, zero, suc, ◌-◌, ◌/◌, ◌<◌, Bool, true, false, ◌&&◌, ◌||◌, nat_eq, nat_le, List, length, get_or, set, replicate, Option, Some, None, inl, inr, refl, ap, sym, ◌∙◌, arith}
+use Rattle.std.proofs.Common.{◌≡◌, ℕ, zero, suc, ◌-◌, ◌/◌, ◌<◌, Bool, true, false, ◌&&◌, ◌||◌, nat_eq, nat_le, List, [], ◌∷◌, length, get_or, set, replicate, Option, Some, None, inl, inr, refl, ap, sym, ◌∙◌, arith}
 use Rattle.std.proofs.lemmas.Bool.{cases_Bool, cases_eq, cases_order, true≢false, false_from_ne_true, and_left, and_from, and_parts, eq-eqb, eqb-true, ne_eqb, le-leb, lt-leb}
 use Rattle.std.proofs.Math.Bool.{and-false}
 use Rattle.std.proofs.lemmas.Nat.Bits.{bit_at_above}
 use Rattle.std.proofs.lemmas.List.{get_or-set_same, get_or-set_other}
+use Rattle.std.proofs.lemmas.List.Elements.{All-head, All-tail}
+use Rattle.std.specs.List.{All}
 use Rattle.vx_geom.specs.declared.pos.Pos.{Pos}
 use Rattle.vx_geom.specs.Sizes.{Sizes, AreSizes, is_inside, sector_number, sector_of, index_in_sector}
 use Rattle.vx_geom.proofs.SectorLemmas.{held_at, same_index}
 use Rattle.vx_cells.proofs.Indices.{numbered}
 use Rattle.vx_marks.specs.Marks.{is_set, in_run}
-use Rattle.vx_places.specs.Places.{marked_in, marks_at, in_run_from, is_at, steps_between}
+use Rattle.vx_places.specs.Places.{PlacesData, marked_in, marks_at, in_run_from, is_at, steps_between}
 use Rattle.vx_places.proofs.Steps.{is_place, not_place, place_is}
 
 -- a position of no sector is outside the world
@@ -54,6 +56,20 @@ none_at : (n k : ℕ) → get_or (replicate n unmarked) k None ≡ None
 none_at zero k = refl
 none_at (suc n) zero = refl
 none_at (suc n) (suc k) = none_at n k
+
+no_entry : (marks : List (Option (List ℕ))) (k : ℕ) → All (λ entry. entry ≡ None) marks → get_or marks k None ≡ None
+no_entry [] k all = refl
+no_entry (entry ∷ marks) zero all = All-head (λ e. e ≡ None) entry marks all
+no_entry (entry ∷ marks) (suc k) all = no_entry marks k (All-tail (λ e. e ≡ None) entry marks all)
+
+-- where no sector has an entry there is no position
+pub is_nowhere : (d : PlacesData) (p : Pos) → All (λ entry. entry ≡ None) d.marks → is_at d p ≡ false
+unfolding is_at
+is_nowhere d p none = by (sector_of d.sizes p)
+  where
+    by : (sector : Option ℕ) → marked_in (marks_at d.marks sector) (index_in_sector d.sizes p) ≡ false
+    by None = refl
+    by (Some k) = ap (λ entry. marked_in entry (index_in_sector d.sizes p)) (no_entry d.marks k none)
 
 -- where nothing was ever marked there is no position
 pub nothing_marked : (v : Sizes) (n : ℕ) (p : Pos) → is_at (record { sizes = v; marks = replicate n unmarked }) p ≡ false

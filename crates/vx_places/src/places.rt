@@ -1,5 +1,5 @@
 ghost use Rattle.std.specs.Prelude.{◌≡◌, ◌+◌, ◌*◌, ◌%◌, ◌<◌, ◌≤◌, ◌&&◌, ◌||◌, ℕ, pos, ◌-ℤ◌, unsigned_abs, false, true, nat_eq, nat_le, length, replicate, slice_index_or, if◌then◌else◌, None, Some, IfOk, OnOk, IfSome};
-ghost use Rattle.std.specs.List.{filter, list_any};
+ghost use Rattle.std.specs.List.{All, filter, list_any};
 ghost use Rattle.vx_geom.specs.declared.pos.Pos.{Pos};
 ghost use Rattle.vx_geom.specs.Places.{positions};
 ghost use Rattle.vx_geom.specs.Sizes.{AreSizes, span, sector_count, sector_cells, is_inside};
@@ -75,6 +75,14 @@ impl Places {
             Some(marks) => marks.has(self.bounds.index_in_sector(p)),
             None => false,
         }
+    }
+
+    /// Whether it is known to have no position: none was ever added. It looks at each sector's entry
+    /// and at no marks.
+    pub fn is_empty(&self) -> bool
+        ensures { result ≡ true → (p : Pos) → is_at self.now p ≡ false }
+    {
+        have_no_marks(&self.sectors)
     }
 
     /// Adds a position, if it is of the world. Memory is wanted for the first of 4,096 places.
@@ -274,6 +282,18 @@ impl Places {
             _ => None,
         }
     }
+}
+
+// Whether nothing was ever marked in any of these sectors.
+fn have_no_marks(sectors: &[Option<Marks>]) -> bool
+    ensures { result ≡ true → All (λ marks. marks ≡ None) sectors.now }
+{
+    for marks in sectors {
+        if let Some(_some) = marks {
+            return false;
+        }
+    }
+    true
 }
 
 // So many sectors in which nothing is marked.

@@ -7,6 +7,7 @@
 #   works     as plots, among 1,000 regions of which each has one of fifty domains
 #   edits     150,000 lines: edits of every kind, a command in ten, a tick in a hundred, among 4,000 regions
 #   idle      20,000 ticks of 64 sectors with 100,000 blocks
+#   building  20,000 commands of one player among 100,000 blocks, each before a tick of 64 sectors
 #   placed    64,000 parts placed or broken, one in each of 64 sectors before each of 1,000 ticks
 #   dust      200 ticks of 48,000 dust in rings, each beside a clock
 #   commands  400,000 commands without regions, among 50, and a fifth of them for chests; 100,000 among 500
@@ -43,7 +44,7 @@ while [ $# -gt 0 ]; do
     --plain) plain=$2; shift ;;
     --old) old=$2; shift ;;
     --plots) plots=$2; shift ;;
-    crowded | plots | works | edits | idle | placed | dust | commands) workloads="$workloads $1" ;;
+    crowded | plots | works | edits | idle | building | placed | dust | commands) workloads="$workloads $1" ;;
     sweeps) sweeps=$all_sweeps ;;
     place | pistons | edits_a_tick | members | names | sectors | awake | loops | machines | storage)
       sweeps="$sweeps $1"
@@ -53,7 +54,7 @@ while [ $# -gt 0 ]; do
   shift
 done
 if [ -z "$workloads$sweeps" ]; then
-  workloads="crowded plots works edits idle placed dust commands"
+  workloads="crowded plots works edits idle building placed dust commands"
   sweeps=$all_sweeps
 fi
 

@@ -227,6 +227,16 @@ def idle(r):
     return head + ["tick"], ticks(20_000)
 
 
+def building(r):
+    """A block placed or broken before each of 20,000 ticks, in a world with 100,000 blocks."""
+    body = []
+    for _ in range(20_000):
+        at = position(r, 256)
+        body.append(f"as ann break {at}" if r.random() < 0.3 else f"as ann place {at} {r.choice(BLOCKS)}")
+        body.append("tick")
+    return idle(r)[0], body
+
+
 def placed(r):
     """A part placed or broken in each of 64 sectors before each of 1,000 ticks, half of them of machines."""
     sectors = [(32 * x, 32 * z) for z in range(8) for x in range(8)]
@@ -354,6 +364,7 @@ SCRIPTS = {
     "works": works,
     "edits": edits,
     "idle": idle,
+    "building": building,
     "placed": placed,
     "dust": dust,
     "no_region": no_region,

@@ -64,6 +64,7 @@ impl ClosedWindows {
     }
 
     /// The record of the window of that number; empty where there is none.
+    #[inline(always)]
     pub fn window(&self, at: usize) -> &[Entry]
         ensures { map entry_of result.now ≡ slice_index_or self.now at [] }
     {

@@ -55,6 +55,7 @@ fn take_closed(rests: &mut [&[Call]], seats: u8, at: usize, ticks: &[Tick]) -> O
 }
 
 // Takes the calls in the entries; a seat whose calls don't begin with those, if there is one.
+#[inline(always)]
 fn take_all(rests: &mut [&[Call]], seats: u8, entries: &[Entry]) -> Option<u8>
     requires { seats ≤ length rests.old }
     ensures { MatchOption result

@@ -1,6 +1,7 @@
 -- A tick of a map on which everything rests does nothing.
 use Rattle.std.proofs.Common.{◌≡◌, ℕ, zero, suc, false, List, [], ◌∷◌, ◌++◌, length, Some, refl, sym, ap, ◌∙◌, subst, arith}
 use Rattle.std.specs.List.{filter}
+use Rattle.std.proofs.lemmas.Bool.{true≢false}
 use Rattle.std.proofs.lemmas.List.Sorted.{IsPermutation-refl}
 use Rattle.vx_geom.specs.declared.pos.Pos.{Pos}
 use Rattle.vx_geom.specs.Places.{positions}
@@ -23,7 +24,8 @@ use Rattle.vx_still.specs.Mirrored.{IsMirror}
 use Rattle.vx_still.specs.Stillness.{IsStill}
 use Rattle.vx_still.specs.Waking.{with_changed, Rests, WakingData}
 use Rattle.vx_still.specs.Watching.{IsWatch, WatchData}
-use Rattle.vx_still.proofs.Watching.{all_rests}
+use Rattle.vx_levels.specs.Repairs.{IsRight}
+use Rattle.vx_still.proofs.Watching.{all_rests, ticks_leave_watch}
 
 none_kept : (ps : List Pos) → filter (λ p. false) ps ≡ []
 none_kept [] = refl
@@ -80,6 +82,18 @@ unwritten m waking written table none empty still mirror =
       mirror =
           subst (λ (w : WakingData). IsMirror m w.changed table) (λ i. with_changed (none i) (none_listed written empty i)) mirror;
     }
+
+-- where all rests a tick leaves the map as it is, and so nothing is told, and levels and links that
+-- are those of the map are kept
+pub at_rest : (m : MapData) (table : LevelTable) → ((p : Pos) → Rests m p) → IsRight (cell_on m) table
+    → IsWatch m (record { waking = record { changed = []; besides = [] }; levels = Some table })
+at_rest m table rests right =
+    ticks_leave_watch m m (record { waking = record { changed = []; besides = [] }; levels = Some table }) (record {
+      shows = λ p unchanged. refl;
+      parts = λ p unchanged. sym (rests p).part;
+      others = λ p unchanged plain other. refl;
+      pistons = λ p moves. absurd (true≢false (sym moves ∙ (rests p).piston));
+    }) right
 
 -- so a plan of nothing, after which it is still kept, tells the tick
 pub nothing_planned : (m : MapData) (table : LevelTable)

@@ -82,7 +82,7 @@ impl Start {
         Start::linked(alloc, map)
     }
 
-    // How it begins by levels that were kept.
+    // How it begins by levels that were kept. Where no component is near what changed, all rests.
     fn repaired(
         alloc: Global,
         map: &Frozen<'_>,
@@ -101,7 +101,13 @@ impl Start {
         let Some(look) = unsettled(alloc, map, waking, written, &mut levels)? else {
             return Start::linked(alloc, map);
         };
-        Ok(Start::Awake(levels, look.places))
+        let Some(places) = look.places else {
+            return Ok(Start::Awake(levels, None));
+        };
+        if places.is_empty() {
+            return Ok(Start::AtRest(levels));
+        }
+        Ok(Start::Awake(levels, Some(places)))
     }
 
     // How it begins by levels and links that are told anew, to be kept.

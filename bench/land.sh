@@ -1,31 +1,37 @@
 #!/usr/bin/env bash
-# What the built server takes for several workloads, beside a plain program of the same rules (bench/plain.rs).
+# What the built server takes for several workloads, beside a plain program of the same rules
+# (bench/plain.rs).
 #   bench/land.sh [WORKLOAD ..] [--server PROGRAM] [--plain PROGRAM] [--old PROGRAM] [--plots DIRECTORY]
 # A WORKLOAD is one of these; without one all are run:
-#   crowded   100,000 commands of three players among 4,000 regions of 4 to 40 columns a side, about 30 at a place
+#   crowded   100,000 commands of three players among 4,000 regions of 4 to 40 columns a side, about
+#             30 at a place
 #   plots     2,300 pistons under dust with clocks, over 100 such regions in 36 sectors, 200 ticks
 #   works     as plots, among 1,000 regions of which each has one of fifty domains
-#   edits     150,000 lines: edits of every kind, a command in ten, a tick in a hundred, among 4,000 regions
+#   edits     150,000 lines: edits of every kind, a command in ten, a tick in a hundred, among 4,000
+#             regions
 #   idle      20,000 ticks of 64 sectors with 100,000 blocks
 #   building  20,000 commands of one player among 100,000 blocks, each before a tick of 64 sectors
 #   placed    64,000 parts placed or broken, one in each of 64 sectors before each of 1,000 ticks
 #   dust      200 ticks of 48,000 dust in rings, each beside a clock
-#   commands  400,000 commands without regions, among 50, and a fifth of them for chests; 100,000 among 500
+#   commands  400,000 commands without regions, among 50, and a fifth of them for chests; 100,000
+#             among 500
 #   sweeps    ten, each with a row a point: regions at a place, regions over pistons, edits between
-#             ticks, members of a region whose priority and flags are edited, members of one to which
-#             a name is added, sectors, dust that is awake, rings of dust whose source goes out,
-#             pistons, chests in a sector; or one of them: place, pistons, edits_a_tick, members,
-#             names, sectors, awake, loops, machines, storage
+#             ticks, members of a region whose priority and flags are edited, members of one that
+#             gains and loses a name, sectors, dust that is awake, rings of dust whose source goes
+#             out, pistons, chests in a sector; or one of them: place, pistons, edits_a_tick,
+#             members, names, sectors, awake, loops, machines, storage
 # Options:
 #   --server  the program to measure; without it the built server of this repository
 #   --plain   the program beside it; without it bench/plain.rs is compiled (rustc -O)
-#   --old     one program more, as the server before a change; it stands between the two, with its own ratio
+#   --old     one program more, as the server before a change; it stands between the two, with its
+#             own ratio
 #   --plots   writes a plot of each sweep there, NAME.svg (bench/plot.py)
-# The programs read the same script in turn, three times each, and up to forty times where that is short, and the least
-# time of each counts. What the world and its policy take is taken off: the time of the same script cut before the part
-# that is measured. The replies of the server and of the plain program are compared; where they differ the row says so,
-# and the status is 1.
-# Needs python3; rustc, if no --plain is named. The scripts are made by bench/land_scripts.py, the same at each run.
+# The programs read the same script in turn, three times each, and up to forty times where that is
+# short, and the least time of each counts. What the world and its policy take is taken off: the
+# time of the same script cut before the part that is measured. The replies of the server and of the
+# plain program are compared; where they differ the row says so, and the status is 1.
+# Needs python3; rustc, if no --plain is named. The scripts are made by bench/land_scripts.py, the
+# same at each run.
 set -eu
 root=$(cd "$(dirname "$0")/.." && pwd)
 work=$(mktemp -d)

@@ -1,9 +1,11 @@
 #!/usr/bin/env bash
-# What a world takes in memory, and how long it takes to open, for the built server and for each PROGRAM, in turn in one run.
+# What a world takes in memory, and how long it takes to open, for the built server and for each
+# PROGRAM, in turn in one run.
 #   bench/memory.sh [PROGRAM ..]
-# Worlds of 64 sectors (256 by 64 by 256 cells): with nothing in them; with 200,000 blocks of five kinds at random places; with 48,000 dust on one layer, without
-# power and then with it (each lever feeds fourteen); with a floor of stone two cells high; with 20,000 chests; and with one lever in each sector. Needs awk, and
-# /usr/bin/time.
+# Worlds of 64 sectors (256 by 64 by 256 cells): with nothing in them; with 200,000 blocks of five
+# kinds at random places; with 48,000 dust on one layer, without power and then with it (each lever
+# feeds fourteen); with a floor of stone two cells high; with 20,000 chests; and with one lever in
+# each sector. Needs awk, and /usr/bin/time.
 set -eu
 root=$(cd "$(dirname "$0")/.." && pwd)
 work=$(mktemp -d)

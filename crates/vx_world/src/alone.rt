@@ -10,7 +10,7 @@ use crate::home::Home;
 use crate::seats::Seats;
 use crate::slot::Slot;
 use crate::taken::Taken;
-use crate::ticking::{awaited, make, marked};
+use crate::ticking::{awaited, make};
 use crate::world::World;
 use std::alloc::Global;
 use std::sync::{Condvar, Mutex, Wait};
@@ -73,10 +73,9 @@ impl<A: Places, B: Seats> World<A, B> {
     {
         let mut taken = taken;
         for at in (0..self.slots.len()).rev() {
-            let Some((sector, is_part, share)) = taken.pop() else {
+            let Some(home) = taken.pop_home(keeper) else {
                 unreachable!()
             };
-            let home = Home::new(marked(keeper, sector, is_part), share);
             self.slots[at].get_mut().put(home);
         }
         taken.end();

@@ -1,12 +1,12 @@
 ghost use Rattle.std.specs.List.{All};
-ghost use Rattle.std.specs.Prelude.{◌≡◌, ◌+◌, ◌<◌, ◌≤◌, ◌++◌, ◌∷◌, [], map, vec_len, vec_capacity, IfOk, MatchOption, OnSome};
+ghost use Rattle.std.specs.Prelude.{◌≡◌, ◌+◌, ◌<◌, ◌≤◌, ◌++◌, ◌∷◌, [], map, vec_len, vec_capacity, IfOk, MatchOption, None, OnSome, true};
 ghost use Rattle.vx_sector.specs.Windows.{count_of};
 ghost use Rattle.vx_keeper.specs.Marks.{WorldData, IsPartOf, AreParts};
 
 use crate::home::Home;
 use std::alloc::{AllocError, Global};
 use std::sync::ledger::Share;
-use vx_keeper::{Keeper, Places};
+use vx_keeper::{Keeper, Marked, Places};
 use vx_sector::Sector;
 
 /// The sectors that a tick has taken out of their locks, in order of their numbers, each beside its
@@ -65,8 +65,23 @@ impl<A: Places> Taken<A> {
         self.shares.push_reserved(share);
     }
 
-    /// Takes the last sector out.
-    pub fn pop(&mut self) -> Option<(Sector, bool, Share<A>)>
+    /// Takes the last sector out and sends it home, with the mark of what the keeper knows where its
+    /// window began with its part of that.
+    pub fn pop_home(&mut self, keeper: &Keeper<A>) -> Option<Home<A>>
+        requires parts { AreParts keeper.now.world self.old.are_parts.items
+            self.old.sectors.items }
+        ensures parts { OnSome result (AreParts keeper.now.world self.new.are_parts.items
+            self.new.sectors.items) }
+        ensures count { OnSome result
+            (vec_len self.new.sectors + 1 ≡ vec_len self.old.sectors) }
+        ensures some { result ≡ None → self.old.sectors.items ≡ [] }
+    {
+        let (sector, is_part, share) = self.pop()?;
+        Some(Home::new(marked(keeper, sector, is_part), share))
+    }
+
+    // Takes the last sector out.
+    fn pop(&mut self) -> Option<(Sector, bool, Share<A>)>
         ensures count { OnSome result
             (vec_len self.new.sectors + 1 ≡ vec_len self.old.sectors) }
         ensures last { MatchOption result (self.old.sectors.items ≡ []) (λ last.
@@ -103,4 +118,15 @@ impl<A: Places> Taken<A> {
     {
         self.are_parts.fill(true);
     }
+}
+
+// A sector with the mark of what the keeper knows, where its window began with its part of that.
+fn marked<A: Places>(keeper: &Keeper<A>, sector: Sector, is_part: bool) -> Marked<A>
+    requires { is_part ≡ true → IsPartOf keeper.now.world sector }
+    ensures { result ≡ sector }
+{
+    if !is_part {
+        return Marked::new(sector, None);
+    }
+    Marked::new(sector, keeper.mark())
 }

@@ -1,6 +1,6 @@
 //! A tick of a world that threads share.
 ghost use Rattle.std.specs.List.{All};
-ghost use Rattle.std.specs.Prelude.{◌≡◌, ℕ, ◌↔◌, ◌<◌, ◌≤◌, [], true, length, map, vec_len, Err, IfOk, OnOk, OnErr};
+ghost use Rattle.std.specs.Prelude.{◌≡◌, ℕ, ◌↔◌, ◌<◌, ◌≤◌, [], length, map, vec_len, Err, IfOk, OnOk, OnErr};
 ghost use Rattle.vx_step.specs.declared.workers.TheConstants.{MAX_WORKERS};
 ghost use Rattle.vx_windows.specs.Limits.{most_ticks};
 ghost use Rattle.vx_sector.specs.Windows.{count_of};
@@ -17,7 +17,7 @@ use std::alloc::Global;
 use std::sync::{Condvar, Mutex, Wait};
 use std::thread::Threads;
 use vx_geom::Pos;
-use vx_keeper::{Keeper, Marked, Places, TickError};
+use vx_keeper::{Keeper, Places, TickError};
 use vx_sector::Sector;
 use vx_step::Gate;
 use vx_tick::Fate;
@@ -75,10 +75,9 @@ impl<A: Places, B: Seats> World<A, B> {
     {
         let mut taken = taken;
         for at in (0..self.slots.len()).rev() {
-            let Some((sector, is_part, share)) = taken.pop() else {
+            let Some(home) = taken.pop_home(keeper) else {
                 unreachable!()
             };
-            let home = Home::new(marked(keeper, sector, is_part), share);
             self.slots[at].lock(rt).put(home);
         }
         taken.end();
@@ -97,17 +96,6 @@ pub(crate) fn awaited<A: Places, R: Wait>(
         unreachable!()
     };
     home
-}
-
-// A sector with the mark of what the keeper knows, where its window began with its part of that.
-pub(crate) fn marked<A: Places>(keeper: &Keeper<A>, sector: Sector, is_part: bool) -> Marked<A>
-    requires { is_part ≡ true → IsPartOf keeper.now.world sector }
-    ensures { result ≡ sector }
-{
-    if !is_part {
-        return Marked::new(sector, None);
-    }
-    Marked::new(sector, keeper.mark())
 }
 
 // Makes the tick of the sectors that were taken.

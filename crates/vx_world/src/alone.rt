@@ -76,7 +76,7 @@ impl<A: Places, B: Seats> World<A, B> {
             let Some(home) = taken.pop_home(keeper) else {
                 unreachable!()
             };
-            self.slots[at].get_mut().put(home);
+            put_in(&mut self.slots[at], home);
         }
         taken.end();
     }
@@ -88,4 +88,9 @@ fn home_in<A: Places, R: Wait>(rt: &R, came: &Condvar, slot: &mut Mutex<Slot<A>>
         Some(home) => home,
         None => awaited(rt, came, slot),
     }
+}
+
+// Puts a sector back in its place.
+fn put_in<A: Places>(slot: &mut Mutex<Slot<A>>, home: Home<A>) {
+    slot.get_mut().put(home);
 }

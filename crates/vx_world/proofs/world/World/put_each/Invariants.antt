@@ -5,5 +5,6 @@ use Rattle.vx_world.proofs.world.World.put_each.Given as goal
 -- so many sectors are left
 abbrev pub invariant-loop-at : goal.invariant-loop-at
 invariant-loop-at g l =
-    (vec_len l.taken.sectors ≡ l.at)
+    (l.self.bounds ≡ l.fn.self.bounds)
+    × (vec_len l.taken.sectors ≡ l.at)
     × AreParts l.keeper.world l.taken.are_parts.items l.taken.sectors.items

@@ -10,7 +10,7 @@ use Rattle.vx_session.proofs.session.Session.tick.Goals as goal
 pub returns-clause-ticked : goal.returns-clause-ticked
 returns-clause-ticked g c =
     let i = c.self.inside in
-    let k = c.tick.new.keeper in
+    let k = c.tick_alone.new.keeper in
     let marks = c.push_reserved.new.self.items in
     let was : SessionData = session_data i.bounds i.keeper (map player_in i.players.items) (edits_to i.last) i.marks.items in
     let told = c.in_ok-fates.ensures.ok in

@@ -3,6 +3,7 @@ pub mod Copying
 pub mod Indices
 pub mod Listing
 pub mod MapLemmas
+pub mod Nearby
 pub mod Placed
 pub mod Putting
 pub mod Rows

@@ -3,6 +3,7 @@ pub mod Laws
 pub mod Listed
 pub mod MapLaws
 pub mod Maps
+pub mod Nearby
 pub mod SameCells
 pub mod SectorCells
 pub mod Stored

@@ -10,6 +10,7 @@ ghost use Rattle.vx_geom.specs.declared.dir.Dir.TheVariants.{Up, Down};
 ghost use Rattle.vx_geom.specs.declared.pos.Pos.{Pos};
 ghost use Rattle.vx_cells.specs.Listed.{components_on, devices_on, AreInRow};
 ghost use Rattle.vx_cells.specs.MapLaws.{IsFilled};
+ghost use Rattle.vx_cells.specs.Nearby.{HasAround, IsAmid, IsBetween};
 ghost use Rattle.vx_cells.specs.SectorCells.{holds, cell_at};
 
 use crate::cells::Cells;
@@ -17,6 +18,9 @@ use std::alloc::{AllocError, Global};
 use std::marker::Model;
 use vx_block::Cell;
 use vx_geom::{Bounds, Dir, Pos};
+
+// A side of a chunk has so many columns, and a sector has whole chunks.
+const CHUNK_SIDE: u32 = 16;
 
 /// The map as a tick begins: what stands at each position of the world, and air outside. The
 /// sectors are lent to it, and nothing is copied.
@@ -198,6 +202,19 @@ impl<'a> Frozen<'a> {
             .components_in_row(x, y, z, count)
     }
 
+    /// The sector that holds a position and all that lies close to it, at most one column, one
+    /// layer and one row off. `None` at the end of a chunk or of the world.
+    #[inline(always)]
+    pub fn around(&self, p: Pos) -> Option<&Cells>
+        ensures { IfSome result (λ c. HasAround self.now c.now p) }
+    {
+        self.soundness();
+        if !self.bounds.inside(p) || !is_amid(p, self.bounds.height()) {
+            return None;
+        }
+        Some(self.sector_at(self.bounds.sector_holding(p)))
+    }
+
     /// How many components of machines stand on the map. No clause tells the number, since nothing
     /// but costs rests on it.
     pub fn component_count(&self) -> u32 {
@@ -299,4 +316,26 @@ fn coordinates_beside(p: Pos, dir: Dir) -> (i64, i64, i64)
         Dir::South => (x, y, z + 1),
         Dir::North => (x, y, z - 1),
     }
+}
+
+// Whether a position has others of its chunk beside it on each side, and others of a world that is
+// so high over it and under it.
+#[inline(always)]
+fn is_amid(p: Pos, height: u32) -> bool
+    ensures { result ≡ true → IsAmid height p }
+{
+    let layer = p.y.unsigned_abs();
+    has_beside(p.x.unsigned_abs())
+        && has_beside(p.z.unsigned_abs())
+        && 0 < layer
+        && layer + 1 < height
+}
+
+// Whether a column has others of its chunk on both sides.
+#[inline(always)]
+fn has_beside(column: u32) -> bool
+    ensures { result ≡ true → IsBetween column }
+{
+    let past = column % CHUNK_SIDE;
+    0 < past && past + 1 < CHUNK_SIDE
 }

@@ -1,4 +1,5 @@
 pub mod Around
+pub mod Bare
 pub mod Carried
 pub mod Distant
 pub mod Feeders

@@ -6,6 +6,7 @@ mod dust;
 mod laws;
 mod level_table;
 mod leveled;
+mod nearby;
 mod next_dust;
 mod power;
 mod region;
@@ -19,8 +20,9 @@ pub use laws::{
 };
 pub use level_table::Levels;
 pub use leveled::Leveled;
+pub use nearby::{is_bare, next_nearby};
 pub use next_dust::{dust_at, dust_over, dust_under};
 pub use power::{activates, active, powered};
 pub use sheet::{SHEET_SIDE, column, is_place, sheet_number};
-pub use signals::is_fed;
+pub use signals::{has_feeder, has_feeder_within, is_fed};
 pub use spread::{FED, all_levels, levels};

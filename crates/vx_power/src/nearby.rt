@@ -1,0 +1,77 @@
+//! Positions close to one, where one sector has all around it.
+ghost use Rattle.std.specs.Prelude.{◌≡◌, ◌≤◌, pos, unsigned_abs, true, false};
+ghost use Rattle.vx_block.specs.Components.{is_component};
+ghost use Rattle.vx_cells.specs.Maps.{cell_on};
+ghost use Rattle.vx_cells.specs.Nearby.{HasAround, IsClose};
+ghost use Rattle.vx_cells.specs.SectorCells.{holds, cell_at};
+ghost use Rattle.vx_geom.specs.declared.pos.Pos.{Pos};
+ghost use Rattle.vx_geom.specs.Neighbor.{neighbor};
+
+use vx_cells::{Cells, Frozen};
+use vx_geom::{Dir, Pos};
+
+/// The next position in that direction. It is of the sector that has all around this one.
+#[inline(always)]
+pub fn next_nearby(map: &Frozen<'_>, cells: &Cells, p: Pos, dir: Dir) -> Pos
+    requires { HasAround map.now cells.now p }
+    ensures value { result ≡ neighbor p dir }
+    ensures held { holds cells.now result ≡ true }
+    ensures cell { cell_at cells.now result ≡ cell_on map.now result }
+{
+    map.soundness();
+    p.step(dir).unwrap()
+}
+
+/// Whether no component of machines stands close to a position in the layer of another that is
+/// close to it.
+#[inline(always)]
+pub fn is_bare(map: &Frozen<'_>, cells: &Cells, p: Pos, other: Pos) -> bool
+    requires around { HasAround map.now cells.now p }
+    requires close { IsClose p other }
+    ensures { result ≡ true → (q : Pos) → IsClose p q → q.y ≡ other.y
+        → is_component (cell_on map.now q) ≡ false }
+{
+    map.soundness();
+    let row = row_of(p);
+    if !is_bare_row(map, cells, p, other, row - 1) {
+        return false;
+    }
+    if !is_bare_row(map, cells, p, other, row) {
+        return false;
+    }
+    is_bare_row(map, cells, p, other, row + 1)
+}
+
+// The same of one row of that layer.
+#[inline(always)]
+fn is_bare_row(map: &Frozen<'_>, cells: &Cells, p: Pos, other: Pos, row: u32) -> bool
+    requires around { HasAround map.now cells.now p }
+    requires close { IsClose p (record other { z = pos row; x = p.x }) }
+    ensures { result ≡ true → (q : Pos) → IsClose p q → q.y ≡ other.y → q.z ≡ pos row
+        → is_component (cell_on map.now q) ≡ false }
+{
+    map.soundness();
+    cells.components_in_row(column_of(p) - 1, layer_of(other), row, 3) == 0
+}
+
+#[tactic(auto, using(vx_base::proofs::Signed::signed))]
+fn column_of(p: Pos) -> u32
+    ensures { result ≡ unsigned_abs p.x }
+{
+    p.x.unsigned_abs()
+}
+
+#[tactic(auto, using(vx_base::proofs::Signed::signed))]
+fn layer_of(p: Pos) -> u32
+    ensures { result ≡ unsigned_abs p.y }
+{
+    p.y.unsigned_abs()
+}
+
+#[tactic(auto, using(vx_base::proofs::Signed::signed))]
+fn row_of(p: Pos) -> u32
+    ensures value { result ≡ unsigned_abs p.z }
+    ensures most { result ≤ 2147483648 }
+{
+    p.z.unsigned_abs()
+}

@@ -1,5 +1,5 @@
 -- One position looked at while levels are made right, over a table that keeps links too.
-use Rattle.std.proofs.Common.{◌≡◌, ℕ, ◌+◌, ◌-◌, ◌<◌, ◌≤◌, ◌==◌, inl, inr, true, false, if◌then◌else◌, List, [], ◌∷◌, ◌++◌, refl, sym, ap, ◌∙◌, subst, arith}
+use Rattle.std.proofs.Common.{◌≡◌, ℕ, ◌+◌, ◌-◌, ◌<◌, ◌≤◌, ◌==◌, ◌≢◌, inl, inr, true, false, if◌then◌else◌, List, [], ◌∷◌, ◌++◌, refl, sym, ap, ◌∙◌, subst, arith}
 use Rattle.std.specs.List.{filter}
 use Rattle.std.proofs.lemmas.Bool.{cases_Bool, or_parts, eqb-true, false≢true}
 use Rattle.vx_geom.specs.declared.pos.Pos.{Pos}
@@ -10,7 +10,7 @@ use Rattle.vx_levels.specs.Linked.{level_at, links_at, linked, KnowsLinks}
 use Rattle.vx_levels.specs.Pending.{PendingData, AreKept, is_between, IsPut}
 use Rattle.vx_levels.specs.Repairs.{Follows, IsRight, IsRightBut, IsUnderRepair}
 use Rattle.vx_levels.proofs.Agreeing.{greatest_same, links_to_dust, told_fed, told_unfed}
-use Rattle.vx_levels.proofs.Keeping.{IsMoved, IsTaken, none_in, left_out, moved_to, after_fall, after_rise, begun_at, all_exact, greatest_most, own_right, under_15}
+use Rattle.vx_levels.proofs.Keeping.{IsMoved, IsTaken, none_in, left_out, moved_to, after_fall, after_rise, begun_at, all_exact, greatest_most, own_right, not_15, under_15}
 use Rattle.vx_power.specs.Dust.{links}
 use Rattle.vx_power.specs.Levels.{LevelTable, has, same_place}
 use Rattle.vx_power.specs.Signals.{is_fed}
@@ -23,15 +23,6 @@ follows_put {p = p} {level = level} put old new is changed q none =
     let parts = none_in put (p ∷ []) q (sym (ap (λ ps. has ps q) is) ∙ none) in
     let off = (or_parts (same_place q p) false parts.1).0 in
     (parts.0, changed q ∙ ap (λ b. if b then level else level_at old q) off)
-
--- a position without a level stays so
-pub put_nothing : (table : LevelTable) (p : Pos) → level_at table p ≡ 0 → IsPut (level_at table) (level_at table) p 0
-put_nothing table p none q = elim (cases_Bool (same_place q p)) [
-  | inl same ↦
-      ap (level_at table) (place_is q p same) ∙ none
-      ∙ sym (ap (λ b. if b then 0 else level_at table q) same)
-  | inr off ↦ sym (ap (λ b. if b then 0 else level_at table q) off)
-]
 
 -- levels that stayed before others changed
 pub follows_on : (put more : List Pos) (old middle new : LevelTable) → ((p : Pos) → level_at middle p ≡ level_at old p)
@@ -90,6 +81,25 @@ module _ (w : Pos → Cell) (old : LevelTable) (before pending : PendingData) (p
     linked = links_known old (λ q. refl);
     empty = still_empty old (λ q bare. refl);
   }
+
+  -- it is fed, and has the level of fed dust
+  pub fed_right : is_fed w p ≡ true → level_at old p ≡ 15 → IsUnderRepair w old pending
+  fed_right fed level = left_right (λ dust. (
+    ap (λ n. n == 15) level ∙ sym fed,
+    level ∙ sym (told_fed (is_fed w) (links w) (level_at old) p fed),
+  ))
+
+  -- it is not, and has what its links tell
+  pub told_right : is_fed w p ≡ false → (was told : ℕ) → was ≡ level_at old p → was ≢ 15
+      → told ≡ (if was == 15 then 15 else greatest (level_at old) (linked (links_at old p) p) - 1) → told ≡ was
+      → IsUnderRepair w old pending
+  told_right unfed was told level other is same = left_right (λ dust. (
+    not_15 was (level_at old p) level other ∙ sym unfed,
+    sym level ∙ sym same ∙ is
+        ∙ ap (λ b. if b then 15 else greatest (level_at old) (linked (links_at old p) p) - 1) (not_15 was was refl other)
+        ∙ ap (λ qs. greatest (level_at old) qs - 1) (known dust)
+        ∙ sym (told_unfed (is_fed w) (links w) (level_at old) p unfed),
+  ))
 
   -- it was put into another list
   pub moved_right : (final : PendingData) → ((level_at old p == 15) ≡ is_fed w p) → IsMoved pending final p

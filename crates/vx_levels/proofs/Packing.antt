@@ -56,6 +56,13 @@ module _ (old new : LevelTable) (p : Pos) (links level word : ℕ) (is : word �
         ∙ sym (ap (λ b. if b then links else links_at old q) off)
   ]
 
+-- what stands at a place already changes nothing when it is put there
+pub put_again : (f : Pos → ℕ) (p : Pos) (n : ℕ) → f p ≡ n → (q : Pos) → f q ≡ (if same_place q p then n else f q)
+put_again f p n there q = elim (cases_Bool (same_place q p)) [
+  | inl here ↦ ap f (place_is q p here) ∙ there ∙ sym (ap (λ b. if b then n else f q) here)
+  | inr off ↦ sym (ap (λ b. if b then n else f q) off)
+]
+
 -- the links of four sides are those of each
 pub linked_sides : (east west south north : ℕ) (p : Pos) → east < 8 → west < 8 → south < 8 → north < 8
     → linked (east + 8 * west + 64 * south + 512 * north) p

@@ -4,9 +4,11 @@
 mod laws;
 mod linked_levels;
 mod links;
+mod links_nearby;
 mod mapping;
 mod pending;
 mod repairing;
+mod sight;
 mod word_sheet;
 mod words;
 

@@ -62,6 +62,9 @@ impl LinkedLevels {
             → links_at self.new q ≡ (if same_place q p then links else links_at self.old q)) }
         ensures level { OnOk result ((q : Pos) → level_at self.new q ≡ level_at self.old q) }
     {
+        if self.links(p) == links {
+            return Ok(());
+        }
         let word = 16 * links + u16::from(self.at(p));
         self.words.put(p, word)
     }

@@ -10,6 +10,7 @@ ghost use Rattle.vx_power.specs.Dust.{beside, over, under, links, links_on, link
 ghost use Rattle.vx_power.specs.Levels.{is_place};
 
 use crate::linked_levels::LinkedLevels;
+use crate::links_nearby::links_nearby;
 use std::alloc::AllocError;
 use vx_block::Side;
 use vx_cells::Frozen;
@@ -17,7 +18,21 @@ use vx_geom::Pos;
 use vx_power::{Leveled, dust_at, dust_over, dust_under};
 
 /// The links of dust at a position, 3 bits for each side.
+#[tactic(auto, using(vx_power::proofs::Stepping::dust_place))]
 pub(crate) fn links_of(map: &Frozen<'_>, p: Pos) -> u16
+    requires { is_dust (cell_on map.now p) ≡ true }
+    ensures links { linked result p ≡ links (cell_on map.now) p }
+    ensures few { result < 4096 }
+{
+    map.soundness();
+    match map.around(p) {
+        Some(cells) => links_nearby(map, cells, p),
+        None => links_anywhere(map, p),
+    }
+}
+
+/// The same, wherever the position is.
+pub(crate) fn links_anywhere(map: &Frozen<'_>, p: Pos) -> u16
     requires { is_dust (cell_on map.now p) ≡ true }
     ensures links { linked result p ≡ links (cell_on map.now) p }
     ensures few { result < 4096 }
@@ -67,6 +82,7 @@ fn links_down(map: &Frozen<'_>, p: Pos, side: Side) -> bool
 }
 
 /// The greatest level of the dust that dust at a position links to, by the links that are kept.
+#[inline(always)]
 pub(crate) fn greatest_linked(levels: &LinkedLevels, p: Pos) -> u8
     requires { is_place p ≡ true }
     ensures value { result ≡ greatest (level_at levels.now) (linked (links_at levels.now p) p) }
@@ -80,11 +96,15 @@ pub(crate) fn greatest_linked(levels: &LinkedLevels, p: Pos) -> u8
     more(more(east, west), more(south, north))
 }
 
+#[inline(always)]
 fn greatest_on(levels: &LinkedLevels, p: Pos, side: Side, bits: u16) -> u8
     requires { is_place p ≡ true }
     ensures value { result ≡ greatest (level_at levels.now) (linked_on bits p side) }
     ensures most { result < 16 }
 {
+    if bits == 0 {
+        return 0;
+    }
     let beside = level_if(levels, bits % 2 == 1, place_beside(p, side));
     let over = level_if(levels, bits / 2 % 2 == 1, place_over(p, side));
     let under = level_if(levels, bits / 4 % 2 == 1, place_under(p, side));
@@ -127,6 +147,7 @@ pub(crate) fn add_below(
     add_below_on(list, levels, p, Side::North, links / 512 % 8, least, bound)
 }
 
+#[inline(always)]
 fn add_below_on(
     list: &mut Vec<Pos>,
     levels: &LinkedLevels,
@@ -140,6 +161,9 @@ fn add_below_on(
     ensures { OnOk result (list.new.items ≡ list.old.items
         ++ filter (is_between (level_at levels.now) least bound) (linked_on bits p side)) }
 {
+    if bits == 0 {
+        return Ok(());
+    }
     add_if_below(
         list,
         levels,
@@ -166,6 +190,7 @@ fn add_below_on(
     )
 }
 
+#[inline(always)]
 fn add_if_below(
     list: &mut Vec<Pos>,
     levels: &LinkedLevels,
@@ -188,8 +213,9 @@ fn add_if_below(
     Ok(())
 }
 
+/// The position beside one of the widest world on that side.
 #[tactic(auto, using(vx_base::proofs::Signed::signed))]
-fn place_beside(p: Pos, side: Side) -> Pos
+pub(crate) fn place_beside(p: Pos, side: Side) -> Pos
     requires { is_place p ≡ true }
     ensures value { result ≡ beside p side }
     ensures level { result.y ≡ p.y }
@@ -202,8 +228,9 @@ fn place_beside(p: Pos, side: Side) -> Pos
     }
 }
 
+/// The one over that.
 #[tactic(auto, using(vx_base::proofs::Signed::signed))]
-fn place_over(p: Pos, side: Side) -> Pos
+pub(crate) fn place_over(p: Pos, side: Side) -> Pos
     requires { is_place p ≡ true }
     ensures { result ≡ over (beside p side) }
 {
@@ -214,8 +241,9 @@ fn place_over(p: Pos, side: Side) -> Pos
     }
 }
 
+/// The one under it.
 #[tactic(auto, using(vx_base::proofs::Signed::signed))]
-fn place_under(p: Pos, side: Side) -> Pos
+pub(crate) fn place_under(p: Pos, side: Side) -> Pos
     requires { is_place p ≡ true }
     ensures { result ≡ under (beside p side) }
 {

@@ -8,14 +8,16 @@ ghost use Rattle.vx_levels.specs.Linked.{level_at, linked, links_at, KnowsLinks}
 ghost use Rattle.vx_levels.specs.Pending.{IsPut, is_between};
 ghost use Rattle.vx_levels.specs.Repairs.{ChangesAt, Follows, IsRight, IsRightBut, IsUnderRepair};
 ghost use Rattle.vx_power.specs.Levels.{is_place};
+ghost use Rattle.vx_power.specs.Signals.{is_fed};
 
 use crate::linked_levels::LinkedLevels;
-use crate::links::{greatest_linked, links_of};
+use crate::links::greatest_linked;
 use crate::pending::Pending;
+use crate::sight::sight_at;
 use std::alloc::{AllocError, Global};
 use vx_cells::Frozen;
 use vx_geom::Pos;
-use vx_power::{FED, Leveled, is_fed};
+use vx_power::{FED, Leveled};
 
 /// Makes levels right again that are right but at these positions: where a cell changed, and dust
 /// in sight of one that did. It tells where levels changed, or `None` where it took more turns than
@@ -80,11 +82,11 @@ fn look_anew(
     ensures right { OnOk result (IsUnderRepair (cell_on map.now) levels.new pending.new) }
     ensures follows { OnOk result (Follows put.old.items levels.old put.new.items levels.new) }
 {
-    if !lies(map, p) {
+    let Some(sight) = sight_at(map, p) else {
         return clear(levels, put, p);
-    }
-    levels.put_links(p, links_of(map, p))?;
-    feed(map, levels, pending, put, p)
+    };
+    levels.put_links(p, sight.links)?;
+    feed(map, levels, pending, put, p, sight.is_fed)
 }
 
 // Takes the level away from a position where no dust lies, if it has one.
@@ -100,30 +102,39 @@ fn clear(levels: &mut LinkedLevels, put: &mut Vec<Pos>, p: Pos) -> Result<(), Al
     levels.put(p, 0)
 }
 
-// Looks whether dust at a position is fed, whose links are known.
+// Gives dust at a position, whose links are known, the level of fed dust, or takes that away, or
+// notes that it may have another than its links tell.
 fn feed(
     map: &Frozen<'_>,
     levels: &mut LinkedLevels,
     pending: &mut Pending,
     put: &mut Vec<Pos>,
     p: Pos,
+    fed: bool,
 ) -> Result<(), AllocError>
     requires place { is_place p ≡ true }
     requires dust { is_dust (cell_on map.now p) ≡ true }
     requires right { IsUnderRepair (cell_on map.now) levels.old
         (record pending.old { unsure = pending.old.unsure ++ p ∷ [] }) }
     requires linked { KnowsLinks (cell_on map.now) levels.old p }
+    requires feeding { fed ≡ is_fed (cell_on map.now) p }
     ensures right { OnOk result (IsUnderRepair (cell_on map.now) levels.new pending.new) }
     ensures follows { OnOk result (Follows put.old.items levels.old put.new.items levels.new) }
 {
     let was = levels.at(p);
-    if is_fed(map, p) {
-        rise(levels, pending, put, p, FED)
-    } else if was == FED {
-        fall(levels, pending, put, p, was)
-    } else {
-        pending.add_falling(p)
+    if fed {
+        if was == FED {
+            return Ok(());
+        }
+        return rise(levels, pending, put, p, FED);
     }
+    if was == FED {
+        return fall(levels, pending, put, p, was);
+    }
+    if told_level(levels, p, was) == was {
+        return Ok(());
+    }
+    pending.add_falling(p)
 }
 
 // Lets the level of dust at a position fall that nothing supports.
@@ -184,6 +195,7 @@ fn lift(
 
 // What dust at a position is told, where `was` is its level: that same level if it is that of fed
 // dust, else one less than the greatest level that the dust links to.
+#[inline(always)]
 fn told_level(levels: &LinkedLevels, p: Pos, was: u8) -> u8
     requires { is_place p ≡ true }
     ensures value { result ≡ (if was == 15 then 15

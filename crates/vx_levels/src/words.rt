@@ -6,7 +6,7 @@ use crate::word_sheet::WordSheet;
 use std::alloc::{AllocError, Global};
 use std::marker::Model;
 use vx_geom::Pos;
-use vx_power::sheet_number;
+use vx_power::{is_place, sheet_number};
 
 /// A word of 16 bits for each position of the widest world, 0 where none was put.
 // They stand by sheet, layer by layer from the bottom up; one in which no word was put takes no
@@ -50,6 +50,10 @@ impl Words {
     pub(crate) fn at(&self, p: Pos) -> u16
         ensures { result ≡ level_in self.now p }
     {
+        // Tested first, since what follows is quicker where no coordinate is below 0.
+        if !is_place(p) {
+            return 0;
+        }
         match self.sheets.get(sheet_number(p)) {
             Some(Some(sheet)) => sheet.at(p),
             _ => 0,

@@ -1,9 +1,13 @@
 use Rattle.std.proofs.Common.{ap, sym, ◌+◌, ◌*◌, if◌then◌else◌, ◌∙◌, arith}
 use Rattle.std.proofs.lemmas.Result.{on_ok_weaker}
 use Rattle.vx_levels.specs.Linked.{level_at, links_at}
-use Rattle.vx_levels.proofs.Packing.{links_put, levels_stay}
+use Rattle.vx_levels.proofs.Packing.{links_put, levels_stay, put_again}
 use Rattle.vx_power.specs.Levels.{same_place}
 use Rattle.vx_levels.proofs.linked_levels.LinkedLevels.put_links.Goals as goal
+
+pub returns-then-links-clause-links : goal.returns-then-links-clause-links
+returns-then-links-clause-links c =
+    put_again (links_at c.args.self.now) c.args.p c.args.links (sym c.links.ensures.value ∙ c.if-links.true)
 
 pub returns-clause-links : goal.returns-clause-links
 returns-clause-links c =

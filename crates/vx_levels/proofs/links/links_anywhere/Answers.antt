@@ -2,7 +2,7 @@ use Rattle.std.proofs.Common.{sym, ◌++◌, ◌∙◌}
 use Rattle.vx_cells.specs.Maps.{cell_on}
 use Rattle.vx_levels.proofs.Keeping.{side_links}
 use Rattle.vx_levels.proofs.Packing.{linked_sides}
-use Rattle.vx_levels.proofs.links.links_of.Goals as goal
+use Rattle.vx_levels.proofs.links.links_anywhere.Goals as goal
 
 pub returns-clause-links : goal.returns-clause-links
 returns-clause-links c =

@@ -1,22 +1,17 @@
 -- One more entry at the end of a window.
-use Rattle.std.proofs.Common.{◌≡◌, ℕ, ◌+◌, ◌<◌, ◌≤◌, true, List, [], ◌∷◌, ◌++◌, map, length, length-append, refl, ap, sym, subst, arith, ◌∙◌, inl, inr}
-use Rattle.std.specs.Prelude.{Vec}
-use Rattle.std.specs.Vec.{vec_len}
-use Rattle.std.specs.declared.alloc.Global.{Global}
+use Rattle.std.proofs.Common.{◌≡◌, ℕ, ◌<◌, ◌≤◌, ◌⊎◌, true, Result, Err, List, [], ◌∷◌, ◌++◌, length-append, refl, ap, sym, subst, arith, ◌∙◌, inl, inr}
 use Rattle.std.proofs.lemmas.Bool.{cases_Bool}
-use Rattle.std.proofs.lemmas.List.{length-map}
-use Rattle.vx_geom.specs.declared.pos.Pos.{Pos}
-use Rattle.vx_sector.specs.declared.effect.Effect.{Effect}
 use Rattle.vx_cells.specs.SectorCells.{SectorCells, holds}
-use Rattle.vx_policy.specs.declared.version.Version.{Version}
 use Rattle.vx_region.specs.Regions.{Regions}
 use Rattle.vx_sector.specs.SectorData.{SectorData, SeatData, EntryData, FreshData, WindowData, IsFresh, fresh_of, sector_of}
 use Rattle.vx_sector.specs.Commands.{place_of}
-use Rattle.vx_sector.specs.Acting.{rules_answer, applied, effect_by, cells_by}
-use Rattle.vx_sector.specs.Windows.{cells_after, IsWindow, IsSector, most_entries, count_of, is_full, answer_of, recorded, renewed, sector_after}
+use Rattle.vx_sector.specs.Acting.{rules_answer, cells_by}
+use Rattle.vx_sector.specs.Windows.{cells_after, IsWindow, IsSector, most_entries, count_of, is_full, answer_of, is_recorded, recorded, renewed, sector_after, window_after}
 use Rattle.vx_sector.specs.declared.cmd.Cmd.{Cmd}
-use Rattle.vx_sector.specs.declared.entry.Entry.{Entry}
-use Rattle.vx_sector.proofs.Outside.{elsewhere_is_refused, full_is_refused, answered_by_the_rules, after_answer, room_where_not_full}
+use Rattle.vx_sector.specs.declared.reply.Reply.{Reply}
+use Rattle.vx_sector.specs.declared.refusal.Refusal.{Refusal}
+use Rattle.vx_sector.specs.declared.refusal.Refusal.TheVariants.{NoMemory}
+use Rattle.vx_sector.proofs.Outside.{elsewhere_is_refused, full_is_refused, answered_by_the_rules, after_answer, lost, room_where_not_full}
 
 -- the entry has the answer that the rules give on the cells
 abbrev pub IsNext : Regions → SectorCells → EntryData → Type 0
@@ -41,25 +36,24 @@ sector_recorded s entry sector next room = record {
   most = omega (arith, length-append s.entries (entry ∷ []));
 }
 
--- a window in which the entry was recorded, with what it does, is that of the sector
-pub recorded_in : (window was : WindowData) (closed : ℕ) (s : SectorData) (entry : EntryData) (effect : Effect)
-    → window ≡ was → sector_of was closed ≡ s → effect ≡ effect_by s.cells entry.cmd entry.answer
-    → sector_of (record window { cells = applied window.cells (place_of entry.cmd) effect; entries = window.entries ++ entry ∷ [] }) closed
-    ≡ recorded (sector_of was closed) entry
-recorded_in window was closed s entry effect same view does =
-    let does_here : effect ≡ effect_by was.cells entry.cmd entry.answer = subst (λ (r : SectorData). effect ≡ effect_by r.cells entry.cmd entry.answer)
-    (sym view) does in
-    ap (λ (w : WindowData). sector_of (record w { cells = applied w.cells (place_of entry.cmd) effect; entries = w.entries ++ entry ∷ [] }) closed) same
-    ∙ ap (λ e. record (sector_of was closed) { cells = applied was.cells (place_of entry.cmd) e; entries = was.entries ++ entry ∷ [] }) does_here
+-- what a command leaves is a sector too, where there was room for it, and where it was answered by the rules or memory was wanting
+pub answered_keeps_sector : (s : SectorData) (seat : SeatData) (cmd : Cmd) (answer : Result Reply Refusal) → IsSector s
+    → holds s.cells (place_of cmd) ≡ true → count_of s < most_entries
+    → (answer ≡ rules_answer s.version.policy s.cells seat cmd) ⊎ (answer ≡ Err NoMemory) → IsSector (sector_after s seat cmd answer)
+answered_keeps_sector s seat cmd answer sector held room said = elim said [
+  | inl same ↦ subst IsSector (after_answer s seat cmd answer same)
+      (sector_recorded s (record { seat = seat; cmd = cmd; answer = answer }) sector (held, same) room)
+  | inr none ↦ subst IsSector (lost s seat cmd answer none) sector
+]
 
--- and so it is a sector
-pub is_sector_too : (s t n : SectorData) (entry : EntryData) → s ≡ t → IsSector s → IsNext t.version.policy t.cells entry
-    → count_of t < most_entries → n ≡ recorded s entry
-    → IsSector n
-is_sector_too s t n entry same sector next room whole =
-    let next_here : IsNext s.version.policy s.cells entry = subst (λ (r : SectorData). IsNext r.version.policy r.cells entry) (sym same) next in
-    let room_here : count_of s < most_entries = subst (λ (r : SectorData). count_of r < most_entries) (sym same) room in
-    subst IsSector (sym whole) (sector_recorded s entry sector next_here room_here)
+-- a sector follows its window
+pub window_leads : (w : WindowData) (closed : ℕ) (seat : SeatData) (cmd : Cmd) (answer : Result Reply Refusal)
+    → sector_of (window_after w seat cmd answer) closed ≡ sector_after (sector_of w closed) seat cmd answer
+unfolding sector_after
+window_leads w closed seat cmd answer = elim (cases_Bool (is_recorded answer)) [
+  | inl kept ↦ rw kept refl
+  | inr untold ↦ rw untold refl
+]
 
 -- what a command leaves is a sector
 pub command_keeps_sector : (s : SectorData) (seat : SeatData) (cmd : Cmd) → IsSector s → IsSector (sector_after s seat cmd (answer_of s seat cmd))

@@ -6,7 +6,7 @@ use Rattle.vx_geom.specs.declared.pos.Pos.{Pos}
 use Rattle.vx_region.specs.Regions.{Regions}
 use Rattle.vx_sector.specs.Acting.{rules_answer, cells_by}
 use Rattle.vx_sector.specs.Commands.{place_of}
-use Rattle.vx_sector.specs.SectorData.{SectorData, SeatData, EntryData, FreshData}
+use Rattle.vx_sector.specs.SectorData.{SectorData, SeatData, EntryData, FreshData, WindowData}
 use Rattle.vx_sector.specs.declared.cmd.Cmd.{Cmd}
 use Rattle.vx_sector.specs.declared.reply.Reply.{Reply}
 use Rattle.vx_sector.specs.declared.refusal.Refusal.{Refusal}
@@ -83,6 +83,16 @@ sector_after s seat cmd answer =
     if is_recorded answer
     then recorded s (record { seat = seat; cmd = cmd; answer = answer })
     else s
+
+-- a window after a command and its answer
+abbrev pub window_after : WindowData → SeatData → Cmd → Result Reply Refusal → WindowData
+window_after w seat cmd answer =
+    if is_recorded answer
+    then record w {
+      cells = cells_by w.cells cmd answer;
+      entries = w.entries ++ record { seat = seat; cmd = cmd; answer = answer } ∷ [];
+    }
+    else w
 
 -- the sector as a window begins in it, with nothing recorded yet
 abbrev pub first_window : FreshData → SectorData

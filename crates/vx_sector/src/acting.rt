@@ -3,14 +3,13 @@ ghost use Rattle.std.specs.Prelude.{◌≡◌, ◌⊎◌, true, Some, None, IfOk
 ghost use Rattle.vx_cells.specs.SectorCells.{SectorCells, IsWhole, holds};
 ghost use Rattle.vx_sector.specs.SectorData.{seat_of};
 ghost use Rattle.vx_sector.specs.Commands.{place_of};
-ghost use Rattle.vx_sector.specs.Acting.{hindrance, ok_unless, slots_at, reply_by, effect_of, effect_by, permitted_effect, rules_answer, Fits};
+ghost use Rattle.vx_sector.specs.Acting.{hindrance, ok_unless, slots_at, reply_by, effect_of, permitted_effect, rules_answer, Fits};
 
 use crate::chests::{is_in_use, opening, putting, taking};
 use crate::cmd::Cmd;
 use crate::contents::Contents;
 use crate::effect::Effect;
 use crate::judge::Judge;
-use crate::outcome::Outcome;
 use crate::refusal::Refusal;
 use crate::reply::Reply;
 use crate::seat::Seat;
@@ -20,40 +19,9 @@ use vx_cells::Cells;
 use vx_decide::{Rule, Verdict};
 use vx_geom::Pos;
 
-/// The answer of the rules to a command at a position of the sector, and what the command does. It
-/// takes memory for what an opened chest holds; its only error is that memory is wanting.
+/// The reply to a command at a position of the sector that nothing stands against, and what the
+/// command does. It takes memory for what an opened chest holds.
 pub fn outcome_of(
-    alloc: Global,
-    judge: &mut Judge,
-    cells: &Cells,
-    seat: &Seat,
-    cmd: &Cmd,
-) -> Result<Outcome, Refusal>
-    requires held { holds cells.now (place_of cmd.now) ≡ true }
-    requires whole { IsWhole cells.now }
-    ensures answer { IfOk result (λ outcome.
-        outcome.answer ≡ rules_answer judge.old.policy cells.now (seat_of seat.now) cmd.now) }
-    ensures effect { IfOk result (λ outcome.
-        outcome.effect ≡ effect_by cells.now cmd.now outcome.answer) }
-    ensures fits { IfOk result (λ outcome. Fits cells.now (place_of cmd.now) outcome.effect) }
-    ensures memory { IfErr result (λ refusal. refusal ≡ Refusal.NoMemory) }
-    ensures judge { judge.new ≡ judge.old }
-{
-    match carried_out(alloc, judge, cells, seat, cmd) {
-        Ok((reply, effect)) => Ok(Outcome {
-            answer: Ok(reply),
-            effect,
-        }),
-        Err(Refusal::NoMemory) => Err(Refusal::NoMemory),
-        Err(refusal) => Ok(Outcome {
-            answer: Err(refusal),
-            effect: Effect::Same,
-        }),
-    }
-}
-
-// The reply to a command that nothing stands against, and what the command does.
-fn carried_out(
     alloc: Global,
     judge: &mut Judge,
     cells: &Cells,

@@ -10,7 +10,6 @@ mod entry;
 mod fresh;
 mod judge;
 mod laws;
-mod outcome;
 mod refusal;
 mod reply;
 mod seat;

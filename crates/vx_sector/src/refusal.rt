@@ -1,4 +1,4 @@
-ghost use Rattle.std.specs.Prelude.{◌≡◌, ◌≢◌, Some};
+ghost use Rattle.std.specs.Prelude.{◌≡◌, Some, None, IfSome};
 ghost use Rattle.vx_sector.specs.Texts.{refusal_text};
 
 use std::error::Error;
@@ -38,6 +38,43 @@ pub enum Refusal {
     NoMemory,
 }
 
+impl Refusal {
+    ghost use Rattle.vx_sector.specs.Windows.{leaves_trace};
+
+    /// Whether it is recorded with its command.
+    pub fn leaves_trace(&self) -> bool
+        ensures { result ≡ leaves_trace self.now }
+    {
+        !matches!(
+            self,
+            Refusal::OutOfWorld | Refusal::HistoryFull | Refusal::NoMemory
+        )
+    }
+
+    /// Its number and its words, where they name no rule, and so are the same each time.
+    pub fn words(&self) -> Option<&'static str>
+        ensures words { IfSome result (λ words. words.now ≡ refusal_text self.now) }
+        ensures none { result ≡ None → (rule : Rule) × (self.now ≡ Refusal.Denied rule) }
+    {
+        match self {
+            Refusal::OutOfWorld => Some("refused 1 out of world"),
+            Refusal::HistoryFull => Some("refused 13 history"),
+            Refusal::Denied(_) => None,
+            Refusal::Occupied => Some("refused 3 occupied"),
+            Refusal::Nothing => Some("refused 4 nothing"),
+            Refusal::NotLever => Some("refused 5 not lever"),
+            Refusal::NotChest => Some("refused 6 not chest"),
+            Refusal::NotEmpty => Some("refused 7 not empty"),
+            Refusal::Extended => Some("refused 8 extended"),
+            Refusal::Unbreakable => Some("refused 9 unbreakable"),
+            Refusal::NoSlot => Some("refused 10 no slot"),
+            Refusal::OtherItem => Some("refused 11 other item"),
+            Refusal::BadCount => Some("refused 12 bad count"),
+            Refusal::NoMemory => Some("refused 14 memory"),
+        }
+    }
+}
+
 /// The number and the words of each refusal. A script never prints those of `HistoryFull` and
 /// `NoMemory`, since it ends by a fault there; they are for whoever else runs a sector.
 impl fmt::Display for Refusal {
@@ -46,33 +83,13 @@ impl fmt::Display for Refusal {
     ghost output = { λ refusal. Some (refusal_text refusal) };
 
     fn fmt<W: fmt::Write>(&self, f: &mut fmt::Formatter<W>) -> fmt::Result {
-        let Refusal::Denied(rule) = self else {
-            return write!(f, "{}", words(self));
-        };
-        write!(f, "refused 2 {rule}")
-    }
-}
-
-// The number and the words of a refusal other than a denial.
-fn words(refusal: &Refusal) -> &'static str
-    ensures { ((rule : Rule) → refusal.now ≢ Refusal.Denied rule)
-        → result.now ≡ refusal_text refusal.now }
-{
-    match refusal {
-        Refusal::OutOfWorld => "refused 1 out of world",
-        Refusal::HistoryFull => "refused 13 history",
-        Refusal::Denied(_) => "refused 2",
-        Refusal::Occupied => "refused 3 occupied",
-        Refusal::Nothing => "refused 4 nothing",
-        Refusal::NotLever => "refused 5 not lever",
-        Refusal::NotChest => "refused 6 not chest",
-        Refusal::NotEmpty => "refused 7 not empty",
-        Refusal::Extended => "refused 8 extended",
-        Refusal::Unbreakable => "refused 9 unbreakable",
-        Refusal::NoSlot => "refused 10 no slot",
-        Refusal::OtherItem => "refused 11 other item",
-        Refusal::BadCount => "refused 12 bad count",
-        Refusal::NoMemory => "refused 14 memory",
+        match self {
+            Refusal::Denied(rule) => write!(f, "refused 2 {rule}"),
+            _ => match self.words() {
+                Some(words) => f.write_str(words),
+                None => unreachable!(),
+            },
+        }
     }
 }
 

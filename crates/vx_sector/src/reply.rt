@@ -1,4 +1,4 @@
-ghost use Rattle.std.specs.Prelude.{◌≡◌, Some, IfOk};
+ghost use Rattle.std.specs.Prelude.{◌≡◌, Some, IfOk, IfSome};
 
 use crate::contents::Contents;
 use std::alloc::AllocError;
@@ -18,6 +18,8 @@ pub enum Reply {
 }
 
 impl Reply {
+    ghost use Rattle.vx_sector.specs.Texts.{reply_text};
+
     /// A copy of the reply.
     pub fn try_clone(&self) -> Result<Reply, AllocError>
         ensures { IfOk result (λ copy. copy ≡ self.now) }
@@ -26,6 +28,16 @@ impl Reply {
             Reply::Seen(cell) => Ok(Reply::Seen(*cell)),
             Reply::Done(rule) => Ok(Reply::Done(*rule)),
             Reply::Opened(rule, contents) => Ok(Reply::Opened(*rule, contents.try_clone()?)),
+        }
+    }
+
+    /// Its words, where it names no region and shows nothing, and so are the same each time.
+    pub fn words(&self) -> Option<&'static str>
+        ensures { IfSome result (λ words. words.now ≡ reply_text self.now) }
+    {
+        match self {
+            Reply::Done(Rule::Default) => Some("ok default"),
+            _ => None,
         }
     }
 }

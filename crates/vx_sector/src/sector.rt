@@ -1,13 +1,12 @@
 ghost use Rattle.std.specs.Prelude.{◌≡◌, ◌≢◌, ◌≤◌, ◌<◌, ◌⊎◌, ◌↔◌, true, false, [], box_value, map, Ok, Err, IfOk, IfErr, OnOk, OnErr};
 ghost use Rattle.vx_block.specs.Part.{part_cell};
 ghost use Rattle.vx_cells.specs.SectorCells.{holds};
-ghost use Rattle.vx_sector.specs.Acting.{rules_answer, effect_by, Fits};
+ghost use Rattle.vx_sector.specs.Acting.{rules_answer};
 ghost use Rattle.vx_sector.specs.Commands.{place_of};
 ghost use Rattle.vx_sector.specs.SectorData.{seat_of, entry_of};
 ghost use Rattle.vx_sector.specs.Windows.{IsWindow, cells_after, most_entries, count_of, is_recorded, is_full, put_in, CanTamper};
 
 use crate::cmd::Cmd;
-use crate::effect::Effect;
 use crate::entry::Entry;
 use crate::fresh::Fresh;
 use crate::refusal::Refusal;
@@ -189,38 +188,21 @@ impl Sector {
         if self.is_full() {
             return Err(Refusal::HistoryFull);
         }
-        self.carry_out(seat, cmd)
+        self.carry_out(&seat, &cmd)
     }
 
-    // Carries out a command at a position of the sector, where there is room for its record.
+    /// Carries out a command at a position of the sector, where there is room for its record, as
+    /// `act` does.
     #[tactic(auto, unfolding(crate::specs::Windows::sector_after))]
-    fn carry_out(&mut self, seat: Seat, cmd: Cmd) -> Result<Reply, Refusal>
+    pub fn carry_out(&mut self, seat: &Seat, cmd: &Cmd) -> Result<Reply, Refusal>
         requires room { count_of self.old < most_entries }
-        requires held { holds self.old.cells (place_of cmd) ≡ true }
+        requires held { holds self.old.cells (place_of cmd.now) ≡ true }
         ensures answer { (result
-            ≡ rules_answer self.old.version.policy self.old.cells (seat_of seat) cmd)
+            ≡ rules_answer self.old.version.policy self.old.cells (seat_of seat.now) cmd.now)
             ⊎ (result ≡ Err Refusal.NoMemory) }
-        ensures after { self.new ≡ sector_after self.old (seat_of seat) cmd result }
+        ensures after { self.new ≡ sector_after self.old (seat_of seat.now) cmd.now result }
     {
-        let outcome = self.window.outcome(&seat, &cmd)?;
-        let answer = copied(&outcome.answer)?;
-        self.record(Entry { seat, cmd, answer }, outcome.effect)?;
-        outcome.answer
-    }
-
-    // Does what the command does, and puts it with its answer at the end of the record.
-    fn record(&mut self, entry: Entry, effect: Effect) -> Result<(), Refusal>
-        requires room { count_of self.old < most_entries }
-        requires held { holds self.old.cells (place_of entry.cmd) ≡ true }
-        requires answer { entry.answer
-            ≡ rules_answer self.old.version.policy self.old.cells (seat_of entry.seat) entry.cmd }
-        requires effect { effect ≡ effect_by self.old.cells entry.cmd entry.answer }
-        requires fits { Fits self.old.cells (place_of entry.cmd) effect }
-        ensures ok { OnOk result (self.new ≡ recorded self.old (entry_of entry)) }
-        ensures err { OnErr result (self.new ≡ self.old) }
-        ensures memory { IfErr result (λ refusal. refusal ≡ Refusal.NoMemory) }
-    {
-        self.window.record(entry, effect)
+        self.window.carry_out(seat, cmd)
     }
 
     // Whether a part may be put down at a position in base and cells.
@@ -244,18 +226,4 @@ fn entries_of(window: Box<Window>) -> Vec<Entry>
     ensures { map entry_of result.items ≡ (box_value window).entries }
 {
     Box::into_inner(window).into_entries()
-}
-
-// A copy of an answer.
-fn copied(answer: &Result<Reply, Refusal>) -> Result<Result<Reply, Refusal>, Refusal>
-    ensures ok { IfOk result (λ copy. copy ≡ answer.now) }
-    ensures memory { IfErr result (λ refusal. refusal ≡ Refusal.NoMemory) }
-{
-    match answer {
-        Ok(reply) => match reply.try_clone() {
-            Ok(copy) => Ok(Ok(copy)),
-            Err(_) => Err(Refusal::NoMemory),
-        },
-        Err(refusal) => Ok(Err(*refusal)),
-    }
 }

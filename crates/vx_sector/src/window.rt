@@ -1,18 +1,19 @@
-ghost use Rattle.std.specs.Prelude.{◌≡◌, ◌<◌, ◌∷◌, ◌++◌, true, [], map, length, IfOk, IfErr, OnOk, OnErr};
+ghost use Rattle.std.specs.Prelude.{◌≡◌, ◌⊎◌, ◌<◌, true, [], map, length, Ok, Err, IfOk, IfErr, OnOk, OnErr};
 ghost use Rattle.vx_store.specs.declared.stack.TheConstants.{SLOTS};
 ghost use Rattle.vx_store.specs.Codes.{is_chest};
 ghost use Rattle.vx_cells.specs.SectorCells.{IsSlot, holds, cell_at, with_cell, with_slot};
-ghost use Rattle.vx_sector.specs.Acting.{rules_answer, applied, effect_by, Fits};
+ghost use Rattle.vx_sector.specs.Acting.{rules_answer, applied, effect_of, Fits};
 ghost use Rattle.vx_sector.specs.Commands.{place_of};
 ghost use Rattle.vx_sector.specs.SectorData.{seat_of, entry_of};
+ghost use Rattle.vx_sector.specs.Windows.{window_after};
 
 use crate::acting::outcome_of;
 use crate::cmd::Cmd;
 use crate::effect::Effect;
 use crate::entry::Entry;
 use crate::judge::Judge;
-use crate::outcome::Outcome;
 use crate::refusal::Refusal;
+use crate::reply::Reply;
 use crate::seat::Seat;
 use std::alloc::{AllocError, Global};
 use std::marker::Model;
@@ -116,38 +117,66 @@ impl Window {
         self.cells = cells;
     }
 
-    /// What the command of the seat does and what is answered, by the rules; nothing is done yet.
-    pub(crate) fn outcome(&mut self, seat: &Seat, cmd: &Cmd) -> Result<Outcome, Refusal>
+    /// Carries out a command at a position of the sector, and puts it with its answer at the end of
+    /// the record. Where memory is wanting nothing is done.
+    pub(crate) fn carry_out(&mut self, seat: &Seat, cmd: &Cmd) -> Result<Reply, Refusal>
         requires held { holds self.old.cells (place_of cmd.now) ≡ true }
-        ensures answer { IfOk result (λ outcome. outcome.answer
-            ≡ rules_answer self.old.version.policy self.old.cells (seat_of seat.now) cmd.now) }
-        ensures effect { IfOk result (λ outcome.
-            outcome.effect ≡ effect_by self.old.cells cmd.now outcome.answer) }
-        ensures fits { IfOk result (λ outcome.
-            Fits self.old.cells (place_of cmd.now) outcome.effect) }
-        ensures memory { IfErr result (λ refusal. refusal ≡ Refusal.NoMemory) }
-        ensures same { self.new ≡ self.old }
+        ensures answer { (result
+            ≡ rules_answer self.old.version.policy self.old.cells (seat_of seat.now) cmd.now)
+            ⊎ (result ≡ Err Refusal.NoMemory) }
+        ensures after { self.new ≡ window_after self.old (seat_of seat.now) cmd.now result }
     {
         let alloc = *self.entries.allocator();
         self.cells.soundness();
-        outcome_of(alloc, &mut self.judge, &self.cells, seat, cmd)
+        match outcome_of(alloc, &mut self.judge, &self.cells, seat, cmd) {
+            Ok((reply, effect)) => self.grant(seat, cmd, reply, effect),
+            Err(refusal) => self.refuse(seat, cmd, refusal),
+        }
     }
 
-    /// Does what the command of an entry does, and puts the entry at the end of the record.
-    pub(crate) fn record(&mut self, entry: Entry, effect: Effect) -> Result<(), Refusal>
-        requires held { holds self.old.cells (place_of entry.cmd) ≡ true }
-        requires fits { Fits self.old.cells (place_of entry.cmd) effect }
-        ensures ok { OnOk result (self.new ≡ record self.old {
-          cells = applied self.old.cells (place_of entry.cmd) effect;
-          entries = self.old.entries ++ entry_of entry ∷ [];
-        }) }
-        ensures err { OnErr result (self.new ≡ self.old) }
-        ensures memory { IfErr result (λ refusal. refusal ≡ Refusal.NoMemory) }
+    // Does what a command does that nothing stands against, and puts it with its reply at the end
+    // of the record.
+    fn grant(
+        &mut self,
+        seat: &Seat,
+        cmd: &Cmd,
+        reply: Reply,
+        effect: Effect,
+    ) -> Result<Reply, Refusal>
+        requires held { holds self.old.cells (place_of cmd.now) ≡ true }
+        requires effect { effect ≡ effect_of self.old.cells cmd.now }
+        requires fits { Fits self.old.cells (place_of cmd.now) effect }
+        ensures answer { (result ≡ Ok reply) ⊎ (result ≡ Err Refusal.NoMemory) }
+        ensures after { self.new ≡ window_after self.old (seat_of seat.now) cmd.now result }
     {
+        let Ok(copy) = reply.try_clone() else {
+            return Err(Refusal::NoMemory);
+        };
         self.entries.reserve(1).map_err(|_| Refusal::NoMemory)?;
-        apply(&mut self.cells, entry.cmd.place(), effect)?;
-        self.entries.push_reserved(entry);
-        Ok(())
+        apply(&mut self.cells, cmd.place(), effect)?;
+        self.entries.push_reserved(Entry {
+            seat: *seat,
+            cmd: *cmd,
+            answer: Ok(copy),
+        });
+        Ok(reply)
+    }
+
+    // Puts a command with its refusal at the end of the record, unless that leaves no trace.
+    fn refuse(&mut self, seat: &Seat, cmd: &Cmd, refusal: Refusal) -> Result<Reply, Refusal>
+        ensures answer { (result ≡ Err refusal) ⊎ (result ≡ Err Refusal.NoMemory) }
+        ensures after { self.new ≡ window_after self.old (seat_of seat.now) cmd.now result }
+    {
+        if !refusal.leaves_trace() {
+            return Err(refusal);
+        }
+        self.entries.reserve(1).map_err(|_| Refusal::NoMemory)?;
+        self.entries.push_reserved(Entry {
+            seat: *seat,
+            cmd: *cmd,
+            answer: Err(refusal),
+        });
+        Err(refusal)
     }
 
     /// Its record alone, oldest first. It takes no memory.

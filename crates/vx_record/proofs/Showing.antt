@@ -1,5 +1,5 @@
 -- What the rules show of a chest, and the copies made of it before.
-use Rattle.std.proofs.Common.{◌≡◌, Bool, true, false, List, Option, Some, None, [], ◌∷◌, not, if◌then◌else◌, subst}
+use Rattle.std.proofs.Common.{◌≡◌, Bool, true, false, List, Option, Some, None, [], ◌∷◌, not, if◌then◌else◌, sym, subst}
 use Rattle.vx_geom.specs.declared.pos.Pos.{Pos}
 use Rattle.vx_store.specs.declared.stack.Stack.{Stack}
 use Rattle.vx_store.specs.Codes.{is_chest}
@@ -68,3 +68,10 @@ pub shows_no_slots : (regions : Regions) (c : SectorCells) (seat : SeatData) (p 
 unfolding rules_answer
 shows_no_slots regions c seat p none =
     refused_shows (judged regions seat Reaching p) (is_chest (cell_at c p)) (slots_at c p) none
+
+-- so what the chest holds, if one is there, is spare for the answer
+pub shows_chest : (regions : Regions) (c : SectorCells) (seat : SeatData) (p : Pos)
+    (spare : Option (List (Option Stack))) → spare ≡ chest_at c p
+    → IsSpareFor spare (rules_answer regions c seat (OpenChest p))
+shows_chest regions c seat p None same = shows_no_slots regions c seat p (sym same)
+shows_chest regions c seat p (Some slots) same = shows_slots regions c seat p slots (sym same)

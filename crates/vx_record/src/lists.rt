@@ -1,5 +1,6 @@
 ghost use Rattle.std.specs.Prelude.{◌≡◌, ◌≢◌, ◌<◌, ◌+◌, ◌⊎◌, ◌↔◌, [], true, false, length, replicate, slice_index_or, if◌then◌else◌, Err, IfOk};
 ghost use Rattle.vx_cells.specs.SectorCells.{holds};
+ghost use Rattle.vx_sector.specs.Acting.{rules_answer};
 ghost use Rattle.vx_sector.specs.Commands.{place_of};
 ghost use Rattle.vx_sector.specs.SectorData.{seat_of};
 ghost use Rattle.vx_sector.specs.Windows.{answer_of, is_full, is_recorded, sector_after};
@@ -79,8 +80,35 @@ impl Lists {
         ensures full { (result ≡ Err Refusal.HistoryFull)
             ↔ ((holds sector.old.cells (place_of cmd) ≡ true) × (is_full sector.old ≡ true)) }
     {
-        if !has_room(sector, &cmd) {
-            return sector.act(seat, cmd);
+        if !sector.cells().holds(cmd.place()) {
+            return Err(Refusal::OutOfWorld);
+        }
+        self.carry_out(at, sector, &seat, &cmd)
+    }
+
+    /// Carries out a command at a position of the sector of that number, as `act` does.
+    pub fn carry_out(
+        &mut self,
+        at: usize,
+        sector: &mut Sector,
+        seat: &Seat,
+        cmd: &Cmd,
+    ) -> Result<Reply, Refusal>
+        requires there { at < length self.old }
+        requires held { holds sector.old.cells (place_of cmd.now) ≡ true }
+        ensures answer { (result ≡ answer_of sector.old (seat_of seat.now) cmd.now)
+            ⊎ (result ≡ Err Refusal.NoMemory) }
+        ensures memory { (result ≡ answer_of sector.old (seat_of seat.now) cmd.now)
+            ⊎ (is_recorded (answer_of sector.old (seat_of seat.now) cmd.now) ≡ true) }
+        ensures sector { sector.new ≡ sector_after sector.old (seat_of seat.now) cmd.now result }
+        ensures lists { self.new ≡ lists_after self.old at cmd.now result }
+        ensures counted { calls_in self.new
+            ≡ calls_in self.old + (if is_recorded result then 1 else 0) }
+        ensures inside { result ≢ Err Refusal.OutOfWorld }
+        ensures full { (result ≡ Err Refusal.HistoryFull) ↔ (is_full sector.old ≡ true) }
+    {
+        if is_full(sector) {
+            return Err(Refusal::HistoryFull);
         }
         act_into(&mut self.rows[at], sector, seat, cmd)
     }
@@ -91,42 +119,49 @@ impl Lists {
 fn act_into(
     row: &mut Vec<Call>,
     sector: &mut Sector,
-    seat: Seat,
-    cmd: Cmd,
+    seat: &Seat,
+    cmd: &Cmd,
 ) -> Result<Reply, Refusal>
-    requires held { holds sector.old.cells (place_of cmd) ≡ true }
+    requires held { holds sector.old.cells (place_of cmd.now) ≡ true }
     requires room { is_full sector.old ≡ false }
-    ensures answer { (result ≡ answer_of sector.old (seat_of seat) cmd)
-        ⊎ (result ≡ Err Refusal.NoMemory) }
-    ensures sector { sector.new ≡ sector_after sector.old (seat_of seat) cmd result }
-    ensures row { row.new.items ≡ row_after row.old.items cmd result }
-    ensures inside { result ≢ Err Refusal.OutOfWorld }
-    ensures free { result ≢ Err Refusal.HistoryFull }
+    ensures answer { (result ≡ rules_answer sector.old.version.policy sector.old.cells
+        (seat_of seat.now) cmd.now) ⊎ (result ≡ Err Refusal.NoMemory) }
+    ensures sector { sector.new ≡ sector_after sector.old (seat_of seat.now) cmd.now result }
+    ensures row { row.new.items ≡ row_after row.old.items cmd.now result }
 {
-    let Ok(spare) = spare_for(*row.allocator(), sector, &seat, &cmd) else {
+    let Ok(spare) = spare_for(*row.allocator(), sector, seat, cmd) else {
         return Err(Refusal::NoMemory);
     };
     let Ok(()) = row.reserve(1) else {
         return Err(Refusal::NoMemory);
     };
-    let answer = sector.act(seat, cmd);
-    if !is_recorded(&answer) {
-        return answer;
+    match sector.carry_out(seat, cmd) {
+        Ok(reply) => {
+            row.push_reserved(Call {
+                cmd: *cmd,
+                answer: Ok(copy_of(&reply, spare)),
+            });
+            Ok(reply)
+        }
+        Err(refusal) => {
+            if !refusal.leaves_trace() {
+                return Err(refusal);
+            }
+            row.push_reserved(Call {
+                cmd: *cmd,
+                answer: Err(refusal),
+            });
+            Err(refusal)
+        }
     }
-    row.push_reserved(Call {
-        cmd,
-        answer: copy_of(&answer, spare),
-    });
-    answer
 }
 
-// Whether the sector holds the place of the command and has room in its record.
+// Whether the sector has no room in its record.
 #[tactic(auto, unfolding(vx_sector::specs::Windows::is_full))]
-fn has_room(sector: &Sector, cmd: &Cmd) -> bool
-    ensures { (result ≡ true) ↔ ((holds sector.now.cells (place_of cmd.now) ≡ true)
-        × (is_full sector.now ≡ false)) }
+fn is_full(sector: &Sector) -> bool
+    ensures { result ≡ is_full sector.now }
 {
-    sector.cells().holds(cmd.place()) && sector.count() < MAX_ENTRIES
+    MAX_ENTRIES <= sector.count()
 }
 
 /// Whether an answer is recorded with its command.

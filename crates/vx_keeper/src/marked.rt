@@ -1,4 +1,4 @@
-ghost use Rattle.std.specs.Prelude.{◌≡◌, ◌≢◌, ◌⊎◌, ◌↔◌, ◌+◌, ◌<◌, length, true, false, if◌then◌else◌, Ok, Err, Some, IfOk};
+ghost use Rattle.std.specs.Prelude.{◌≡◌, ◌≢◌, ◌⊎◌, ◌↔◌, ◌+◌, ◌<◌, length, true, if◌then◌else◌, Ok, Err, Some, IfOk};
 ghost use Rattle.vx_block.specs.Part.{part_cell};
 ghost use Rattle.vx_cells.specs.SectorCells.{holds};
 ghost use Rattle.vx_sector.specs.Commands.{place_of};
@@ -71,30 +71,29 @@ impl<A: Places> Marked<A> {
         sector
     }
 
-    /// Carries out a command and puts it on the list of that number, as `Lists::act` does. The mark
-    /// stays, since no command changes with what the window began.
-    pub fn act(
+    /// Carries out a command at a position of the sector and puts it on the list of that number, as
+    /// `Lists::carry_out` does. The mark stays, since no command changes with what the window began.
+    pub fn carry_out(
         &mut self,
         lists: &mut Lists,
         at: usize,
-        seat: Seat,
-        cmd: Cmd,
+        seat: &Seat,
+        cmd: &Cmd,
     ) -> Result<Reply, Refusal>
-        requires { at < length lists.old }
-        ensures answer { (result ≡ answer_of self.old (seat_of seat) cmd)
+        requires there { at < length lists.old }
+        requires held { holds self.old.cells (place_of cmd.now) ≡ true }
+        ensures answer { (result ≡ answer_of self.old (seat_of seat.now) cmd.now)
             ⊎ (result ≡ Err Refusal.NoMemory) }
-        ensures memory { (result ≡ answer_of self.old (seat_of seat) cmd)
-            ⊎ (is_recorded (answer_of self.old (seat_of seat) cmd) ≡ true) }
-        ensures sector { self.new ≡ sector_after self.old (seat_of seat) cmd result }
-        ensures lists { lists.new ≡ lists_after lists.old at cmd result }
+        ensures memory { (result ≡ answer_of self.old (seat_of seat.now) cmd.now)
+            ⊎ (is_recorded (answer_of self.old (seat_of seat.now) cmd.now) ≡ true) }
+        ensures sector { self.new ≡ sector_after self.old (seat_of seat.now) cmd.now result }
+        ensures lists { lists.new ≡ lists_after lists.old at cmd.now result }
         ensures counted { calls_in lists.new
             ≡ calls_in lists.old + (if is_recorded result then 1 else 0) }
-        ensures outside { (result ≡ Err Refusal.OutOfWorld)
-            ↔ (holds self.old.cells (place_of cmd) ≡ false) }
-        ensures full { (result ≡ Err Refusal.HistoryFull)
-            ↔ ((holds self.old.cells (place_of cmd) ≡ true) × (is_full self.old ≡ true)) }
+        ensures inside { result ≢ Err Refusal.OutOfWorld }
+        ensures full { (result ≡ Err Refusal.HistoryFull) ↔ (is_full self.old ≡ true) }
     {
-        lists.act(at, &mut self.sector, seat, cmd)
+        lists.carry_out(at, &mut self.sector, seat, cmd)
     }
 
     /// Puts a part down in base and cells, as `Sector::tamper` does. The mark goes.

@@ -1,3 +1,4 @@
+pub mod Numbered
 pub mod Openings
 pub mod Reserves
 pub mod Settlements

@@ -1,11 +1,13 @@
 -- What a settlement looks at, and what it tells.
 use Rattle.std.specs.Prelude.{◌≡◌, ℕ, ⊤, Bool, true, Option, Some, None, option_map, is_some, unwrap_or}
 use Rattle.vx_cells.specs.SectorCells.{holds}
+use Rattle.vx_geom.specs.Sizes.{Sizes}
 use Rattle.vx_geom.specs.declared.pos.Pos.{Pos}
 use Rattle.vx_sector.specs.SectorData.{SectorData}
 use Rattle.vx_sector.specs.Windows.{IsWindow, count_of}
 use Rattle.vx_record.specs.Settling.{CallerData}
 use Rattle.vx_record.specs.declared.fault.Fault.{Fault}
+use Rattle.vx_world.specs.Numbered.{IsSectorOf}
 use Rattle.vx_world.specs.declared.pass.Pass.{Pass}
 use Rattle.vx_world.specs.declared.slot.Slot.{Slot}
 use Rattle.vx_world.specs.declared.settle_error.SettleError.{SettleError}
@@ -19,6 +21,11 @@ sector_here slot = option_map (λ home. home.marked) slot.home
 -- a sector is at home there
 abbrev pub is_home : {A : Type 0} {P : _} {E : _} {N : _} {H : _} → Slot A P E N H → Bool
 is_home slot = is_some slot.home
+
+-- the sector of that number in a world of these sizes is at home there
+abbrev pub IsHome : Sizes → ℕ → Option SectorData → Type 0
+IsHome sizes number None = ⊥
+IsHome sizes number (Some s) = IsSectorOf sizes number s
 
 -- a sector is at home there that holds the position
 abbrev pub IsHomeOf : Pos → Option SectorData → Type 0

@@ -1,9 +1,10 @@
-ghost use Rattle.std.specs.Prelude.{◌≡◌, ◌≢◌, ◌⊎◌, ◌+◌, ◌<◌, true, false, if◌then◌else◌, Err};
+ghost use Rattle.std.specs.Prelude.{◌≡◌, ◌≢◌, ◌⊎◌, ◌↔◌, ◌+◌, ◌<◌, true, false, if◌then◌else◌, Err};
 ghost use Rattle.vx_cells.specs.SectorCells.{holds};
 ghost use Rattle.vx_sector.specs.Commands.{place_of};
 ghost use Rattle.vx_sector.specs.SectorData.{seat_of};
 ghost use Rattle.vx_sector.specs.Windows.{answer_of, count_of, is_recorded, sector_after};
 ghost use Rattle.vx_record.specs.Calls.{lists_after};
+ghost use Rattle.vx_world.specs.Numbered.{IsSectorOf};
 
 use crate::books::Books;
 use crate::pass::Pass;
@@ -12,7 +13,7 @@ use std::alloc::AllocError;
 use std::sync::ledger::Share;
 use std::sync::{Mutex, Wait};
 use vx_block::Part;
-use vx_geom::Pos;
+use vx_geom::{Bounds, Pos};
 use vx_keeper::{Marked, Places};
 use vx_record::is_recorded;
 use vx_sector::{Cmd, Refusal, Reply};
@@ -54,7 +55,15 @@ impl<A: Places> Home<A> {
         self.marked.sector().cells().holds(p)
     }
 
-    /// Carries out a command from the pass's seat, and puts it with its answer on the pass's list
+    /// Whether it is the sector of that number in a world with these bounds.
+    pub fn is_sector(&self, bounds: &Bounds, number: u32) -> bool
+        ensures { (result ≡ true) ↔ IsSectorOf bounds.now number self.now.marked }
+    {
+        let cells = self.marked.sector().cells();
+        cells.sector() == number && cells.bounds() == *bounds
+    }
+
+    /// Carries out a command at a position of the sector from the pass's seat, and puts it with its answer on the pass's list
     /// of that number, where the sector records it. Then it counts in both shares.
     pub fn act<B: Seats, R: Wait>(
         &mut self,
@@ -62,23 +71,23 @@ impl<A: Places> Home<A> {
         books: &Mutex<Books<A, B>>,
         pass: &mut Pass<A, B>,
         at: usize,
-        cmd: Cmd,
+        cmd: &Cmd,
     ) -> Result<Reply, Refusal>
         requires there { at < A.all }
-        ensures answer { (result ≡ answer_of self.old.marked (seat_of pass.old.seat) cmd)
+        requires held { holds self.old.marked.cells (place_of cmd.now) ≡ true }
+        ensures answer { (result ≡ answer_of self.old.marked (seat_of pass.old.seat) cmd.now)
             ⊎ (result ≡ Err Refusal.NoMemory) }
         ensures sector { self.new.marked
-            ≡ sector_after self.old.marked (seat_of pass.old.seat) cmd result }
-        ensures lists { pass.new.lists ≡ lists_after pass.old.lists at cmd result }
+            ≡ sector_after self.old.marked (seat_of pass.old.seat) cmd.now result }
+        ensures lists { pass.new.lists ≡ lists_after pass.old.lists at cmd.now result }
         ensures share { pass.new.share.amount
             ≡ pass.old.share.amount + (if is_recorded result then 1 else 0) }
         ensures seat { pass.new.seat ≡ pass.old.seat }
         ensures kept { is_recorded result ≡ false → (pass.new.lists ≡ pass.old.lists)
             × (pass.new.share ≡ pass.old.share) × (pass.new.reserve ≡ pass.old.reserve) }
-        ensures inside { holds self.old.marked.cells (place_of cmd) ≡ true
-            → result ≢ Err Refusal.OutOfWorld }
+        ensures inside { result ≢ Err Refusal.OutOfWorld }
     {
-        let answer = self.marked.act(&mut pass.lists, at, pass.seat, cmd);
+        let answer = self.marked.carry_out(&mut pass.lists, at, &pass.seat, cmd);
         if !is_recorded(&answer) {
             return answer;
         }

@@ -1,9 +1,9 @@
 ghost use Rattle.std.specs.Prelude.{◌≡◌, ◌↔◌, Some, true};
-ghost use Rattle.vx_world.specs.Settlements.{IsHomeOf, sector_here};
+ghost use Rattle.vx_world.specs.Settlements.{IsHome, IsHomeOf, sector_here};
 
 use crate::home::Home;
 use std::mem;
-use vx_geom::Pos;
+use vx_geom::{Bounds, Pos};
 use vx_keeper::{Keeper, Places};
 use vx_record::Place;
 use vx_sector::Sector;
@@ -35,6 +35,16 @@ impl<A: Places> Slot<A> {
     {
         let Slot { home } = self;
         home
+    }
+
+    /// Whether the sector of that number in a world with these bounds is at home.
+    pub fn is_home(&self, bounds: &Bounds, number: u32) -> bool
+        ensures { (result ≡ true) ↔ IsHome bounds.now number (sector_here self.now) }
+    {
+        match &self.home {
+            Some(home) => home.is_sector(bounds, number),
+            None => false,
+        }
     }
 
     /// Whether a sector is at home that holds the position.

@@ -144,8 +144,7 @@ impl<A: Places, B: Seats> World<A, B> {
     /// Carries out a command from the seat of a pass under the lock of its sector, by the rules of
     /// docs/RULES.md, and waits while the sector is away. The gate is called under the lock. Where
     /// the answer is recorded, the command stands with it in the sector's record and on the pass's
-    /// list of that sector; where it is not, the pass keeps what it
-    /// had. It does not return where
+    /// list of that sector; where it is not, the pass keeps what it had. It does not return where
     /// there would be 2^64 recorded calls, and those that passes have in reserve, at most 64 each,
     /// count among them.
     pub fn submit<R: Wait, G: Gate>(
@@ -165,13 +164,38 @@ impl<A: Places, B: Seats> World<A, B> {
             × (pass.new.share ≡ pass.old.share) × (pass.new.reserve ≡ pass.old.reserve) }
         ensures seat { pass.new.seat ≡ pass.old.seat }
     {
-        let p = cmd.place();
-        let Some(number) = self.number_of(p) else {
+        self.submit_in(rt, pass, self.number_of(cmd.place()), &cmd, gate)
+    }
+
+    /// The same of a command for which it was found which sector of the world holds its position.
+    pub fn submit_in<R: Wait, G: Gate>(
+        &self,
+        rt: &R,
+        pass: &mut Pass<A, B>,
+        number: Option<u32>,
+        cmd: &Cmd,
+        gate: &G,
+    ) -> Result<Reply, Refusal>
+        requires { number ≡ sector_of self.now.bounds (place_of cmd.now) }
+        ensures outside { (result ≡ Err Refusal.OutOfWorld)
+            ↔ (sector_of self.now.bounds (place_of cmd.now) ≡ None) }
+        ensures recorded { is_recorded result ≡ true → (at : ℕ)
+            × (sector_of self.now.bounds (place_of cmd.now) ≡ Some at)
+            × (pass.new.lists ≡ with_call pass.old.lists at (record { cmd = cmd.now; answer = result }))
+            × (pass.new.share.amount ≡ pass.old.share.amount + 1) }
+        ensures unrecorded { is_recorded result ≡ false → (pass.new.lists ≡ pass.old.lists)
+            × (pass.new.share ≡ pass.old.share) × (pass.new.reserve ≡ pass.old.reserve) }
+        ensures seat { pass.new.seat ≡ pass.old.seat }
+    {
+        let Some(number) = number else {
             return Err(Refusal::OutOfWorld);
         };
+        self.bounds.soundness();
         let at = number as usize;
         let slot = patiently(rt, &self.slots[at]);
-        let mut slot = self.came.wait_while(rt, slot, |slot| !slot.is_home_of(p));
+        let mut slot = self
+            .came
+            .wait_while(rt, slot, |slot| !slot.is_home(&self.bounds, number));
         let Some(home) = &mut slot.home else {
             unreachable!()
         };

@@ -1,5 +1,7 @@
 -- What the answer to a command says of the lists of the pass with which it was made.
-use Rattle.std.proofs.Common.{◌≡◌, ◌≢◌, ◌↔◌, ℕ, ◌<◌, true, false, List, length, Option, Some, None, Result, Ok, Err, refl, sym, ap, subst}
+use Rattle.std.proofs.Common.{◌≡◌, ◌≢◌, ◌↔◌, ℕ, ◌<◌, IfSome, arith, true, false, List, length, Option, Some, None, Result, Ok, Err, refl, sym, ap, subst}
+use Rattle.std.proofs.lemmas.Nat.{mul-le}
+use Rattle.vx_geom.specs.declared.bounds.TheConstants.{MAX_SECTORS_EACH_WAY}
 use Rattle.vx_geom.specs.declared.pos.Pos.{Pos}
 use Rattle.vx_geom.specs.Sizes.{Sizes, AreSizes, sector_count, sector_of}
 use Rattle.vx_geom.proofs.SectorLemmas.{held_at, in_sector}
@@ -16,6 +18,15 @@ use Rattle.vx_session.specs.Traces.{IsCalled}
 pub sector_below : (sizes : Sizes) (p : Pos) (k : ℕ) → AreSizes sizes → sector_of sizes p ≡ Some k
     → k < sector_count sizes
 sector_below sizes p k are held = (in_sector sizes p k are (held_at sizes p k are held)).0
+
+-- and there are at most 256 of these
+pub sector_few : (sizes : Sizes) (p : Pos) (found : Option ℕ) → AreSizes sizes → found ≡ sector_of sizes p
+    → IfSome found (λ k. k < 256)
+sector_few sizes p None are is = tt
+sector_few sizes p (Some k) are is =
+    let below = sector_below sizes p k are (sym is) in
+    let few = mul-le sizes.sx sizes.sz MAX_SECTORS_EACH_WAY MAX_SECTORS_EACH_WAY are.sx_most are.sz_most in
+    omega (arith, below, few)
 
 -- each answer is recorded, but for three refusals
 on_record : (answer : Result Reply Refusal) → answer ≢ Err OutOfWorld → answer ≢ Err HistoryFull

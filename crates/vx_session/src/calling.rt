@@ -17,24 +17,29 @@ use vx_sector::{Cmd, Refusal, Reply};
 use vx_step::NoGate;
 use vx_world::{Pass, Seats, World};
 
-/// Carries out a command with the pass, in the world with these bounds, and tells the answer. Where
-/// there is no room or no memory for the record, the lists of the pass stay as they are.
+/// Carries out a command with the pass, in the world with these bounds, whose sector of that number
+/// holds its position, and tells the answer. Where there is no room or no memory for the record, the
+/// lists of the pass stay as they are.
+// Inlined, so that the answer is not moved once more.
+#[inline(always)]
 pub(crate) fn called<A: Places, B: Seats>(
     bounds: &Bounds,
     world: &World<A, B>,
     rt: &impl Wait,
     pass: &mut Pass<A, B>,
-    cmd: Cmd,
+    sector: Option<u32>,
+    cmd: &Cmd,
 ) -> Result<Result<Reply, Refusal>, SessionError>
-    requires { world.now.bounds ≡ bounds.now }
+    requires bounds { world.now.bounds ≡ bounds.now }
+    requires sector { sector ≡ sector_of bounds.now (place_of cmd.now) }
     ensures called { IfOk result (λ answer.
-        IsCalled (sector_of bounds.now (place_of cmd)) pass.old.lists
-        (record { cmd = cmd; answer = answer }) pass.new.lists) }
+        IsCalled (sector_of bounds.now (place_of cmd.now)) pass.old.lists
+        (record { cmd = cmd.now; answer = answer }) pass.new.lists) }
     ensures refused { OnErr result (pass.new.lists ≡ pass.old.lists) }
     ensures seat { pass.new.seat ≡ pass.old.seat }
 {
     bounds.soundness();
-    let answer = world.submit(rt, pass, cmd, &NoGate);
+    let answer = world.submit_in(rt, pass, sector, cmd, &NoGate);
     if let Some(error) = shortage(&answer) {
         return Err(error);
     }

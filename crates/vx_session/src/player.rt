@@ -3,6 +3,7 @@ ghost use Rattle.std.specs.Prelude.{◌≡◌, ◌<◌, ◌∷◌, ◌++◌, [],
 ghost use Rattle.vx_session.specs.Blocks.{calls_of, player_data, AreCalled, HasPlayed};
 
 use crate::calling::called;
+use crate::marking::sector_at;
 use crate::request::Request;
 use crate::session_error::SessionError;
 use std::alloc::{AllocError, Global};
@@ -128,7 +129,8 @@ fn carry_out<A: Places, B: Seats>(
 {
     for request in asked {
         answers.reserve(1)?;
-        let answer = called(bounds, world, rt, pass, request.cmd)?;
+        let sector = sector_at(bounds, request.cmd.place());
+        let answer = called(bounds, world, rt, pass, sector, &request.cmd)?;
         answers.push_back_reserved(answer);
     }
     Ok(())

@@ -10,6 +10,7 @@ use vx_world::Seats;
 
 impl<A: Places, B: Seats> Session<A, B> {
     /// The number of the seat of the player of that name.
+    #[inline(always)]
     pub fn seat_of(&self, name: &Name) -> Option<u8>
         ensures { result ≡ number_from 0 (names_of self.now) name.now.text.bytes }
     {

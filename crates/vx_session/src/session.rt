@@ -8,7 +8,7 @@ ghost use Rattle.vx_session.specs.Sessions.{IsSession, Does, Stays, opening_of, 
 
 use crate::calling::{called, cause_of};
 use crate::fronts::is_next;
-use crate::marking::call_mark;
+use crate::marking::{call_mark, sector_at};
 use crate::player::Player;
 use crate::session_error::SessionError;
 use std::alloc::Global;
@@ -123,8 +123,9 @@ impl<A: Places, B: Seats> Session<A, B> {
         marks.reserve(1)?;
         let player = &mut players[seat];
         let number = player.pass.seat().number;
-        let answer = called(bounds, world, rt, &mut player.pass, cmd)?;
-        marks.push_reserved(call_mark(bounds, number, cmd.place()));
+        let sector = sector_at(bounds, cmd.place());
+        let answer = called(bounds, world, rt, &mut player.pass, sector, &cmd)?;
+        marks.push_reserved(call_mark(number, sector));
         Ok(answer)
     }
 

@@ -7,7 +7,7 @@ ghost use Rattle.vx_session.specs.Blocks.{marks_asked, player_data, AreAsked, Ar
 ghost use Rattle.vx_session.specs.Sessions.{Does, Stays, names_of, pass_in, player_in};
 
 use crate::halving::at_once;
-use crate::marking::call_mark;
+use crate::marking::{call_mark, sector_at};
 use crate::player::Player;
 use crate::request::Request;
 use crate::session::Session;
@@ -207,7 +207,8 @@ fn mark_all(bounds: &Bounds, requests: &[Request], marks: &mut Vec<Mark>)
 {
     marks.push_reserved(Mark::Begin);
     for request in requests {
-        marks.push_reserved(call_mark(bounds, request.seat, request.cmd.place()));
+        let sector = sector_at(bounds, request.cmd.place());
+        marks.push_reserved(call_mark(request.seat, sector));
     }
     marks.push_reserved(Mark::End);
 }

@@ -1,5 +1,6 @@
 use Rattle.std.proofs.Common.{◌<◌, length, arith, refl, sym, ap, ◌∙◌, subst}
 use Rattle.vx_sector.specs.SectorData.{seat_of}
+use Rattle.vx_audit.specs.declared.mark.Mark.TheVariants as mark
 use Rattle.vx_session.specs.Sessions.{SessionData, names_of, edits_to}
 use Rattle.vx_session.proofs.Passing.{pass_there, session_stays, unchanged, called_by, on_error}
 use Rattle.vx_session.proofs.session.Session.command.Goals as goal
@@ -41,4 +42,4 @@ returns-clause-called g c = λ name seated.
     c.self.inside.marks.items c.reserve.new.self.items c.push_reserved.new.self.items c.args.seat
     c.seat.result.now.number c.place.result c.call_mark.result _ _ _ _
     c.self.view_is c.self.invariant.0 named c.index_mut-player.ensures.value refl seated number c.place.ensures
-    c.call_mark.ensures c.in_ok-answer.ensures.called c.reserve.ensures.items c.push_reserved.ensures.items
+    (c.call_mark.ensures ∙ ap (mark.Call c.seat.result.now.number) c.sector_at-sector.ensures.value) c.in_ok-answer.ensures.called c.reserve.ensures.items c.push_reserved.ensures.items

@@ -35,31 +35,33 @@ pub fn take_inside<
     alloc: Global,
     session: &mut Session<A, B>,
     asked: Vec<Request>,
-    line: &Option<Line>,
+    line: Option<Line>,
     number: u32,
     writer: &mut W,
 ) -> Result<Stage, Fault>
     requires { AreSeated (names_of session.old) (Inside asked.items) }
     ensures done { OnOk result (HasDone A.first session.old session.new (Inside asked.items)
-        (option_map said line.now ∷ []) (W.contents writer.old) (W.contents writer.new)) }
+        (option_map said line ∷ []) (W.contents writer.old) (W.contents writer.new)) }
     ensures stage { IfOk result (λ after. stage_in after
-        ≡ after_inside (names_of session.old) asked.items (option_map said line.now)) }
+        ≡ after_inside (names_of session.old) asked.items (option_map said line)) }
     ensures seated { IfOk result (λ after. AreSeated (names_of session.old) (stage_in after)) }
     ensures stopped { (fault : Fault) → result ≡ Err fault → IsOwn fault
         → (fault ≡ Fault.Syntax number)
-        × (stands_inside (names_of session.old) asked.items (option_map said line.now) ≡ false)
+        × (stands_inside (names_of session.old) asked.items (option_map said line) ≡ false)
         × (session.new ≡ session.old) × Keeps (W.contents writer.old) (W.contents writer.new) }
-    ensures faulty { stands_inside (names_of session.old) asked.items (option_map said line.now) ≡ false
+    ensures faulty { stands_inside (names_of session.old) asked.items (option_map said line) ≡ false
         → result ≡ Err (Fault.Syntax number) }
     ensures fault { IfErr result IsOfRun }
 {
     match line {
         Some(Line::Skipped) => Ok(Stage::Inside(asked)),
-        Some(Line::As(name, cmd)) => ask(session, asked, name, *cmd, number),
+        Some(Line::As(name, cmd)) => ask(session, asked, &name, cmd, number),
         Some(Line::End) => {
             carry_out(rt, alloc, session, &asked, writer)?;
             Ok(Stage::Outside)
         }
+        // An edit owns memory, and is let go in an arm of its own.
+        Some(Line::Region(_edit)) => Err(Fault::Syntax(number)),
         _ => Err(Fault::Syntax(number)),
     }
 }

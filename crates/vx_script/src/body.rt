@@ -1,5 +1,5 @@
 //! The lines of the body of a script, and the replies to them.
-ghost use Rattle.std.specs.Prelude.{◌≡◌, ◌++◌, ◌∷◌, [], codes, decimal, false, length, Some, OnOk, IfOk, IfErr, option_map};
+ghost use Rattle.std.specs.Prelude.{◌≡◌, ◌++◌, ◌∷◌, [], codes, decimal, false, length, Some, OnOk, IfOk, IfErr, IfSome, option_map};
 ghost use Rattle.std.specs.Io.KnownBytes.{Keeps, Appends};
 ghost use Rattle.vx_grammar.specs.ScriptLines.{said, Act, Region, Tick, Explain};
 ghost use Rattle.vx_json.specs.Texts.{answer_text, fate_text, line_text};
@@ -65,7 +65,7 @@ pub fn take_line<
 {
     match stage {
         Stage::Outside => take_outside(rt, alloc, desk, session, line, number, writer),
-        Stage::Inside(asked) => take_inside(rt, alloc, session, asked, &line, number, writer),
+        Stage::Inside(asked) => take_inside(rt, alloc, session, asked, line, number, writer),
     }
 }
 
@@ -152,10 +152,35 @@ pub fn write_answer<W: Write>(answer: &Result<Reply, Refusal>, writer: &mut W) -
         (line_text (answer_text answer.now))) }
     ensures err { IfErr result (λ fault. fault ≡ Fault.WriteFailed) }
 {
+    if let Some(words) = words_of(answer) {
+        return write_words(words, writer);
+    }
     match answer {
         Ok(reply) => writeln!(writer, "{reply}").map_err(|_| Fault::WriteFailed),
         Err(refusal) => writeln!(writer, "{refusal}").map_err(|_| Fault::WriteFailed),
     }
+}
+
+// The words of an answer, where they are the same each time, as those of most answers are.
+fn words_of(answer: &Result<Reply, Refusal>) -> Option<&'static str>
+    ensures { IfSome result (λ words. words.now ≡ answer_text answer.now) }
+{
+    match answer {
+        Ok(reply) => reply.words(),
+        Err(refusal) => refusal.words(),
+    }
+}
+
+// Writes a line of these words.
+fn write_words<W: Write>(words: &str, writer: &mut W) -> Result<(), Fault>
+    ensures ok { OnOk result
+        (Appends (W.contents writer.old) (W.contents writer.new) (line_text words.now)) }
+    ensures err { IfErr result (λ fault. fault ≡ Fault.WriteFailed) }
+{
+    writer
+        .write_all(words.as_bytes())
+        .map_err(|_| Fault::WriteFailed)?;
+    writer.write_all(b"\n").map_err(|_| Fault::WriteFailed)
 }
 
 // Edits the policy, and writes how many edits are accepted with it, or why it is refused.

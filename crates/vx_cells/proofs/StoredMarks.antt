@@ -1,5 +1,5 @@
 -- Marks beside the store: which cells they tell.
-use Rattle.std.proofs.Common.{◌≡◌, ℕ, ◌<◌, ◌≤◌, Bool, List, length, get_or, inl, inr, ap, sym, ◌∙◌, arith}
+use Rattle.std.proofs.Common.{◌≡◌, ℕ, pos, unsigned_abs, ◌*◌, ◌/◌, ◌<◌, ◌≤◌, Bool, List, length, get_or, Option, Some, None, inl, inr, ap, sym, ◌∙◌, arith}
 use Rattle.std.proofs.lemmas.Bool.{cases_lt}
 use Rattle.std.proofs.lemmas.List.{get_or_past}
 use Rattle.std.specs.List.{filter}
@@ -7,15 +7,19 @@ use Rattle.vx_block.specs.declared.cell.Cell.{Cell}
 use Rattle.vx_block.specs.declared.cell.Cell.TheVariants.{Air}
 use Rattle.vx_geom.specs.declared.pos.Pos.{Pos}
 use Rattle.vx_geom.specs.Places.{positions}
-use Rattle.vx_geom.specs.Sizes.{Sizes, AreSizes, sector_count, sector_cells, index_in_sector}
+use Rattle.vx_geom.specs.Sizes.{Sizes, AreSizes, span, sector_count, sector_cells, index_in_sector}
 use Rattle.vx_marks.specs.Marks.{is_marked}
+use Rattle.vx_marks.specs.Pages.{IsPage}
+use Rattle.vx_marks.specs.declared.page.TheConstants.{PAGE}
 use Rattle.vx_store.specs.Chests.{ChestData}
 use Rattle.vx_store.specs.Codes.{cell_of}
 use Rattle.vx_store.specs.MarkedPlaces.{marked_places}
+use Rattle.vx_cells.specs.Listed.{AreInLayer}
 use Rattle.vx_cells.specs.SectorCells.{placed, block_at, cell_at}
 use Rattle.vx_store.specs.MachineMarks.{AreMarks}
 use Rattle.vx_cells.specs.Stored.{blocks_from, stored}
 use Rattle.vx_cells.proofs.Listing.{same_found}
+use Rattle.vx_cells.proofs.Rows.{layer_page}
 use Rattle.vx_cells.proofs.StoredBlocks.{block-at, length-blocks}
 
 -- the cell at each index is that of its byte; past the last one both are air
@@ -38,6 +42,23 @@ pub marked_at : (test : Cell → Bool) (bounds : Sizes) (sector : ℕ) (codes ma
 unfolding block_at
 marked_at test bounds sector codes marks chests are p =
     are.each (index_in_sector bounds p) ∙ ap test (cell_here codes chests (index_in_sector bounds p))
+
+-- a page of the marks tells where something stands in a layer whose indices it has
+pub in_layer : (test : Cell → Bool) (bounds : Sizes) (sector : ℕ) (codes marks : List ℕ) (chests : ChestData)
+    → AreMarks test codes marks → AreSizes bounds → (y number : ℕ) → number ≡ span bounds * span bounds * y / PAGE
+    → (page : Option (List ℕ)) → IsPage marks number page
+    → AreInLayer (λ p. test (cell_at (stored bounds sector codes chests) p)) (stored bounds sector codes chests) y page
+in_layer test bounds sector codes marks chests are sizes y number is page has = by page has
+  where
+    here : (p : Pos) → p.y ≡ pos y → index_in_sector bounds p / PAGE ≡ number
+    here p at = layer_page bounds p sizes ∙ ap (λ c. span bounds * span bounds * unsigned_abs c / PAGE) at ∙ sym is
+
+    by : (page : Option (List ℕ)) → IsPage marks number page
+        → AreInLayer (λ p. test (cell_at (stored bounds sector codes chests) p)) (stored bounds sector codes chests) y page
+    by None none =
+        λ p held at. sym (marked_at test bounds sector codes marks chests are p) ∙ none (index_in_sector bounds p) (here p at)
+    by (Some words) same =
+        λ p held at. sym (marked_at test bounds sector codes marks chests are p) ∙ same (index_in_sector bounds p) (here p at)
 
 -- marks tell the positions at which something stands
 module _ (bounds : Sizes) (sector : ℕ) (codes : List ℕ) (chests : ChestData) (sizes : AreSizes bounds)

@@ -1,10 +1,12 @@
-ghost use Rattle.std.specs.Prelude.{◌≡◌, ◌+◌, ◌%◌, ◌<◌, ◌≤◌, nat_lt, length, true, IfOk, OnOk, OnErr, IfSome};
+ghost use Rattle.std.specs.Option.{option_copied};
+ghost use Rattle.std.specs.Prelude.{◌≡◌, ◌<◌, ◌≤◌, nat_lt, length, true, IfOk, OnOk, OnErr, IfSome};
 ghost use Rattle.std.specs.List.{All};
 ghost use Rattle.vx_store.specs.declared.stack.TheConstants.{SLOTS};
-ghost use Rattle.vx_geom.specs.Sizes.{span, sector_count};
+ghost use Rattle.vx_geom.specs.Sizes.{sector_count};
+ghost use Rattle.vx_geom.specs.declared.bounds.TheConstants.{HIGH_HEIGHT};
 ghost use Rattle.vx_block.specs.Components.{is_dust, is_component};
 ghost use Rattle.vx_block.specs.Conductors.{conducts};
-ghost use Rattle.vx_cells.specs.Listed.{place, components_of, devices_of, AreInRow};
+ghost use Rattle.vx_cells.specs.Listed.{components_of, devices_of, AreInLayer};
 
 use crate::stored::Stored;
 use std::alloc::{AllocError, Global};
@@ -12,6 +14,7 @@ use std::marker::Model;
 use std::sync::Arc;
 use vx_block::Cell;
 use vx_geom::{Bounds, Pos};
+use vx_marks::Page;
 use vx_store::{SLOTS, Slot};
 
 /// What stands in one sector of the world: a cell at each position, and the slots of each chest.
@@ -171,15 +174,15 @@ impl Cells {
         self.stored.devices(alloc)
     }
 
-    /// In which of so many columns of a row of a layer of this sector, from that one on, a component
-    /// of machines stands, a bit for each.
+    /// Marks where components of machines stand in a layer of this sector, in the page that has that
+    /// layer; none where no component stands there.
     #[inline(always)]
-    pub fn components_in_row(&self, x: u32, y: u32, z: u32, count: u32) -> u64
-        requires here { holds self.now (place x y z) ≡ true }
-        requires within { x % span self.now.bounds + count ≤ span self.now.bounds }
-        ensures { AreInRow (λ p. is_component (cell_at self.now p)) x y z count result }
+    pub fn components_in_layer(&self, y: u32) -> Option<&Page>
+        requires { y < HIGH_HEIGHT }
+        ensures { AreInLayer (λ p. is_component (cell_at self.now p)) self.now y
+            (option_copied result) }
     {
-        self.stored.components_in_row(x, y, z, count)
+        self.stored.components_in_layer(y)
     }
 
     /// How many components of machines stand in this sector. No clause tells the number, since

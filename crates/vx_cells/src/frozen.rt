@@ -1,14 +1,14 @@
 ghost use Rattle.std.specs.Int.{w64};
-ghost use Rattle.std.specs.Prelude.{◌≡◌, ◌+◌, ◌%◌, ◌<◌, ◌≤◌, ◌+ℤ◌, ◌-ℤ◌, FitsSigned, pos, nat_lt, length, map, slice_get, true, None, Some, IfOk, IfSome, SomeIff};
-ghost use Rattle.vx_block.specs.Components.{is_dust, is_component};
+ghost use Rattle.std.specs.Option.{option_copied};
+ghost use Rattle.std.specs.Prelude.{◌≡◌, ◌<◌, ◌≤◌, ◌+ℤ◌, ◌-ℤ◌, FitsSigned, pos, nat_lt, length, map, slice_get, true, None, Some, IfOk, IfSome, SomeIff};
+ghost use Rattle.vx_block.specs.Components.{is_dust};
 ghost use Rattle.vx_block.specs.Conductors.{conducts};
 ghost use Rattle.vx_block.specs.declared.cell.Cell.TheVariants.{Air};
-ghost use Rattle.vx_geom.specs.declared.bounds.TheConstants.{HIGH_HEIGHT, MAX_COLUMNS_EACH_WAY};
 ghost use Rattle.vx_geom.specs.Neighbor.{neighbor};
-ghost use Rattle.vx_geom.specs.Sizes.{span, is_inside, sector_count};
+ghost use Rattle.vx_geom.specs.Sizes.{is_inside, sector_count, sector_of};
 ghost use Rattle.vx_geom.specs.declared.dir.Dir.TheVariants.{Up, Down};
 ghost use Rattle.vx_geom.specs.declared.pos.Pos.{Pos};
-ghost use Rattle.vx_cells.specs.Listed.{components_on, devices_on, AreInRow};
+ghost use Rattle.vx_cells.specs.Listed.{components_on, devices_on};
 ghost use Rattle.vx_cells.specs.MapLaws.{IsFilled};
 ghost use Rattle.vx_cells.specs.Nearby.{HasAround, IsAmid, IsBetween};
 ghost use Rattle.vx_cells.specs.SectorCells.{holds, cell_at};
@@ -49,7 +49,7 @@ impl<'a> Model for Frozen<'a> {
 }
 
 impl<'a> Frozen<'a> {
-    ghost use Rattle.vx_cells.specs.Maps.{AreSectors, cell_on};
+    ghost use Rattle.vx_cells.specs.Maps.{AreSectors, sector_at, cell_on};
 
     /// The map of these sectors: those of a world of this size, in order of their numbers.
     pub fn new(bounds: Bounds, sectors: &'a [Cells]) -> Frozen<'a>
@@ -183,23 +183,15 @@ impl<'a> Frozen<'a> {
         self.sector_at(sector).devices(alloc)
     }
 
-    /// In which of so many columns of a row of a layer, from that one on, a component of machines
-    /// stands, a bit for each. All of them lie in one sector, or outside the world.
+    /// The sector of a position, where the world has one.
     #[inline(always)]
-    pub fn components_in_row(&self, x: u32, y: u32, z: u32, count: u32) -> u64
-        requires column { x < MAX_COLUMNS_EACH_WAY }
-        requires layer { y < HIGH_HEIGHT }
-        requires row { z < MAX_COLUMNS_EACH_WAY }
-        requires within { x % span self.now.sizes + count ≤ span self.now.sizes }
-        ensures { AreInRow (λ p. is_component (cell_on self.now p)) x y z count result }
+    pub fn sector_of(&self, p: Pos) -> Option<&Cells>
+        ensures { option_copied result ≡ sector_at self.now.sectors (sector_of self.now.sizes p) }
     {
-        self.soundness();
-        let p = Pos::new(x as i32, y as i32, z as i32);
-        if !self.bounds.inside(p) {
-            return 0;
+        match self.bounds.sector_of(p) {
+            Some(number) => Some(self.sector_at(number)),
+            None => None,
         }
-        self.sector_at(self.bounds.sector_holding(p))
-            .components_in_row(x, y, z, count)
     }
 
     /// The sector that holds a position and all that lies close to it, at most one column, one

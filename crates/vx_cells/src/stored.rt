@@ -1,18 +1,21 @@
-ghost use Rattle.std.specs.Prelude.{◌≡◌, ◌+◌, ◌%◌, ◌<◌, ◌≤◌, nat_lt, length, true, IfOk, OnOk, OnErr, IfSome};
+ghost use Rattle.std.specs.Option.{option_copied};
+ghost use Rattle.std.specs.Prelude.{◌≡◌, ◌<◌, ◌≤◌, nat_lt, length, true, IfOk, OnOk, OnErr, IfSome};
 ghost use Rattle.std.specs.Bool.{Decides};
 ghost use Rattle.std.specs.List.{All};
 ghost use Rattle.vx_store.specs.declared.stack.TheConstants.{SLOTS};
-ghost use Rattle.vx_geom.specs.Sizes.{span, sector_count};
+ghost use Rattle.vx_geom.specs.Sizes.{sector_count};
+ghost use Rattle.vx_geom.specs.declared.bounds.TheConstants.{HIGH_HEIGHT};
 ghost use Rattle.vx_block.specs.Components.{is_dust, is_component};
 ghost use Rattle.vx_block.specs.Conductors.{conducts};
 ghost use Rattle.vx_store.specs.Codes.{code_count, cell_of};
-ghost use Rattle.vx_cells.specs.Listed.{place, components_of, devices_of, AreInRow};
+ghost use Rattle.vx_cells.specs.Listed.{components_of, devices_of, AreInLayer};
 
 use std::alloc::{AllocError, Global};
 use std::marker::Model;
 use std::sync::Arc;
 use vx_block::Cell;
 use vx_geom::{Bounds, LOW_HEIGHT, Pos};
+use vx_marks::{PAGE, Page};
 use vx_section::Sections;
 use vx_store::{
     AIR, ChestParts, MachineMarks, MarkKind, SLOTS, Slot, conducts, decode, encode, is_dust,
@@ -212,18 +215,17 @@ impl Stored {
             .places(alloc, self.bounds, self.sector, MarkKind::Device)
     }
 
-    /// In which of so many columns of a row of a layer of this sector, from that one on, a component
-    /// of machines stands, a bit for each.
+    /// Marks where components of machines stand in a layer of this sector, in the page that has that
+    /// layer; none where no component stands there.
     #[inline(always)]
-    pub fn components_in_row(&self, x: u32, y: u32, z: u32, count: u32) -> u64
-        requires here { holds self.now (place x y z) ≡ true }
-        requires within { x % span self.now.bounds + count ≤ span self.now.bounds }
-        ensures { AreInRow (λ p. is_component (cell_at self.now p)) x y z count result }
+    pub fn components_in_layer(&self, y: u32) -> Option<&Page>
+        requires { y < HIGH_HEIGHT }
+        ensures { AreInLayer (λ p. is_component (cell_at self.now p)) self.now y
+            (option_copied result) }
     {
         self.bounds.soundness();
-        let p = Pos::new(x as i32, y as i32, z as i32);
-        let index = self.bounds.index_in_sector(p);
-        self.marks.run(MarkKind::Component, index, count)
+        let span = self.bounds.span();
+        self.marks.page(MarkKind::Component, span * span * y / PAGE)
     }
 
     /// How many components of machines stand in this sector.

@@ -1,9 +1,10 @@
 -- Marks and the words that have any.
-use Rattle.std.proofs.Common.{◌≡◌, ℕ, zero, suc, ◌+◌, ◌*◌, ◌/◌, ◌%◌, ◌<◌, ◌≤◌, true, false, List, length, get_or, replicate, Some, None, nat_lt, inl, inr, refl, ap, sym, ◌∙◌, arith}
-use Rattle.std.proofs.lemmas.Bool.{cases_lt, ltb-true, ltb-false}
+use Rattle.std.proofs.Common.{◌≡◌, ℕ, zero, suc, ◌+◌, ◌-◌, ◌*◌, ◌/◌, ◌%◌, ◌^◌, ◌<◌, ◌≤◌, ◌&&◌, ◌↔◌, true, false, List, length, get_or, replicate, Some, None, nat_lt, inl, inr, refl, ap, sym, ◌∙◌, arith}
+use Rattle.std.specs.Int.{trailing_zeros, w64}
+use Rattle.std.proofs.lemmas.Bool.{cases_lt, and_parts, ltb-true, ltb-false, lt-ltb}
 use Rattle.std.proofs.lemmas.List.{length-replicate, get_or_past}
-use Rattle.vx_marks.specs.Marks.{is_set, is_marked, IsFirst, IsFirstMarked, AreFilled}
-use Rattle.vx_marks.proofs.WordBits.{unset}
+use Rattle.vx_marks.specs.Marks.{is_set, is_marked, IsFirst, IsFirstMarked, AreBits, AreBlank, AreFilled}
+use Rattle.vx_marks.proofs.WordBits.{unset, lowest_is_first}
 
 -- what a list of one number has at an index
 pub zero_at : (n k z : ℕ) → get_or (replicate n z) k z ≡ z
@@ -70,3 +71,33 @@ module _ (words filled : List ℕ) (from : ℕ) (held : AreFilled words filled)
           ]
         ],
       )
+
+-- which of the words are filled, from that of one index to that of another, a bit for each
+module _ (words filled : List ℕ) (first last bits : ℕ) (held : AreFilled words filled)
+    (are : AreBits filled (first / 64) (last / 64 + 1 - first / 64) bits) where
+  -- without a bit no word has a mark
+  pub all_blank : bits ≡ 0 → AreBlank words first last
+  all_blank none k low high =
+      let n = k - first / 64 in
+      let at : first / 64 + n ≡ k = omega (arith, low) in
+      let unset_there : is_marked filled k ≡ false =
+      ap (is_marked filled) (sym at)
+      ∙ ap (λ b. b && is_marked filled (first / 64 + n))
+      (sym (lt-ltb n (last / 64 + 1 - first / 64) (omega (arith, low, high))))
+      ∙ sym (are n) ∙ ap (λ w. is_set w n) none ∙ unset n in
+      let empty = ltb-false 0 _ (sym (held.each k) ∙ unset_there) in omega (arith, empty)
+
+  -- with one some word has
+  pub not_blank : 0 < bits → bits < 2 ^ 64 → AreBlank words first last → ⊥
+  not_blank some fits blank =
+      let n = trailing_zeros w64 bits in
+      let both = and_parts (nat_lt n (last / 64 + 1 - first / 64)) _
+      (sym (are n) ∙ (lowest_is_first bits fits some).2) in
+      let low = ltb-true n (last / 64 + 1 - first / 64) both.0 in
+      let full = ltb-true 0 _ (sym (held.each (first / 64 + n)) ∙ both.1) in
+      omega (arith, full, blank (first / 64 + n) (omega arith) (omega (arith, low)))
+
+-- no index is marked whose word has no mark
+pub blank_unmarked : (words : List ℕ) (first last i : ℕ) → AreBlank words first last → first ≤ i → i ≤ last
+    → is_marked words i ≡ false
+blank_unmarked words first last i blank low high = unmarked words i (blank (i / 64) (omega arith) (omega arith))

@@ -1,5 +1,5 @@
-ghost use Rattle.std.specs.Prelude.{◌≡◌, ◌+◌, ◌%◌, ◌<◌, ◌≤◌, replicate};
-ghost use Rattle.vx_marks.specs.Marks.{is_marked, IsFirstMarked, IsMarkSet, AreBits, IsRunMarked};
+ghost use Rattle.std.specs.Prelude.{◌≡◌, ◌+◌, ◌/◌, ◌%◌, ◌<◌, ◌≤◌, ◌↔◌, false, replicate};
+ghost use Rattle.vx_marks.specs.Marks.{is_marked, IsFirstMarked, IsMarkSet, AreBits, AreBlank, IsRunMarked};
 ghost use Rattle.vx_marks.specs.declared.page.TheConstants.{PAGE};
 
 use crate::words;
@@ -82,6 +82,19 @@ impl Page {
         }
         let word = words::first_from(&self.filled, from / 64 + 1)?;
         Some(words::first_of_word(&self.words, word))
+    }
+
+    /// Whether one of the words of 64 has a mark, from that of one index to that of another. It looks
+    /// at none of them.
+    #[inline(always)]
+    pub fn has_marks_between(&self, first: u32, last: u32) -> bool
+        requires order { first ≤ last }
+        requires inside { last < PAGE }
+        requires few { last / 64 < first / 64 + 63 }
+        ensures { result ≡ false ↔ AreBlank self.now first last }
+    {
+        let word = first / 64;
+        words::run(&self.filled, word, last / 64 + 1 - word) > 0
     }
 
     /// Which of so many indices from this one on are marked, a bit for each; all of them lie in its

@@ -1,4 +1,5 @@
 pub mod Adding
+pub mod Areas
 pub mod Finding
 pub mod Marked
 pub mod Near

@@ -1,42 +1,60 @@
--- Columns of a row of a layer that lie in one sector: their components, and the indices of these.
-use Rattle.std.proofs.Common.{◌≡◌, ℕ, ◌+◌, ◌-◌, ◌%◌, ◌/◌, ◌<◌, ◌≤◌, Bool, true, false, ◌&&◌, nat_eq, nat_lt, nat_le, Some, inl, inr, pos, refl, ap, sym, ◌∙◌, arith}
-use Rattle.std.proofs.lemmas.Bool.{cases_Bool, and_parts, and_from, leb-true, ltb-true, eqb-true, le-leb, lt-ltb, eq-eqb, false_from_ne_true, true≢false}
-use Rattle.vx_block.specs.declared.cell.Cell.{Cell}
-use Rattle.vx_block.specs.Components.{is_component}
+-- Columns of a row of a layer that lie in one sector: what passes a test there, and the indices of
+-- these positions.
+use Rattle.std.proofs.Common.{◌≡◌, ℕ, ◌+◌, ◌-◌, ◌%◌, ◌/◌, ◌<◌, ◌≤◌, Bool, true, false, ◌&&◌, nat_eq, nat_lt, nat_le, List, Some, inl, inr, pos, refl, ap, sym, ◌∙◌, arith}
+use Rattle.std.proofs.lemmas.Bool.{cases_Bool, cases_lt, and_parts, and_left, and_from, le-ltb, leb-true, ltb-true, eqb-true, le-leb, lt-ltb, eq-eqb, false_from_ne_true, true≢false}
 use Rattle.vx_geom.specs.declared.pos.Pos.{Pos}
 use Rattle.vx_geom.specs.Sizes.{Sizes, AreSizes, span, is_inside, sector_number, sector_of, index_in_sector}
 use Rattle.vx_geom.proofs.Positions.{same_pos}
 use Rattle.vx_geom.proofs.SectorLemmas.{inside_at, held_at, same_index}
-use Rattle.vx_marks.specs.Marks.{is_set}
+use Rattle.vx_marks.specs.Marks.{is_set, is_marked, AreBits}
+use Rattle.vx_marks.specs.declared.page.TheConstants.{PAGE}
 use Rattle.vx_marks.proofs.WordBits.{unset}
-use Rattle.vx_cells.specs.Listed.{place, AreInRow}
+use Rattle.vx_cells.specs.Listed.{place}
 use Rattle.vx_cells.proofs.Indices.{numbered}
 use Rattle.vx_cells.proofs.Rows.{index_later, in_word, column_held}
-use Rattle.vx_places.specs.Around.{layer_of, row_of, column_of, is_component_in_run}
+use Rattle.vx_places.specs.Areas.{marked_by}
+use Rattle.vx_places.specs.Around.{layer_of, row_of, column_of, is_in_run}
 use Rattle.vx_places.specs.Places.{in_run_from}
 use Rattle.vx_places.proofs.Marked.{number_of}
 
-module _ (w : Pos → Cell) (v : Sizes) (sizes : AreSizes v) (x y z length : ℕ)
+-- in which of so many columns of a row of a layer, from one on, lies what passes a test: a bit for
+-- each
+abbrev pub AreInRow : (Pos → Bool) → ℕ → ℕ → ℕ → ℕ → ℕ → Type 0
+AreInRow test x y z count bits = (k : ℕ) → is_set bits k ≡ (nat_lt k count && test (place (x + k) y z))
+
+-- the bits of a page tell it of marks in the page
+pub bits_in_row : (v : Sizes) (sizes : AreSizes v) (page : List ℕ) (x y z count index bits : ℕ)
+    → index ≡ index_in_sector v (place x y z) → x % span v + count ≤ span v
+    → AreBits page (index % PAGE) count bits → AreInRow (marked_by page v) x y z count bits
+bits_in_row v sizes page x y z count index bits is within are k = are k ∙ elim (cases_lt k count) [
+  | inl low ↦
+      let at : index % PAGE + k ≡ index_in_sector v (place (x + k) y z) % PAGE =
+      omega (arith, low, index_later v sizes x y z count index is within k low, in_word v sizes x y z count index is within) in
+      ap (λ i. nat_lt k count && is_marked page i) at
+  | inr high ↦ let past = le-ltb k count high in and_left _ _ past ∙ sym (and_left _ _ past)
+]
+
+module _ (such : Pos → Bool) (v : Sizes) (sizes : AreSizes v) (x y z length : ℕ)
     (inside : is_inside v (place x y z) ≡ true) (within : x % span v + length ≤ span v) where
   abbrev test : Pos → Bool
-  test = is_component_in_run w x y z length
+  test = is_in_run such x y z length
 
   abbrev sector : ℕ
   sector = sector_number v (place x y z)
 
-  -- a position that passes is one of the columns, and a component stands there
+  -- a position that passes is one of the columns, and passes the test of them all
   record IsColumn (q : Pos) (k : ℕ) : Type 0 where
     low : k < length
     is : q ≡ place (x + k) y z
-    stands : is_component (w q) ≡ true
+    stands : such q ≡ true
 
   column : (q : Pos) → is_inside v q ≡ true → test q ≡ true → IsColumn q (column_of q - x)
   column q here passes =
       let at = inside_at v q here in
-      let all = and_parts ((is_component (w q) && nat_eq (layer_of q) y) && nat_eq (row_of q) z) _ passes in
+      let all = and_parts ((such q && nat_eq (layer_of q) y) && nat_eq (row_of q) z) _ passes in
       let ends = and_parts (nat_le x (column_of q)) _ all.1 in
-      let both = and_parts (is_component (w q) && nat_eq (layer_of q) y) _ all.0 in
-      let parts = and_parts (is_component (w q)) _ both.0 in
+      let both = and_parts (such q && nat_eq (layer_of q) y) _ all.0 in
+      let parts = and_parts (such q) _ both.0 in
       let least : x ≤ column_of q = leb-true x (column_of q) ends.0 in
       let most : column_of q < x + length = ltb-true (column_of q) (x + length) ends.1 in
       let back : column_of q ≡ x + (column_of q - x) = omega (arith, least) in
@@ -49,14 +67,14 @@ module _ (w : Pos → Cell) (v : Sizes) (sizes : AreSizes v) (x y z length : ℕ
         stands = parts.0;
       }
 
-  passes_there : (k : ℕ) → k < length → is_component (w (place (x + k) y z)) ≡ true → test (place (x + k) y z) ≡ true
+  passes_there : (k : ℕ) → k < length → such (place (x + k) y z) ≡ true → test (place (x + k) y z) ≡ true
   passes_there k low stands =
       and_from _ _
       (and_from _ _ (and_from _ _ stands (eq-eqb y y refl)) (eq-eqb z z refl))
       (and_from _ _ (le-leb x (x + k) (omega arith)) (lt-ltb (x + k) (x + length) (omega arith)))
 
   -- those that pass are those whose indices the bits of the row tell
-  module _ (bits : ℕ) (are : AreInRow (λ p. is_component (w p)) x y z length bits) where
+  module _ (bits : ℕ) (are : AreInRow such x y z length bits) where
     abbrev index : ℕ
     index = index_in_sector v (place x y z)
 
@@ -76,7 +94,7 @@ module _ (w : Pos → Cell) (v : Sizes) (sizes : AreSizes v) (x y z length : ℕ
         (and_from _ _ (eq-eqb (index_in_sector v q / 64) (index / 64) (omega (arith, there, word, of.low)))
         (and_from _ _ (le-leb index (index_in_sector v q) (omega (arith, there)))
         (ap (is_set bits) back ∙ are k
-        ∙ and_from _ _ (lt-ltb k length of.low) (ap (λ p. is_component (w p)) (sym of.is) ∙ of.stands))))
+        ∙ and_from _ _ (lt-ltb k length of.low) (ap such (sym of.is) ∙ of.stands))))
 
     passes_told : (q : Pos) → is_inside v q ≡ true → in_run_from v (place x y z) bits q ≡ true → test q ≡ true
     passes_told q here all =
@@ -104,9 +122,9 @@ module _ (w : Pos → Cell) (v : Sizes) (sizes : AreSizes v) (x y z length : ℕ
     ]
 
   -- where no bit is set none passes
-  pub none_run : AreInRow (λ p. is_component (w p)) x y z length 0 → (q : Pos) → is_inside v q ≡ true → test q ≡ false
+  pub none_run : AreInRow such x y z length 0 → (q : Pos) → is_inside v q ≡ true → test q ≡ false
   none_run are q here = false_from_ne_true (test q) (λ passes.
       let of = column q here passes in
       let k = column_of q - x in
-      let set = are k ∙ and_from _ _ (lt-ltb k length of.low) (ap (λ p. is_component (w p)) (sym of.is) ∙ of.stands) in
+      let set = are k ∙ and_from _ _ (lt-ltb k length of.low) (ap such (sym of.is) ∙ of.stands) in
       true≢false (sym set ∙ unset k))

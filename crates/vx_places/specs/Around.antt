@@ -14,6 +14,10 @@ is_around p steps q = nat_le (steps_between p q) steps
 abbrev pub is_component_around : (Pos → Cell) → Pos → ℕ → Pos → Bool
 is_component_around w p steps q = is_around p steps q && is_component (w q)
 
+-- and it passes a test
+abbrev pub is_such_around : (Pos → Bool) → Pos → ℕ → Pos → Bool
+is_such_around test p steps q = is_around p steps q && test q
+
 -- the numbers of a position's layer, row and column
 abbrev pub layer_of : Pos → ℕ
 layer_of p = unsigned_abs p.y
@@ -36,11 +40,10 @@ below_number number test n p = test p && nat_lt (number p) n
 abbrev pub between_numbers : (Pos → ℕ) → (Pos → Bool) → ℕ → ℕ → Pos → Bool
 between_numbers number test m n p = test p && (nat_le m (number p) && nat_lt (number p) n)
 
--- a component of machines stands there, in one of so many columns of a row of a layer, from one on
-abbrev pub is_component_in_run : (Pos → Cell) → ℕ → ℕ → ℕ → ℕ → Pos → Bool
-is_component_in_run w x y z length =
-    between_numbers column_of (at_number row_of (at_number layer_of (λ q. is_component (w q)) y) z)
-    x (x + length)
+-- it passes a test, and lies in one of so many columns of a row of a layer, from one on
+abbrev pub is_in_run : (Pos → Bool) → ℕ → ℕ → ℕ → ℕ → Pos → Bool
+is_in_run test x y z length =
+    between_numbers column_of (at_number row_of (at_number layer_of test y) z) x (x + length)
 
 -- of the numbers below `count` those within so many steps of a coordinate lie from this one
 unfoldable pub least_within : ℤ → ℕ → ℕ → ℕ

@@ -1,3 +1,4 @@
+pub mod Areas
 pub mod Around
 pub mod Laws
 pub mod Places

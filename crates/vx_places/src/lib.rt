@@ -1,6 +1,7 @@
 //! Sets of positions of a world, kept as marks by sector.
 #![tactic(auto)]
 
+mod area;
 mod around;
 mod laws;
 mod places;

@@ -1,21 +1,24 @@
-ghost use Rattle.std.specs.Prelude.{◌≡◌, ◌+◌, ◌*◌, ◌%◌, ◌<◌, ◌≤◌, ◌&&◌, ◌||◌, ℕ, pos, ◌-ℤ◌, unsigned_abs, false, true, nat_eq, nat_le, length, replicate, slice_index_or, if◌then◌else◌, None, Some, IfOk, OnOk, IfSome};
+ghost use Rattle.std.specs.Prelude.{◌≡◌, ◌+◌, ◌-◌, ◌*◌, ◌%◌, ◌<◌, ◌≤◌, ◌&&◌, ◌||◌, ℕ, pos, ◌-ℤ◌, unsigned_abs, false, true, nat_eq, nat_le, length, replicate, slice_index_or, if◌then◌else◌, None, Some, IfOk, OnOk, IfSome};
 ghost use Rattle.std.specs.List.{All, filter, list_any};
 ghost use Rattle.vx_geom.specs.declared.pos.Pos.{Pos};
 ghost use Rattle.vx_geom.specs.Places.{positions};
-ghost use Rattle.vx_geom.specs.Sizes.{AreSizes, span, sector_count, sector_cells, is_inside};
+ghost use Rattle.vx_geom.specs.Sizes.{AreSizes, span, sector_count, sector_cells, sector_number, is_inside};
 ghost use Rattle.vx_cells.specs.Listed.{place};
 ghost use Rattle.vx_cells.specs.Maps.{cell_on};
+ghost use Rattle.vx_cells.specs.SectorCells.{cell_at};
 ghost use Rattle.vx_marks.specs.Marks.{in_run};
 ghost use Rattle.vx_marks.specs.declared.page.TheConstants.{PAGE};
-ghost use Rattle.vx_places.specs.Around.{is_component_around, is_component_in_run, at_number, layer_of, row_of, Adds};
+ghost use Rattle.vx_places.specs.Areas.{IsPart, LiesInOne, IsSector, IsColumnOf, in_area, marked_by};
+ghost use Rattle.vx_places.specs.Around.{is_component_around, is_such_around, is_in_run, at_number, between_numbers, layer_of, row_of, Adds};
 ghost use Rattle.vx_places.specs.Places.{marked_in, in_run_from, is_at, steps_between, HasRoom};
 
+use crate::area::Area;
 use crate::around::{end_within, layers, least_within, shared_columns, steps_along};
 use std::alloc::{AllocError, Global};
 use std::marker::Model;
-use vx_cells::Frozen;
+use vx_cells::{Cells, Frozen};
 use vx_geom::{Bounds, Pos};
-use vx_marks::Marks;
+use vx_marks::{Marks, PAGE, Page};
 use vx_store::marked_places;
 
 /// A set of positions of a world, kept by sector. A sector where nothing was marked takes no memory
@@ -92,8 +95,10 @@ impl Places {
             ≡ (is_at self.old q
             || (is_inside self.old.sizes q && nat_eq (steps_between p q) 0))) }
     {
-        if self.bounds.inside(p) {
-            self.mark_from(alloc, p, 1)
+        self.soundness();
+        let bounds = self.bounds();
+        if bounds.inside(p) {
+            self.mark_from(alloc, bounds.sector_holding(p), p, 1)
         } else {
             Ok(())
         }
@@ -128,81 +133,183 @@ impl Places {
             && is_component_around (cell_on map.now) p steps q))) }
     {
         let steps = u32::from(steps);
-        let count = layers(self.bounds());
-        let first = least_within(p.y, steps, count);
-        for y in first..end_within(p.y, steps, count) {
-            self.mark_layer(alloc, map, p, steps, y)?;
-        }
-        Ok(())
-    }
-
-    // Adds those of one layer alone.
-    fn mark_layer(
-        &mut self,
-        alloc: Global,
-        map: &Frozen<'_>,
-        p: Pos,
-        steps: u32,
-        y: u32,
-    ) -> Result<(), AllocError>
-        requires few { steps ≤ 8 }
-        requires low { y < self.old.sizes.h }
-        requires near { unsigned_abs (p.y -ℤ pos y) ≤ steps }
-        ensures sizes { self.new.sizes ≡ self.old.sizes }
-        ensures marked { OnOk result (Adds
-            (at_number layer_of (is_component_around (cell_on map.now) p steps) y)
-            self.old self.new) }
-    {
-        self.soundness();
-        let count = self.bounds().rows();
-        let left = steps - steps_along(p.y, y);
-        let first = least_within(p.z, left, count);
-        for z in first..end_within(p.z, left, count) {
-            self.mark_row(alloc, map, p, steps, y, z)?;
-        }
-        Ok(())
-    }
-
-    // Adds those of one row of a layer alone, run by run: as many columns at once as lie in one
-    // sector here and on the map.
-    fn mark_row(
-        &mut self,
-        alloc: Global,
-        map: &Frozen<'_>,
-        p: Pos,
-        steps: u32,
-        y: u32,
-        z: u32,
-    ) -> Result<(), AllocError>
-        requires few { steps ≤ 8 }
-        requires low { y < self.old.sizes.h }
-        requires north { z < self.old.sizes.sz * span self.old.sizes }
-        requires near { unsigned_abs (p.y -ℤ pos y) + unsigned_abs (p.z -ℤ pos z) ≤ steps }
-        ensures sizes { self.new.sizes ≡ self.old.sizes }
-        ensures marked { OnOk result (Adds (at_number row_of
-            (at_number layer_of (is_component_around (cell_on map.now) p steps) y) z)
-            self.old self.new) }
-    {
-        self.soundness();
         let bounds = self.bounds();
-        let count = bounds.columns();
-        let left = steps - steps_along(p.y, y) - steps_along(p.z, z);
-        let end = end_within(p.x, left, count);
-        let mut next = least_within(p.x, left, count);
+        let count = bounds.rows();
+        let end = end_within(p.z, steps, count);
+        let mut next = least_within(p.z, steps, count);
         while next < end {
             let length = shared_columns(bounds, map.bounds(), next).min(end - next);
-            self.mark_run(alloc, map, next, y, z, length)?;
+            self.mark_rows(alloc, map, p, steps, next, next + length)?;
             next += length;
         }
         Ok(())
     }
 
-    // Adds the components of so many columns of a row of a layer, from that one on.
+    // Adds those of some rows alone, part by part: as many columns at once as lie in one sector here
+    // and on the map. The rows do, too.
+    #[inline(always)]
+    fn mark_rows(
+        &mut self,
+        alloc: Global,
+        map: &Frozen<'_>,
+        p: Pos,
+        steps: u32,
+        north: u32,
+        south: u32,
+    ) -> Result<(), AllocError>
+        requires few { steps ≤ 8 }
+        requires some { north < south }
+        requires within { south ≤ self.old.sizes.sz * span self.old.sizes }
+        requires here { north % span self.old.sizes + (south - north) ≤ span self.old.sizes }
+        requires there { north % span map.now.sizes + (south - north) ≤ span map.now.sizes }
+        ensures sizes { self.new.sizes ≡ self.old.sizes }
+        ensures marked { OnOk result (Adds (between_numbers row_of
+            (is_component_around (cell_on map.now) p steps) north south) self.old self.new) }
+    {
+        self.soundness();
+        let bounds = self.bounds();
+        let count = bounds.columns();
+        let end = end_within(p.x, steps, count);
+        let mut west = least_within(p.x, steps, count);
+        while west < end {
+            let length = shared_columns(bounds, map.bounds(), west).min(end - west);
+            let east = west + length;
+            let area = Area {
+                west,
+                east,
+                north,
+                south,
+            };
+            self.mark_area(alloc, map, p, steps, area)?;
+            west = east;
+        }
+        Ok(())
+    }
+
+    // Adds those of an area alone.
+    #[inline(always)]
+    fn mark_area(
+        &mut self,
+        alloc: Global,
+        map: &Frozen<'_>,
+        p: Pos,
+        steps: u32,
+        area: Area,
+    ) -> Result<(), AllocError>
+        requires few { steps ≤ 8 }
+        requires here { IsPart self.old.sizes area }
+        requires there { LiesInOne map.now.sizes area }
+        ensures sizes { self.new.sizes ≡ self.old.sizes }
+        ensures marked { OnOk result (Adds
+            (in_area (is_component_around (cell_on map.now) p steps) area) self.old self.new) }
+    {
+        self.soundness();
+        map.soundness();
+        let corner = Pos::new(area.west as i32, 0, area.north as i32);
+        let Some(cells) = map.sector_of(corner) else {
+            return Ok(());
+        };
+        let bounds = self.bounds();
+        let sector = bounds.sector_holding(corner);
+        let count = layers(bounds).min(layers(map.bounds()));
+        let first = least_within(p.y, steps, count);
+        for y in first..end_within(p.y, steps, count) {
+            self.mark_layer(alloc, cells, p, steps, area, sector, y)?;
+        }
+        Ok(())
+    }
+
+    // Adds those of a layer of an area alone, which a sector of the map has. Where no component
+    // stands in its rows it is passed over by one look.
+    #[inline(always)]
+    fn mark_layer(
+        &mut self,
+        alloc: Global,
+        cells: &Cells,
+        p: Pos,
+        steps: u32,
+        area: Area,
+        sector: u32,
+        y: u32,
+    ) -> Result<(), AllocError>
+        requires few { steps ≤ 8 }
+        requires low { y < self.old.sizes.h }
+        requires near { unsigned_abs (p.y -ℤ pos y) ≤ steps }
+        requires here { IsPart self.old.sizes area }
+        requires number { IsSector self.old.sizes area sector }
+        requires there { IsPart cells.now.bounds area }
+        requires held { y < cells.now.bounds.h }
+        requires sector { IsSector cells.now.bounds area cells.now.sector }
+        ensures sizes { self.new.sizes ≡ self.old.sizes }
+        ensures marked { OnOk result (Adds (at_number layer_of
+            (in_area (is_component_around (cell_at cells.now) p steps) area) y)
+            self.old self.new) }
+    {
+        self.soundness();
+        let bounds = cells.bounds();
+        bounds.soundness();
+        let Some(page) = cells.components_in_layer(y) else {
+            return Ok(());
+        };
+        if !may_have_marks(page, bounds, area, y) {
+            return Ok(());
+        }
+        let left = steps - steps_along(p.y, y);
+        let first = least_within(p.z, left, area.south).max(area.north);
+        for z in first..end_within(p.z, left, area.south) {
+            self.mark_row(alloc, page, bounds, p, steps, area, sector, y, z)?;
+        }
+        Ok(())
+    }
+
+    // Adds those of one row of a layer of an area alone, by marks in a page.
+    #[inline(always)]
+    fn mark_row(
+        &mut self,
+        alloc: Global,
+        page: &Page,
+        bounds: Bounds,
+        p: Pos,
+        steps: u32,
+        area: Area,
+        sector: u32,
+        y: u32,
+        z: u32,
+    ) -> Result<(), AllocError>
+        requires few { steps ≤ 8 }
+        requires low { y < self.old.sizes.h }
+        requires near { unsigned_abs (p.y -ℤ pos y) + unsigned_abs (p.z -ℤ pos z) ≤ steps }
+        requires here { IsPart self.old.sizes area }
+        requires number { IsSector self.old.sizes area sector }
+        requires there { IsPart bounds area }
+        requires held { y < bounds.h }
+        requires north { area.north ≤ z }
+        requires south { z < area.south }
+        ensures sizes { self.new.sizes ≡ self.old.sizes }
+        ensures marked { OnOk result (Adds (at_number row_of (at_number layer_of
+            (in_area (is_such_around (marked_by page.now bounds) p steps) area) y) z)
+            self.old self.new) }
+    {
+        self.soundness();
+        bounds.soundness();
+        let left = steps - steps_along(p.y, y) - steps_along(p.z, z);
+        let first = least_within(p.x, left, area.east).max(area.west);
+        let end = end_within(p.x, left, area.east);
+        if end <= first {
+            return Ok(());
+        }
+        self.mark_run(alloc, page, bounds, sector, first, y, z, end - first)
+    }
+
+    // Adds the positions of so many columns of a row of a layer, from that one on, that have marks in
+    // a page.
     #[inline(always)]
     fn mark_run(
         &mut self,
         alloc: Global,
-        map: &Frozen<'_>,
+        page: &Page,
+        bounds: Bounds,
+        sector: u32,
         x: u32,
         y: u32,
         z: u32,
@@ -210,32 +317,36 @@ impl Places {
     ) -> Result<(), AllocError>
         requires inside { is_inside self.old.sizes (place x y z) ≡ true }
         requires here { x % span self.old.sizes + length ≤ span self.old.sizes }
-        requires there { x % span map.now.sizes + length ≤ span map.now.sizes }
+        requires number { sector ≡ sector_number self.old.sizes (place x y z) }
+        requires held { is_inside bounds (place x y z) ≡ true }
+        requires there { x % span bounds + length ≤ span bounds }
         ensures sizes { self.new.sizes ≡ self.old.sizes }
-        ensures marked { OnOk result (Adds
-            (is_component_in_run (cell_on map.now) x y z length) self.old self.new) }
+        ensures marked { OnOk result (Adds (is_in_run (marked_by page.now bounds) x y z length)
+            self.old self.new) }
     {
         self.soundness();
-        let bits = map.components_in_row(x, y, z, length);
+        bounds.soundness();
+        let p = Pos::new(x as i32, y as i32, z as i32);
+        let bits = page.run(bounds.index_in_sector(p) % PAGE, length);
         if bits == 0 {
             return Ok(());
         }
-        self.mark_from(alloc, Pos::new(x as i32, y as i32, z as i32), bits)
+        self.mark_from(alloc, sector, p, bits)
     }
 
-    // Adds the positions of a run of indices that begins with that of a position.
+    // Adds the positions of a run of indices of a sector that begins with that of a position.
     #[inline(always)]
-    fn mark_from(&mut self, alloc: Global, p: Pos, bits: u64) -> Result<(), AllocError>
-        requires { is_inside self.old.sizes p ≡ true }
+    fn mark_from(&mut self, alloc: Global, sector: u32, p: Pos, bits: u64) -> Result<(), AllocError>
+        requires inside { is_inside self.old.sizes p ≡ true }
+        requires number { sector ≡ sector_number self.old.sizes p }
         ensures sizes { self.new.sizes ≡ self.old.sizes }
         ensures marked { OnOk result (Adds (in_run_from self.old.sizes p bits) self.old self.new) }
     {
-        let number = self.bounds.sector_holding(p);
         let index = self.bounds.index_in_sector(p);
         let count = self.bounds.sector_cells();
         mark_in(
             alloc,
-            &mut self.sectors[number as usize],
+            &mut self.sectors[sector as usize],
             count,
             index,
             bits,
@@ -282,6 +393,24 @@ impl Places {
             _ => None,
         }
     }
+}
+
+// Whether marks in a page may tell of anything in a layer of an area. It looks at no marks of single
+// places.
+#[inline(always)]
+fn may_have_marks(page: &Page, bounds: Bounds, area: Area, y: u32) -> bool
+    requires there { IsPart bounds area }
+    requires low { y < bounds.h }
+    ensures { result ≡ false → (x z : ℕ) → IsColumnOf area x z
+        → marked_by page.now bounds (place x y z) ≡ false }
+{
+    bounds.soundness();
+    let first = Pos::new(area.west as i32, y as i32, area.north as i32);
+    let last = Pos::new((area.east - 1) as i32, y as i32, (area.south - 1) as i32);
+    page.has_marks_between(
+        bounds.index_in_sector(first) % PAGE,
+        bounds.index_in_sector(last) % PAGE,
+    )
 }
 
 // Whether nothing was ever marked in any of these sectors.

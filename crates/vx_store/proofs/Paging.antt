@@ -1,8 +1,10 @@
 -- Marks of components and devices in pages, kind by kind.
-use Rattle.std.proofs.Common.{◌≡◌, ℕ, ◌+◌, ◌*◌, ◌/◌, ◌%◌, ◌^◌, ◌<◌, ◌≤◌, false, List, length, get_or, set, replicate, Some, None, refl, ap, ◌∙◌, subst, sym, arith}
+use Rattle.std.proofs.Common.{◌≡◌, ℕ, ◌+◌, ◌*◌, ◌/◌, ◌%◌, ◌^◌, ◌<◌, ◌≤◌, false, List, length, get_or, set, replicate, Bor, Option, Some, None, IfSome, refl, ap, ◌∙◌, subst, sym, arith}
+use Rattle.std.specs.Option.{option_copied}
 use Rattle.std.proofs.lemmas.List.{length-replicate}
-use Rattle.vx_marks.specs.Marks.{is_marked, IsFirstMarked, AreUnmarked, AreBits}
+use Rattle.vx_marks.specs.Marks.{is_marked, IsFirstMarked, AreUnmarked}
 use Rattle.vx_marks.specs.Pages as pages
+use Rattle.vx_marks.specs.declared.page.Page.{Page}
 use Rattle.vx_marks.specs.declared.page.TheConstants.{PAGE}
 use Rattle.vx_marks.proofs.Marking.{none_marked}
 use Rattle.vx_marks.proofs.Paging as paging
@@ -11,7 +13,7 @@ use Rattle.vx_store.specs.declared.mark_kind.MarkKind.{MarkKind}
 use Rattle.vx_store.specs.declared.mark_kind.MarkKind.TheVariants.{Component, Device}
 
 -- the words of a kind
-kind_blank : (kind : MarkKind) → words_of kind blank_page ≡ replicate 64 0
+pub kind_blank : (kind : MarkKind) → words_of kind blank_page ≡ replicate 64 0
 unfolding blank_page
 kind_blank Component = refl
 kind_blank Device = refl
@@ -50,15 +52,29 @@ are_blank n count is fits = record {
 pub kind_unmarked : (kind : MarkKind) (i : ℕ) → is_marked (words_of kind blank_page) i ≡ false
 kind_unmarked kind i = ap (λ words. is_marked words i) (kind_blank kind) ∙ none_marked 64 i
 
+-- past the last page there is none
+pub past_all : (kind : MarkKind) (ps : List MarkWords) (n : ℕ) → ArePages ps → length ps ≤ n
+    → pages.IsPage (words_of kind (joined ps)) n None
+past_all kind ps n are past i is =
+    ap (λ words. is_marked words i) (kind_joined kind ps)
+    ∙ paging.none_past (words_of kind) ps (kind_are kind ps are) i (omega (arith, is, past))
+
 -- what is found in a page that was read
 module _ (kind : MarkKind) (ps : List MarkWords) (n : ℕ) (page : MarkWords) (are : ArePages ps)
     (near : n < length ps) (read : page ≡ get_or ps n page) where
-  -- which of so many indices of one word are marked
-  pub bits_of_page : (first count bits : ℕ) → n ≡ first / PAGE → first % 64 + count ≤ 64
-      → AreBits (words_of kind page) (first % PAGE) count bits → AreBits (words_of kind (joined ps)) first count bits
-  bits_of_page first count bits is within told =
-      subst (λ words. AreBits words first count bits) (sym (kind_joined kind ps))
-      (paging.bits_of_page (words_of kind) ps (kind_are kind ps are) n page near read first count bits is within told)
+  mark_is : (i : ℕ) → n ≡ i / PAGE → is_marked (words_of kind (joined ps)) i ≡ is_marked (words_of kind page) (i % PAGE)
+  mark_is i is =
+      ap (λ words. is_marked words i) (kind_joined kind ps)
+      ∙ paging.mark_of_page (words_of kind) ps (kind_are kind ps are) n page near read i is
+
+  -- its marks of a kind are lent, and need not be where there are none
+  pub page_is : (lent : Option (Bor Page)) → IfSome lent (λ marks. marks.now ≡ words_of kind page)
+      → (lent ≡ None → words_of kind page ≡ replicate 64 0)
+      → pages.IsPage (words_of kind (joined ps)) n (option_copied lent)
+  page_is None some none =
+      λ i is. mark_is i (sym is) ∙ ap (λ words. is_marked words (i % PAGE)) (none refl) ∙ none_marked 64 (i % PAGE)
+  page_is (Some marks) some none =
+      λ i is. mark_is i (sym is) ∙ ap (λ words. is_marked words (i % PAGE)) (sym some)
 
   -- where nothing was marked before it, and nothing is in the page, nothing is before the next page
   pub none_to_next : (from next : ℕ) → n ≡ next / PAGE → AreUnmarked (words_of kind (joined ps)) from next

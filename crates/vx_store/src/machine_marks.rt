@@ -1,11 +1,13 @@
-ghost use Rattle.std.specs.Prelude.{◌≡◌, ◌+◌, ◌*◌, ◌/◌, ◌%◌, ◌<◌, ◌≤◌, ℕ, List, true, nat_lt, length, replicate, slice_index_or, slice_set, IfOk, OnOk, OnErr};
+ghost use Rattle.std.specs.Option.{option_copied};
+ghost use Rattle.std.specs.Prelude.{◌≡◌, ◌*◌, ◌/◌, ◌%◌, ◌<◌, ◌≤◌, ℕ, List, true, nat_lt, length, replicate, slice_index_or, slice_set, IfOk, OnOk, OnErr};
 ghost use Rattle.vx_store.specs.Chests.{Changes, SameSlots, begun};
 ghost use Rattle.vx_store.specs.Codes.{code_count, cell_of, is_chest};
 ghost use Rattle.vx_store.specs.MarkedPlaces.{marked_places};
 ghost use Rattle.vx_store.specs.MachineMarks.{words_of, AreMachineMarks};
 ghost use Rattle.vx_store.specs.Placing.{CanPut};
 ghost use Rattle.vx_geom.specs.Sizes.{Sizes, AreSizes, sector_count, sector_cells};
-ghost use Rattle.vx_marks.specs.Marks.{IsFirstMarked, AreBits};
+ghost use Rattle.vx_marks.specs.Marks.{IsFirstMarked};
+ghost use Rattle.vx_marks.specs.Pages.{IsPage};
 ghost use Rattle.vx_marks.specs.declared.page.TheConstants.{PAGE};
 
 use crate::chest_parts::ChestParts;
@@ -17,7 +19,7 @@ use crate::shared_page::SharedPage;
 use std::alloc::{AllocError, Global};
 use std::marker::Model;
 use vx_geom::{Bounds, Pos};
-use vx_marks::PAGE;
+use vx_marks::{PAGE, Page};
 use vx_section::Sections;
 
 /// Where components of machines stand in a sector, and which of them are devices, as marks on the
@@ -127,16 +129,16 @@ impl MachineMarks {
         None
     }
 
-    /// Which of so many indices from this one on have a mark of that kind, a bit for each; all of
-    /// them lie in its word of 64.
+    /// The marks of a kind in the page of that number; none where nothing has one there.
     #[inline(always)]
-    pub fn run(&self, kind: MarkKind, first: u32, count: u32) -> u64
-        requires inside { first < 64 * length (words_of kind self.now) }
-        requires few { count < 64 }
-        requires within { first % 64 + count ≤ 64 }
-        ensures { AreBits (words_of kind self.now) first count result }
+    pub fn page(&self, kind: MarkKind, number: u32) -> Option<&Page>
+        ensures { IsPage (words_of kind self.now) number (option_copied result) }
     {
-        self.pages[(first / PAGE) as usize].run(kind, first % PAGE, count)
+        let number = number as usize;
+        if self.pages.len() <= number {
+            return None;
+        }
+        self.pages[number].of(kind)
     }
 
     /// Whether any index has a mark of that kind, in a sector of any world of so many cells a

@@ -1,10 +1,10 @@
-ghost use Rattle.std.specs.Prelude.{◌≡◌, ◌+◌, ◌%◌, ◌<◌, ◌≤◌, slice_set, IfOk, OnOk, OnErr};
+ghost use Rattle.std.specs.Prelude.{◌≡◌, ◌%◌, ◌<◌, None, replicate, slice_set, IfOk, OnOk, OnErr, IfSome};
 ghost use Rattle.std.specs.Arc.{arc_value};
 ghost use Rattle.vx_store.specs.Chests.{Changes, SameSlots, begun};
 ghost use Rattle.vx_store.specs.Codes.{cell_of, is_chest};
 ghost use Rattle.vx_store.specs.MachineMarks.{words_of, blank_page, AreMarksSet};
 ghost use Rattle.vx_store.specs.Placing.{CanPut};
-ghost use Rattle.vx_marks.specs.Marks.{IsFirstMarked, AreBits};
+ghost use Rattle.vx_marks.specs.Marks.{IsFirstMarked};
 ghost use Rattle.vx_marks.specs.declared.page.TheConstants.{PAGE};
 
 use crate::chest_parts::ChestParts;
@@ -14,7 +14,7 @@ use crate::put_down::put_over;
 use std::alloc::{AllocError, Global};
 use std::marker::Model;
 use std::sync::Arc;
-use vx_marks::PAGE;
+use vx_marks::{PAGE, Page};
 use vx_section::Sections;
 
 /// The marks of 4,096 cells of a sector. Copies share them until one of them changes.
@@ -53,18 +53,15 @@ impl SharedPage {
         }
     }
 
-    /// Which of so many indices of the page from this one on have a mark of that kind, a bit for
-    /// each; all of them lie in its word of 64.
+    /// The marks of a kind; none where nothing has a mark.
     #[inline(always)]
-    pub fn run(&self, kind: MarkKind, first: u32, count: u32) -> u64
-        requires inside { first < PAGE }
-        requires few { count < 64 }
-        requires within { first % 64 + count ≤ 64 }
-        ensures { AreBits (words_of kind self.now) first count result }
+    pub fn of(&self, kind: MarkKind) -> Option<&Page>
+        ensures some { IfSome result (λ page. page.now ≡ words_of kind self.now) }
+        ensures none { result ≡ None → words_of kind self.now ≡ replicate 64 0 }
     {
         match &self.page {
-            Some(page) => page.of(kind).run(first, count),
-            None => 0,
+            Some(page) => Some(page.of(kind)),
+            None => None,
         }
     }
 

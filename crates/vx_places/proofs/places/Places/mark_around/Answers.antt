@@ -1,76 +1,88 @@
-use Rattle.std.proofs.Common.{◌≡◌, FitsSigned, ap, subst, ◌∙◌, arith, rules}
+use Rattle.std.proofs.Common.{Bool, ◌≡◌, ◌+◌, ◌*◌, FitsSigned, ap, subst, ◌∙◌, arith, rules}
 use Rattle.std.specs.Int.{w32}
 use Rattle.std.proofs.lemmas.Int.{to_z-of_z}
-use Rattle.vx_geom.specs.Sizes.{Sizes}
+use Rattle.vx_block.specs.Components.{is_component}
+use Rattle.vx_geom.specs.declared.pos.Pos.{Pos}
+use Rattle.vx_geom.specs.Sizes.{Sizes, span}
 use Rattle.vx_cells.specs.Maps.{cell_on}
-use Rattle.vx_places.specs.Around.{is_component_around, at_number, layer_of, least_within, end_within, Adds}
-use Rattle.vx_places.proofs.Adding.{none_below, one_number, all_numbers}
-use Rattle.vx_places.proofs.Near.{near_layer, below_end, between_near}
+use Rattle.vx_places.specs.Around.{is_component_around, between_numbers, row_of, least_within, end_within, Adds}
+use Rattle.vx_places.proofs.Adding.{none_below, more_numbers, all_numbers}
+use Rattle.vx_places.proofs.Near.{near_row, end_most}
 use Rattle.vx_places.proofs.places.Places.mark_around.Goals as goal
-use Rattle.vx_places.proofs.places.Places.mark_around.Goals.{After-end_within-y-end}
+use Rattle.vx_places.proofs.places.Places.mark_around.Goals.{After-least_within-next}
 
-many : (c : After-end_within-y-end) → c.layers-count.result ≡ c.args.self.now.sizes.h
-many c = c.layers-count.ensures.value ∙ ap (λ (v : Sizes). v.h) c.bounds.ensures
+-- what is known as the loop begins
+many : (c : After-least_within-next) → c.rows-count.result ≡ c.args.self.now.sizes.sz * span c.args.self.now.sizes
+many c = c.rows-count.ensures.value ∙ ap (λ (v : Sizes). v.sz * span v) c.bounds-bounds.ensures
 
--- where the loop begins, and where it ends
-first : (c : After-end_within-y-end)
-    → c.least_within-first.result ≡ least_within c.args.p.y c.args.steps c.layers-count.result
+first : (c : After-least_within-next)
+    → c.least_within-next.result ≡ least_within c.args.p.z c.args.steps c.rows-count.result
 first c =
-    let fits : FitsSigned w32 c.args.p.y = search rules in
-    c.least_within-first.ensures
-    ∙ (λ i. least_within (to_z-of_z w32 c.args.p.y fits i) (c.from-steps.ensures i) c.layers-count.result)
+    let in_z : FitsSigned w32 c.args.p.z = search rules in
+    c.least_within-next.ensures
+    ∙ (λ i. least_within (to_z-of_z w32 c.args.p.z in_z i) (c.from-steps.ensures i) c.rows-count.result)
 
-end : (c : After-end_within-y-end)
-    → c.end_within-y-end.result ≡ end_within c.args.p.y c.args.steps c.layers-count.result
+end : (c : After-least_within-next)
+    → c.end_within-end.result ≡ end_within c.args.p.z c.args.steps c.rows-count.result
 end c =
-    let fits : FitsSigned w32 c.args.p.y = search rules in
-    c.end_within-y-end.ensures
-    ∙ (λ i. end_within (to_z-of_z w32 c.args.p.y fits i) (c.from-steps.ensures i) c.layers-count.result)
+    let in_z : FitsSigned w32 c.args.p.z = search rules in
+    c.end_within-end.ensures
+    ∙ (λ i. end_within (to_z-of_z w32 c.args.p.z in_z i) (c.from-steps.ensures i) c.rows-count.result)
 
-pub loop-y-init : goal.loop-y-init
-loop-y-init c =
-    let b = (goal.at.loop-y-init c).After-end_within-y-end in
-    none_below layer_of (is_component_around (cell_on c.args.map.now) c.args.p c.args.steps) c.args.self.now c.least_within-first.result
-    (λ q inside near.
+-- the test by which positions are added
+abbrev stands : After-least_within-next → Pos → Bool
+stands c q = is_component (cell_on c.args.map.now q)
+
+abbrev around : After-least_within-next → Pos → Bool
+around c = is_component_around (cell_on c.args.map.now) c.args.p c.args.steps
+
+pub loop-next-init : goal.loop-next-init
+loop-next-init c =
+    let b = (goal.at.loop-next-init c).After-least_within-next in
+    record {
+      least = omega arith;
+      added = none_below row_of (around b) c.args.self.now c.least_within-next.result
+          (λ q inside near. omega (
+            arith,
+            first b,
+            (near_row (stands b) c.args.self.now.sizes c.args.p c.args.steps q inside c.rows-count.result (many b) near).0,
+          ));
+    }
+
+pub mark_rows-requires-clause-within : goal.mark_rows-requires-clause-within
+mark_rows-requires-clause-within c =
+    let b = (goal.at.mark_rows-requires-clause-within c).After-least_within-next in
     omega (
       arith,
-      first b,
-      (near_layer (cell_on c.args.map.now) c.args.self.now.sizes c.args.p c.args.steps q inside
-          c.layers-count.result (many b) near).0,
-    ))
+      c.loop-next-test.true,
+      c.min-length.ensures,
+      end b,
+      end_most c.args.p.z c.args.steps c.rows-count.result,
+      many b,
+      ap (λ (v : Sizes). v.sz * span v) c.loop-next.invariant.added.sizes,
+    )
 
-pub mark_layer-requires-clause-low : goal.mark_layer-requires-clause-low
-mark_layer-requires-clause-low c =
-    let b = (goal.at.mark_layer-requires-clause-low c).After-end_within-y-end in
-    let low = below_end c.args.p.y c.args.steps c.layers-count.result c.loop-y.y
-    (omega (arith, c.loop-y-test.true, end b)) in
-    omega (arith, low, many b, ap (λ (v : Sizes). v.h) c.loop-y.invariant.sizes)
-
-pub mark_layer-requires-clause-near : goal.mark_layer-requires-clause-near
-mark_layer-requires-clause-near c =
-    let b = (goal.at.mark_layer-requires-clause-near c).After-end_within-y-end in
-    let near = between_near c.args.p.y c.args.steps c.layers-count.result c.loop-y.y
-    (omega (arith, c.loop-y.auto.y, first b)) (omega (arith, c.loop-y-test.true, end b)) in
-    omega (arith, near, c.from-steps.ensures)
-
-pub loop-y-preserved : goal.loop-y-preserved
-loop-y-preserved c =
-    let y = c.loop-y.y in
-    let old = c.loop-y.self in
-    let new = c.mark_layer.new.self in
-    one_number layer_of (is_component_around (cell_on c.args.map.now) c.args.p c.args.steps) c.args.self.now y old new c.loop-y.invariant
-    (subst (λ n. Adds (at_number layer_of (is_component_around (cell_on c.args.map.now) c.args.p n) y) old new) c.from-steps.ensures
-    c.in_ok-mark_layer.ensures.marked)
+pub loop-next-preserved : goal.loop-next-preserved
+loop-next-preserved c =
+    let b = (goal.at.loop-next-preserved c).After-least_within-next in
+    let next = c.loop-next.next in
+    let end = next + c.min-length.result in
+    let old = c.loop-next.self in
+    let new = c.mark_rows.new.self in
+    record {
+      least = omega (arith, c.loop-next.invariant.least);
+      added = more_numbers row_of (around b) c.args.self.now next end old new (omega arith) c.loop-next.invariant.added
+          (subst (λ n. Adds (between_numbers row_of (is_component_around (cell_on c.args.map.now) c.args.p n) next end) old new)
+          c.from-steps.ensures c.in_ok-mark_rows.ensures.marked);
+    }
 
 pub returns-clause-marked : goal.returns-clause-marked
 returns-clause-marked c =
-    let b = (goal.at.returns-clause-marked c).After-end_within-y-end in
-    (all_numbers layer_of (is_component_around (cell_on c.args.map.now) c.args.p c.args.steps) c.args.self.now c.loop-y.y c.loop-y.self
-    c.loop-y.invariant
+    let b = (goal.at.returns-clause-marked c).After-least_within-next in
+    (all_numbers row_of (around b) c.args.self.now c.loop-next.next c.loop-next.self c.loop-next.invariant.added
     (λ q inside near. omega (
       arith,
       end b,
-      c.loop-y-test.false,
-      (near_layer (cell_on c.args.map.now) c.args.self.now.sizes c.args.p c.args.steps q inside
-          c.layers-count.result (many b) near).1,
+      c.loop-next-test.false,
+      (near_row (stands b) c.args.self.now.sizes c.args.p c.args.steps q inside c.rows-count.result (many b) near).1,
     ))).marked

@@ -12,12 +12,12 @@ use Rattle.vx_places.proofs.places.Places.mark_from.Goals as goal
 use Rattle.vx_places.proofs.places.Places.mark_from.Goals.{After-sector_cells-count, After-index_mut}
 
 -- the number of the sector
-number_is : (c : After-sector_cells-count) → c.sector_holding-number.result ≡ sector_number c.self.inside.bounds c.args.p
-number_is c = c.sector_holding-number.ensures
+number_is : (c : After-sector_cells-count) → c.args.sector ≡ sector_number c.self.inside.bounds c.args.p
+number_is c = rw (← c.self.view_is) at c.requires.number
 
 near : (c : After-sector_cells-count) → sector_number c.self.inside.bounds c.args.p < length c.self.inside.sectors.items
 near c =
-    let inside = rw (← c.self.view_is) at c.requires in
+    let inside = rw (← c.self.view_is) at c.requires.inside in
     let low = number_below c.self.inside.bounds c.args.p c.self.invariant.valid inside in
     omega (arith, low, c.self.invariant.all)
 
@@ -31,19 +31,19 @@ mark_in-requires-clause-count c =
     omega (arith, c.sector_cells-count.ensures, all_sections c.self.inside.bounds c.self.invariant.valid)
 
 -- the marks that are changed are those of that sector
-read : (c : After-index_mut) → sector_number c.self.inside.bounds c.args.p < length c.self.inside.sectors.items
+read : (c : After-index_mut) → c.args.sector ≡ sector_number c.self.inside.bounds c.args.p
+    → sector_number c.self.inside.bounds c.args.p < length c.self.inside.sectors.items
     → c.index_mut.result.now ≡ get_or c.self.inside.sectors.items (sector_number c.self.inside.bounds c.args.p) None
-read c low =
+read c is low =
     let items = c.self.inside.sectors.items in
-    let is = c.sector_holding-number.ensures in
-    get_or_read items c.sector_holding-number.result c.index_mut.result.now (omega (arith, is, low)) c.index_mut.ensures.value None
+    get_or_read items c.args.sector c.index_mut.result.now (omega (arith, is, low)) c.index_mut.ensures.value None
     ∙ ap (λ k. get_or items k None) is
 
 pub mark_in-requires-clause-room : goal.mark_in-requires-clause-room
 mark_in-requires-clause-room c =
     let at = goal.at.mark_in-requires-clause-room c in
     subst (λ n. HasRoom n c.index_mut.result.now) (sym c.sector_cells-count.ensures)
-    (subst (HasRoom (sector_cells c.self.inside.bounds)) (sym (read at.After-index_mut (near at.After-sector_cells-count)))
+    (subst (HasRoom (sector_cells c.self.inside.bounds)) (sym (read at.After-index_mut (number_is at.After-sector_cells-count) (near at.After-sector_cells-count)))
     (c.self.invariant.each (sector_number c.self.inside.bounds c.args.p)))
 
 pub returns-clause-marked : goal.returns-clause-marked
@@ -61,6 +61,6 @@ returns-clause-marked c =
           ≡ (is_at (record { sizes = v; marks = items }) q || (is_inside v q && in_run_from v c.args.p c.args.bits q)))
           (sym (number_is b))
           (run_marked v items c.args.p c.args.bits new (near b)
-          (λ i. changed i ∙ (λ t. marked_in (read at.After-index_mut (near b) t) i || in_run (index t) c.args.bits i)));
+          (λ i. changed i ∙ (λ t. marked_in (read at.After-index_mut (number_is b) (near b) t) i || in_run (index t) c.args.bits i)));
     })
     c.mark_in.ensures.marked)

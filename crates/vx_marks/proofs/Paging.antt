@@ -1,12 +1,12 @@
 -- Marks in pages: the mark of an index among all is one of its page, and a page that changes changes
 -- the marks of its own indices alone.
-use Rattle.std.proofs.Common.{◌≡◌, ◌≢◌, ℕ, zero, suc, ◌+◌, ◌-◌, ◌*◌, ◌/◌, ◌%◌, ◌^◌, ◌<◌, ◌≤◌, Bool, false, ◌&&◌, ◌||◌, if◌then◌else◌, List, [], ◌∷◌, ◌++◌, length, get_or, set, replicate, Option, Some, None, option_map, nat_eq, nat_lt, nat_le, inl, inr, refl, ap, sym, ◌∙◌, arith}
+use Rattle.std.proofs.Common.{◌≡◌, ◌≢◌, ℕ, zero, suc, ◌+◌, ◌-◌, ◌*◌, ◌/◌, ◌%◌, ◌^◌, ◌<◌, ◌≤◌, Bool, false, ◌&&◌, ◌||◌, if◌then◌else◌, List, [], ◌∷◌, ◌++◌, length, get_or, set, replicate, Option, Some, None, option_map, nat_eq, nat_le, inl, inr, refl, ap, sym, ◌∙◌, arith}
 use Rattle.std.specs.List.{flat_map}
 use Rattle.std.proofs.Math.Bool.{or-false}
-use Rattle.std.proofs.lemmas.Bool.{cases_lt, cases_eq, and_left, eq-eqb, ne_eqb, le-ltb, le-leb, lt-leb}
+use Rattle.std.proofs.lemmas.Bool.{cases_lt, cases_eq, and_left, eq-eqb, ne_eqb, le-leb, lt-leb}
 use Rattle.std.proofs.lemmas.List.{length-append, length-set, length-replicate, get_or_past, get_or-set_same, get_or-set_other, get_or_append_left, get_or-append-add, replicate-append-replicate}
 use Rattle.std.proofs.lemmas.List.Elements.{All-set, All-replicate}
-use Rattle.vx_marks.specs.Marks.{is_set, is_marked, IsFirst, IsFirstMarked, AreUnmarked, IsMarkSet, AreBits, in_run, IsRunMarked}
+use Rattle.vx_marks.specs.Marks.{is_set, is_marked, IsFirst, IsFirstMarked, AreUnmarked, IsMarkSet, in_run, IsRunMarked}
 use Rattle.vx_marks.specs.Pages.{joined, AreWhole, ArePages}
 use Rattle.vx_marks.specs.declared.page.TheConstants.{PAGE}
 use Rattle.vx_marks.proofs.WordBits.{unset}
@@ -190,17 +190,6 @@ module _ {X : Type 0} (f : X → List ℕ) (pages : List X) (are : ArePages f pa
             | inr on ↦ first.3 i on high
           ],
         )
-
-    -- which of so many indices of one word are marked in it
-    pub bits_of_page : (first count bits : ℕ) → n ≡ first / PAGE → first % 64 + count ≤ 64
-        → AreBits (f page) (first % PAGE) count bits → AreBits (joined f pages) first count bits
-    bits_of_page first count bits is within told k = told k ∙ elim (cases_lt k count) [
-      | inl low ↦
-          let at : (first + k) % PAGE ≡ first % PAGE + k = omega arith in
-          ap (λ b. nat_lt k count && b)
-          (ap (is_marked (f page)) (sym at) ∙ sym (mark_of_page (first + k) (omega (arith, is))))
-      | inr high ↦ let past = le-ltb k count high in and_left _ _ past ∙ sym (and_left _ _ past)
-    ]
 
     -- one mark of the page changes, and so does that one among all
     module _ (new : X) (index : ℕ) (marked : Bool) (is : n ≡ index / PAGE)

@@ -374,7 +374,10 @@ impl Places {
         self.soundness();
         let mut found = Vec::new(alloc);
         for sector in 0..self.bounds().sectors() {
-            let mut places = self.in_sector(alloc, sector)?;
+            let Some(marks) = self.marks_of(sector) else {
+                continue;
+            };
+            let mut places = marked_places(alloc, self.bounds, sector, marks)?;
             found.append(&mut places)?;
         }
         Ok(found)

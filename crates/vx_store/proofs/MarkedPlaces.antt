@@ -1,5 +1,5 @@
 -- What is marked in a sector, in the order of its positions.
-use Rattle.std.proofs.Common.{◌≡◌, ℕ, nat_lt, length, zero, suc, ◌+◌, ◌-◌, ◌*◌, ◌<◌, ◌≤◌, Bool, true, false, List, [], ◌∷◌, ◌++◌, cond, Option, Some, None, is_some, refl, ap, sym, ◌∙◌, arith, append_assoc, append-nil}
+use Rattle.std.proofs.Common.{◌≡◌, ℕ, nat_lt, length, zero, suc, ◌+◌, ◌-◌, ◌*◌, ◌<◌, ◌≤◌, Bool, true, false, List, [], ◌∷◌, ◌++◌, cond, Option, Some, None, is_some, true≢false, refl, ap, sym, ◌∙◌, arith, append_assoc, append-nil}
 use Rattle.std.proofs.lemmas.Bool.{lt-ltb}
 use Rattle.std.specs.List.{filter}
 use Rattle.vx_geom.specs.declared.pos.Pos.{Pos}
@@ -94,6 +94,11 @@ module _ (v : Sizes) (k : ℕ) (words : List ℕ) (sizes : AreSizes v) (low : k 
       let here = passed v k marked gap 0 gap from to (omega arith) (omega arith)
       (λ j least less. marked_there j false (none j least (omega (arith, room)))) in
       sym (append-nil found) ∙ ap (λ ps. found ++ ps) (sym here) ∙ so_far
+
+  -- where no index is marked there are none
+  pub none_found : (found : Option ℕ) → IsFirstMarked words 0 found → is_some found ≡ false → [] ≡ marked_places v k words
+  none_found None none empty = found_all 0 [] (omega arith) found_first none
+  none_found (Some i) first empty = absurd (true≢false empty)
 
   -- an index is marked exactly where a position is found
   pub some_marked : (found : Option ℕ) → IsFirstMarked words 0 found

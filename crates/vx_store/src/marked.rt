@@ -23,6 +23,9 @@ pub fn marked_places(
     places_in_order(alloc, bounds, sector, marks)
 }
 
+// Few places are marked in most sectors: there is room for so many at once.
+const FIRST_ROOM: usize = 64;
+
 /// The positions of a sector whose indices are marked, by whatever finds its marks in order. It
 /// costs what is marked, and what it takes to pass over the rest.
 pub fn places_in_order<M: InOrder>(
@@ -37,7 +40,10 @@ pub fn places_in_order<M: InOrder>(
         found.items ≡ marked_places bounds sector (M.words marks.now)) }
 {
     bounds.soundness();
-    let mut found = Vec::new(alloc);
+    if marks.next_from(0).is_none() {
+        return Ok(Vec::new(alloc));
+    }
+    let mut found = Vec::with_capacity(alloc, FIRST_ROOM)?;
     let mut from = 0;
     while let Some(index) = marks.next_from(from) {
         let Ok(()) = found.push(bounds.position_in_sector(sector, index)) else {

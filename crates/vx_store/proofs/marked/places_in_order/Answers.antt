@@ -1,6 +1,12 @@
-use Rattle.std.proofs.Common.{◌++◌, ap, ◌∙◌, arith}
-use Rattle.vx_store.proofs.MarkedPlaces.{left_from, found_first, found_on, found_all}
+use Rattle.std.proofs.Common.{◌++◌, not, ap, ◌∙◌, arith}
+use Rattle.vx_store.proofs.MarkedPlaces.{left_from, found_first, found_on, found_all, none_found}
 use Rattle.vx_store.proofs.marked.places_in_order.Goals as goal
+
+pub returns-then-is_none : goal.returns-then-is_none
+returns-then-is_none g c =
+    c.new.ensures.items
+    ∙ none_found c.args.bounds c.args.sector (g.M.InOrder.words c.args.marks.now) c.soundness.ensures c.requires.sector c.requires.room
+    c.next_from.result c.next_from.ensures (c.is_none.ensures ∙ ap not c.if-is_none.true)
 
 pub loop-index-init : goal.loop-index-init
 loop-index-init g c =
@@ -9,7 +15,7 @@ loop-index-init g c =
     let words = g.M.InOrder.words c.args.marks.now in
     record {
       within = omega arith;
-      all = ap (λ ps. ps ++ left_from v k words 0) c.new-found.ensures.items
+      all = ap (λ ps. ps ++ left_from v k words 0) c.in_ok-found.ensures.items
           ∙ found_first v k words c.soundness.ensures c.requires.sector c.requires.room;
     }
 

@@ -210,11 +210,12 @@ impl Places {
             return Ok(());
         };
         let bounds = self.bounds();
+        let there = cells.bounds();
         let sector = bounds.sector_holding(corner);
         let count = layers(bounds).min(layers(map.bounds()));
         let first = least_within(p.y, steps, count);
         for y in first..end_within(p.y, steps, count) {
-            self.mark_layer(alloc, cells, p, steps, area, sector, y)?;
+            self.mark_layer(alloc, cells, there, p, steps, area, sector, y)?;
         }
         Ok(())
     }
@@ -226,6 +227,7 @@ impl Places {
         &mut self,
         alloc: Global,
         cells: &Cells,
+        bounds: Bounds,
         p: Pos,
         steps: u32,
         area: Area,
@@ -237,16 +239,16 @@ impl Places {
         requires near { unsigned_abs (p.y -ℤ pos y) ≤ steps }
         requires here { IsPart self.old.sizes area }
         requires number { IsSector self.old.sizes area sector }
-        requires there { IsPart cells.now.bounds area }
-        requires held { y < cells.now.bounds.h }
-        requires sector { IsSector cells.now.bounds area cells.now.sector }
+        requires size { bounds ≡ cells.now.bounds }
+        requires there { IsPart bounds area }
+        requires held { y < bounds.h }
+        requires sector { IsSector bounds area cells.now.sector }
         ensures sizes { self.new.sizes ≡ self.old.sizes }
         ensures marked { OnOk result (Adds (at_number layer_of
             (in_area (is_component_around (cell_at cells.now) p steps) area) y)
             self.old self.new) }
     {
         self.soundness();
-        let bounds = cells.bounds();
         bounds.soundness();
         let Some(page) = cells.components_in_layer(y) else {
             return Ok(());

@@ -138,7 +138,7 @@ pub mark_layer-requires-clause-there : goal.mark_layer-requires-clause-there
 mark_layer-requires-clause-there c =
     let b = (goal.at.mark_layer-requires-clause-there c).After-sector_of in
     let is = sector_there b c.in-Some.cells.now (ap option_copied c.in-Some.is) in
-    subst (λ v. IsPart v c.args.area) (sym is.size)
+    subst (λ v. IsPart v c.args.area) (sym (c.bounds-there.ensures ∙ is.size))
     (part_from c.args.map.now.sizes c.soundness-2.ensures.valid c.args.area c.requires.there is.inside)
 
 pub mark_layer-requires-clause-held : goal.mark_layer-requires-clause-held
@@ -148,13 +148,13 @@ mark_layer-requires-clause-held c =
     let is = sector_there at.After-sector_of c.in-Some.cells.now (ap option_copied c.in-Some.is) in
     let low = below_end c.args.p.y c.args.steps c.min-count.result c.loop-y.y
     (omega (arith, c.loop-y-test.true, end b)) in
-    omega (arith, low, c.min-count.ensures, there b, ap (λ (v : Sizes). v.h) is.size)
+    omega (arith, low, c.min-count.ensures, there b, ap (λ (v : Sizes). v.h) (c.bounds-there.ensures ∙ is.size))
 
 pub mark_layer-requires-clause-sector : goal.mark_layer-requires-clause-sector
 mark_layer-requires-clause-sector c =
     let b = (goal.at.mark_layer-requires-clause-sector c).After-sector_of in
     let is = sector_there b c.in-Some.cells.now (ap option_copied c.in-Some.is) in
-    is.number ∙ ap (λ v. sector_number v (place c.args.area.west 0 c.args.area.north)) (sym is.size)
+    is.number ∙ ap (λ v. sector_number v (place c.args.area.west 0 c.args.area.north)) (sym (c.bounds-there.ensures ∙ is.size))
 
 pub loop-y-preserved : goal.loop-y-preserved
 loop-y-preserved c =

@@ -1,14 +1,14 @@
-use Rattle.std.proofs.Common.{ℕ, List, Bool, ◌≡◌, ◌+◌, ◌-◌, true, max, FitsSigned, Some, pos, ◌-ℤ◌, unsigned_abs, ap, sym, subst, ◌∙◌, arith, rules}
+use Rattle.std.proofs.Common.{ℕ, List, Bool, ◌≡◌, ◌+◌, ◌-◌, ◌<◌, true, max, FitsSigned, Some, pos, ◌-ℤ◌, unsigned_abs, ap, sym, subst, ◌∙◌, arith, rules}
 use Rattle.std.specs.Int.{w32}
 use Rattle.std.specs.Option.{option_copied}
 use Rattle.std.proofs.lemmas.Int.{to_z-of_z}
 use Rattle.vx_block.specs.Components.{is_component}
 use Rattle.vx_geom.specs.declared.pos.Pos.{Pos}
-use Rattle.vx_geom.specs.Sizes.{AreSizes, is_inside}
+use Rattle.vx_geom.specs.Sizes.{Sizes, AreSizes, is_inside}
 use Rattle.vx_geom.proofs.SectorLemmas.{inside_at}
 use Rattle.vx_cells.specs.Listed.{place, AreInLayer}
 use Rattle.vx_cells.specs.SectorCells.{holds, cell_at}
-use Rattle.vx_places.specs.Areas.{IsColumnOf, in_area, marked_by}
+use Rattle.vx_places.specs.Areas.{IsColumnOf, IsPart, IsSector, in_area, marked_by}
 use Rattle.vx_places.specs.Around.{is_such_around, at_number, layer_of, row_of, column_of, least_within, end_within}
 use Rattle.vx_places.proofs.Adding.{adds_same, adds_none, none_below, one_number, all_numbers}
 use Rattle.vx_places.proofs.Areas.{area_held}
@@ -24,10 +24,12 @@ place_is c q inside layer = place_of c.args.self.now.sizes q inside ∙ ap (λ y
 is_held : (c : After-components_in_layer) (q : Pos) → is_inside c.args.self.now.sizes q ≡ true
     → IsColumnOf c.args.area (column_of q) (row_of q) → layer_of q ≡ c.args.y → holds c.args.cells.now q ≡ true
 is_held c q inside of layer =
-    let sizes : AreSizes c.args.cells.now.bounds = subst AreSizes c.bounds-bounds.ensures c.soundness-2.ensures in
+    let size = c.requires.size in
     ap (holds c.args.cells.now) (place_is c q inside layer)
-    ∙ area_held c.args.cells.now sizes c.args.area c.requires.there c.requires.sector (column_of q) c.args.y (row_of q) of
-    c.requires.held
+    ∙ area_held c.args.cells.now (subst AreSizes size c.soundness-2.ensures) c.args.area
+    (subst (λ v. IsPart v c.args.area) size c.requires.there)
+    (subst (λ v. IsSector v c.args.area c.args.cells.now.sector) size c.requires.sector) (column_of q) c.args.y (row_of q) of
+    (subst (λ (v : Sizes). c.args.y < v.h) size c.requires.held)
 
 layer_is : (c : After-components_in_layer) (q : Pos) → is_inside c.args.self.now.sizes q ≡ true → layer_of q ≡ c.args.y
     → q.y ≡ pos c.args.y
@@ -48,9 +50,9 @@ returns-in_default-clause-marked c =
 -- which the marks of the page tell
 told : (c : After-components_in_layer) (page : List ℕ) → AreInLayer (stands c) c.args.cells.now c.args.y (Some page)
     → (q : Pos) → is_inside c.args.self.now.sizes q ≡ true → IsColumnOf c.args.area (column_of q) (row_of q) → layer_of q ≡ c.args.y
-    → marked_by page c.bounds-bounds.result q ≡ stands c q
+    → marked_by page c.args.bounds q ≡ stands c q
 told c page are q inside of layer =
-    ap (λ v. marked_by page v q) c.bounds-bounds.ensures ∙ sym (are q (is_held c q inside of layer) (layer_is c q inside layer))
+    ap (λ v. marked_by page v q) c.requires.size ∙ sym (are q (is_held c q inside of layer) (layer_is c q inside layer))
 
 pub returns-then-not-may_have_marks-clause-marked : goal.returns-then-not-may_have_marks-clause-marked
 returns-then-not-may_have_marks-clause-marked c =
@@ -60,7 +62,7 @@ returns-then-not-may_have_marks-clause-marked c =
     adds_none _ c.args.self.now
     (λ q inside. none_in_layer (stands b) c.args.self.now.sizes c.args.p c.args.steps q inside c.args.area c.args.y
     (λ of layer. sym (told b page are q inside of layer)
-    ∙ ap (marked_by page c.bounds-bounds.result) (place_is b q inside layer)
+    ∙ ap (marked_by page c.args.bounds) (place_is b q inside layer)
     ∙ c.may_have_marks.ensures c.if-not-may_have_marks.true (column_of q) (row_of q) of))
 
 -- how many steps are left in the layer
@@ -89,7 +91,7 @@ end c =
 
 -- the test by which positions of the layer are added
 abbrev in_page : After-end_within-z-end → Pos → Bool
-in_page c = marked_by c.in-Some.page.now c.bounds-bounds.result
+in_page c = marked_by c.in-Some.page.now c.args.bounds
 
 abbrev layer : After-end_within-z-end → Pos → Bool
 layer c = at_number layer_of (in_area (is_such_around (in_page c) c.args.p c.args.steps) c.args.area) c.args.y

@@ -72,32 +72,30 @@ module _ (words filled : List ℕ) (from : ℕ) (held : AreFilled words filled)
         ],
       )
 
--- which of the words are filled, from that of one index to that of another, a bit for each
-module _ (words filled : List ℕ) (first last bits : ℕ) (held : AreFilled words filled)
-    (are : AreBits filled (first / 64) (last / 64 + 1 - first / 64) bits) where
-  -- without a bit no word has a mark
-  pub all_blank : bits ≡ 0 → AreBlank words first last
+-- which of so many words from one on are filled, a bit for each
+module _ (words filled : List ℕ) (word count bits : ℕ) (held : AreFilled words filled)
+    (are : AreBits filled word count bits) where
+  -- without a bit none of them has a mark
+  pub all_blank : bits ≡ 0 → AreBlank words word count
   all_blank none k low high =
-      let n = k - first / 64 in
-      let at : first / 64 + n ≡ k = omega (arith, low) in
+      let n = k - word in
+      let at : word + n ≡ k = omega (arith, low) in
       let unset_there : is_marked filled k ≡ false =
       ap (is_marked filled) (sym at)
-      ∙ ap (λ b. b && is_marked filled (first / 64 + n))
-      (sym (lt-ltb n (last / 64 + 1 - first / 64) (omega (arith, low, high))))
+      ∙ ap (λ b. b && is_marked filled (word + n)) (sym (lt-ltb n count (omega (arith, low, high))))
       ∙ sym (are n) ∙ ap (λ w. is_set w n) none ∙ unset n in
       let empty = ltb-false 0 _ (sym (held.each k) ∙ unset_there) in omega (arith, empty)
 
   -- with one some word has
-  pub not_blank : 0 < bits → bits < 2 ^ 64 → AreBlank words first last → ⊥
+  pub not_blank : 0 < bits → bits < 2 ^ 64 → AreBlank words word count → ⊥
   not_blank some fits blank =
       let n = trailing_zeros w64 bits in
-      let both = and_parts (nat_lt n (last / 64 + 1 - first / 64)) _
-      (sym (are n) ∙ (lowest_is_first bits fits some).2) in
-      let low = ltb-true n (last / 64 + 1 - first / 64) both.0 in
-      let full = ltb-true 0 _ (sym (held.each (first / 64 + n)) ∙ both.1) in
-      omega (arith, full, blank (first / 64 + n) (omega arith) (omega (arith, low)))
+      let both = and_parts (nat_lt n count) _ (sym (are n) ∙ (lowest_is_first bits fits some).2) in
+      let low = ltb-true n count both.0 in
+      let full = ltb-true 0 _ (sym (held.each (word + n)) ∙ both.1) in
+      omega (arith, full, blank (word + n) (omega arith) (omega (arith, low)))
 
--- no index is marked whose word has no mark
-pub blank_unmarked : (words : List ℕ) (first last i : ℕ) → AreBlank words first last → first ≤ i → i ≤ last
+-- no index of such a word is marked
+pub blank_unmarked : (words : List ℕ) (word count i : ℕ) → AreBlank words word count → word ≤ i / 64 → i / 64 < word + count
     → is_marked words i ≡ false
-blank_unmarked words first last i blank low high = unmarked words i (blank (i / 64) (omega arith) (omega arith))
+blank_unmarked words word count i blank low high = unmarked words i (blank (i / 64) low high)

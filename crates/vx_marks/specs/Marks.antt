@@ -38,10 +38,10 @@ pub record IsMarkSet (old new : List ℕ) (index : ℕ) (marked : Bool) : Type 0
   pub long : length new ≡ length old
   pub each : (i : ℕ) → is_marked new i ≡ (if nat_eq i index then marked else is_marked old i)
 
--- no word has a mark, from that of one index to that of another
+-- none of so many words from one on has a mark
 abbrev pub AreBlank : List ℕ → ℕ → ℕ → Type 0
-AreBlank words first last =
-    (k : ℕ) → first / 64 ≤ k → k ≤ last / 64 → slice_index_or words k 0 ≡ 0
+AreBlank words word count =
+    (k : ℕ) → word ≤ k → k < word + count → slice_index_or words k 0 ≡ 0
 
 -- which of so many indices from one on are marked, a bit for each
 abbrev pub AreBits : List ℕ → ℕ → ℕ → ℕ → Type 0

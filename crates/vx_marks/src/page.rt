@@ -84,17 +84,15 @@ impl Page {
         Some(words::first_of_word(&self.words, word))
     }
 
-    /// Whether one of the words of 64 has a mark, from that of one index to that of another. It looks
-    /// at none of them.
+    /// Whether one of so many words of 64, from that one on, has a mark. It looks at none of them.
     #[inline(always)]
-    pub fn has_marks_between(&self, first: u32, last: u32) -> bool
-        requires order { first ≤ last }
-        requires inside { last < PAGE }
-        requires few { last / 64 < first / 64 + 63 }
-        ensures { result ≡ false ↔ AreBlank self.now first last }
+    pub fn has_marks_in(&self, word: u32, count: u32) -> bool
+        requires inside { word < 64 }
+        requires few { count < 64 }
+        requires within { word + count ≤ 64 }
+        ensures { result ≡ false ↔ AreBlank self.now word count }
     {
-        let word = first / 64;
-        words::run(&self.filled, word, last / 64 + 1 - word) > 0
+        words::run(&self.filled, word, count) > 0
     }
 
     /// Which of so many indices from this one on are marked, a bit for each; all of them lie in its

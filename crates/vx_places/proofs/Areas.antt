@@ -1,5 +1,5 @@
 -- Columns and rows that lie in one sector: their positions are of it, and their indices.
-use Rattle.std.proofs.Common.{◌≡◌, ℕ, ◌+◌, ◌-◌, ◌*◌, ◌/◌, ◌%◌, ◌<◌, ◌≤◌, List, true, false, true≢false, nat_eq, if◌then◌else◌, Option, Some, None, inl, inr, refl, ap, sym, ◌∙◌, arith}
+use Rattle.std.proofs.Common.{◌≡◌, ℕ, ◌+◌, ◌-◌, ◌*◌, ◌/◌, ◌%◌, ◌<◌, ◌≤◌, List, true, false, true≢false, nat_eq, if◌then◌else◌, Option, Some, None, inl, inr, refl, ap, sym, subst, ◌∙◌, arith}
 use Rattle.std.specs.Option.{option_map_or}
 use Rattle.std.proofs.lemmas.Bool.{cases_Bool, eq-eqb, false_from_ne_true}
 use Rattle.std.proofs.lemmas.Nat.{mul-le}
@@ -14,6 +14,7 @@ use Rattle.vx_cells.specs.SectorCells.{SectorCells, holds}
 use Rattle.vx_cells.proofs.Indices.{numbered}
 use Rattle.vx_cells.proofs.MapLemmas.{placed_at, outside_is_air}
 use Rattle.vx_cells.proofs.Rows.{later_column, layer_page}
+use Rattle.vx_cells.proofs.Sectioned.{side_is}
 use Rattle.vx_marks.specs.Marks.{AreBlank}
 use Rattle.vx_marks.specs.declared.page.TheConstants.{PAGE}
 use Rattle.vx_marks.proofs.Marking.{blank_unmarked}
@@ -38,6 +39,29 @@ also_below w n x c wide same low =
 no_sector : (v : Sizes) (p : Pos) → is_inside v p ≡ false → sector_of v p ≡ None
 unfolding sector_of
 no_sector v p outside = ap (λ b. if b then Some (sector_number v p) else None) outside
+
+-- the word of an index in its page, by that of the place below it in the lowest layer
+word_16 : (a b y : ℕ) → a < 16 → b < 16
+    → 16 * 16 / 64 * y % 64 + (a + 16 * (b + 16 * 0)) / 64 ≡ (a + 16 * (b + 16 * y)) % PAGE / 64
+word_16 a b y low_a low_b = omega arith
+
+word_32 : (a b y : ℕ) → a < 32 → b < 32
+    → 32 * 32 / 64 * y % 64 + (a + 32 * (b + 32 * 0)) / 64 ≡ (a + 32 * (b + 32 * y)) % PAGE / 64
+word_32 a b y low_a low_b = omega arith
+
+abbrev HasWord : ℕ → ℕ → ℕ → ℕ → Type 0
+HasWord w a b y = a < w → b < w → w * w / 64 * y % 64 + (a + w * (b + w * 0)) / 64 ≡ (a + w * (b + w * y)) % PAGE / 64
+
+word_of : (v : Sizes) → AreSizes v → (x y z : ℕ)
+    → span v * span v / 64 * y % 64 + index_in_sector v (place x 0 z) / 64 ≡ index_in_sector v (place x y z) % PAGE / 64
+unfolding index_in_sector
+word_of v sizes x y z =
+    let some : 0 < span v = omega (arith, sizes.s_least) in
+    let has : HasWord (span v) (x % span v) (z % span v) y = elim (side_is v.s sizes.s_least sizes.s_most) [
+      | inl one ↦ subst (λ k. HasWord (16 * k) (x % span v) (z % span v) y) (sym one) (word_16 (x % span v) (z % span v) y)
+      | inr two ↦ subst (λ k. HasWord (16 * k) (x % span v) (z % span v) y) (sym two) (word_32 (x % span v) (z % span v) y)
+    ] in
+    has (omega (arith, some)) (omega (arith, some))
 
 module _ (v : Sizes) (sizes : AreSizes v) (area : Area) where
   module _ (one : LiesInOne v area) (x z : ℕ) (of : IsColumnOf area x z) where
@@ -158,18 +182,35 @@ module _ (v : Sizes) (sizes : AreSizes v) (area : Area) where
       one_page =
           layer_page v (place area.west y area.north) sizes ∙ sym (layer_page v (place (area.east - 1) y (area.south - 1)) sizes)
 
-      pub in_order : first % PAGE ≤ last % PAGE
-      in_order = omega (arith, last_is, one_page)
+      -- their words, and those of the lowest layer
+      abbrev pub low_word : ℕ
+      low_word = index_in_sector v (place area.west 0 area.north) / 64
 
-      -- they are few words apart
-      pub few_words : last % PAGE / 64 < first % PAGE / 64 + 63
+      abbrev pub low_end : ℕ
+      low_end = index_in_sector v (place (area.east - 1) 0 (area.south - 1)) / 64 + 1
+
+      abbrev pub layer : ℕ
+      layer = span v * span v / 64 * y % 64
+
+      first_word : layer + low_word ≡ first % PAGE / 64
+      first_word = word_of v sizes area.west y area.north
+
+      last_word : layer + low_end ≡ last % PAGE / 64 + 1
+      last_word = omega (arith, word_of v sizes (area.east - 1) y (area.south - 1))
+
+      -- are few, and of one page
+      pub few_words : (layer + low_word < 64) × (low_word < low_end) × (low_end < low_word + 64) × (layer + low_end ≤ 64)
       few_words =
           let most = mul-le (span v) (area.south - 1 - area.north) 32 31
-          (omega (arith, sizes.s_most)) (omega (arith, part.one.rows, part.one.long, sizes.s_most)) in
-          omega (arith, last_is, one_page, most, part.one.columns, part.one.wide, sizes.s_most)
+          (omega (arith, sizes.s_most)) (omega (arith, part.one.rows, part.one.long, sizes.s_most)) in (
+            omega (arith, first_word),
+            omega (arith, first_word, last_word, last_is, one_page),
+            omega (arith, first_word, last_word, last_is, one_page, most, part.one.columns, part.one.wide, sizes.s_most),
+            omega (arith, last_word),
+          )
 
       -- where none of these words has a mark there is none in the area
-      pub none_between : (page : List ℕ) → AreBlank page (first % PAGE) (last % PAGE)
+      pub none_between : (page : List ℕ) → AreBlank page (layer + low_word) (low_end - low_word)
           → (x z : ℕ) → IsColumnOf area x z → marked_by page v (place x y z) ≡ false
       none_between page blank x z of =
           let index = index_in_sector v (place x y z) in
@@ -178,8 +219,8 @@ module _ (v : Sizes) (sizes : AreSizes v) (area : Area) where
           let rows = mul-le (span v) (z - area.north) (span v) (area.south - 1 - area.north) (omega arith)
           (omega (arith, of.north, of.south)) in
           let before : index ≤ last = omega (arith, is, last_is, rows, of.west, of.east) in
-          blank_unmarked page (first % PAGE) (last % PAGE) (index % PAGE) blank
-          (omega (arith, is, same)) (omega (arith, before, same, one_page))
+          blank_unmarked page (layer + low_word) (low_end - low_word) (index % PAGE) blank
+          (omega (arith, is, same, first_word)) (omega (arith, before, same, one_page, last_word, few_words.1))
 
 -- a sector that has the first of them has all of them
 pub area_held : (c : SectorCells) → AreSizes c.bounds → (area : Area) → IsPart c.bounds area → IsSector c.bounds area c.sector

@@ -410,12 +410,12 @@ fn may_have_marks(page: &Page, bounds: Bounds, area: Area, y: u32) -> bool
         → marked_by page.now bounds (place x y z) ≡ false }
 {
     bounds.soundness();
-    let first = Pos::new(area.west as i32, y as i32, area.north as i32);
-    let last = Pos::new((area.east - 1) as i32, y as i32, (area.south - 1) as i32);
-    page.has_marks_between(
-        bounds.index_in_sector(first) % PAGE,
-        bounds.index_in_sector(last) % PAGE,
-    )
+    let first = Pos::new(area.west as i32, 0, area.north as i32);
+    let last = Pos::new((area.east - 1) as i32, 0, (area.south - 1) as i32);
+    let word = bounds.index_in_sector(first) / 64;
+    let count = bounds.index_in_sector(last) / 64 + 1 - word;
+    let layer = bounds.span() * bounds.span() / 64 * y % 64;
+    page.has_marks_in(layer + word, count)
 }
 
 // Whether nothing was ever marked in any of these sectors.

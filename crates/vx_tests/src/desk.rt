@@ -1,5 +1,6 @@
 //! The desk, alone and shared by threads.
-ghost use Rattle.std.specs.Prelude.{◌≡◌};
+ghost use Rattle.std.specs.Prelude.{◌≡◌, ◌<◌, ◌≤◌};
+ghost use Rattle.vx_board.specs.declared.desk.TheConstants.{MAX_VIEWS};
 
 use crate::same::same;
 use crate::{beside, views};
@@ -81,12 +82,24 @@ enum Day {
     ByTwo,
     /// Views explain what they have seen.
     Viewed,
-    /// There are as many views as may be.
-    Filled,
+    /// The desk may have so many views, and has them.
+    Filled(usize),
     /// A view explains while an edit is under way, among many regions.
     Beside,
     /// What memory was refused to is called again.
     MadeAgain,
+}
+
+impl Day {
+    // How many views the desk may have.
+    fn views(self) -> usize
+        ensures { (0 < result) × (result ≤ MAX_VIEWS) }
+    {
+        match self {
+            Day::Filled(views) => views.clamp(1, MAX_VIEWS),
+            _ => MAX_VIEWS,
+        }
+    }
 }
 
 // Opens a desk and spends the day at it.
@@ -108,7 +121,7 @@ fn spend_in<J: Board + Send + Sync, R: Threads + Wait + Abort + Sync>(
     requires first { policy ≡ J.first }
     requires edits { opened ≡ J.edits }
 {
-    let mut desk: Desk<J, &R> = Desk::new(rt, alloc, policy, opened, MAX_VIEWS)?;
+    let mut desk: Desk<J, &R> = Desk::new(rt, alloc, policy, opened, day.views())?;
     assert!(rt; desk.has_first());
     let mut view = desk.first_view();
     assert!(rt; !desk.has_first());
@@ -126,7 +139,7 @@ fn spent<J: Board + Send + Sync, R: Threads + Wait + Abort + Sync>(
         Day::Shown => show(rt, alloc, desk),
         Day::ByTwo => edited_by_two(rt, alloc, desk),
         Day::Viewed => views::viewed(rt, alloc, desk, view),
-        Day::Filled => views::filled(rt, alloc, desk),
+        Day::Filled(_) => views::filled(rt, alloc, desk, day.views()),
         Day::Beside => beside::explained_beside(rt, alloc, desk, view),
         Day::MadeAgain => views::made_again(rt, alloc, desk, view),
     }
@@ -148,8 +161,10 @@ fn views_explain_what_they_have_seen(rt: HostRuntime) -> Result<(), Fail> {
 }
 
 #[test]
-fn a_desk_has_so_many_views(rt: HostRuntime) -> Result<(), Fail> {
-    spend(&rt, rt.alloc(), Day::Filled)
+fn a_desk_has_as_many_views_as_it_was_told(rt: HostRuntime) -> Result<(), Fail> {
+    spend(&rt, rt.alloc(), Day::Filled(1))?;
+    spend(&rt, rt.alloc(), Day::Filled(2))?;
+    spend(&rt, rt.alloc(), Day::Filled(MAX_VIEWS))
 }
 
 #[test]

@@ -2,5 +2,4 @@ pub mod Adding
 pub mod Agreeing
 pub mod Keeping
 pub mod Mending
-pub mod Nearby
 pub mod Packing

@@ -15,7 +15,7 @@ use std::alloc::AllocError;
 use vx_block::Side;
 use vx_cells::Frozen;
 use vx_geom::Pos;
-use vx_power::{Leveled, dust_at, dust_over, dust_under};
+use vx_power::{Leveled, dust_at, dust_over, dust_under, place_beside, place_over, place_under};
 
 /// The links of dust at a position, 3 bits for each side.
 #[tactic(auto, using(vx_power::proofs::Stepping::dust_place))]
@@ -31,7 +31,7 @@ pub(crate) fn links_of(map: &Frozen<'_>, p: Pos) -> u16
     }
 }
 
-/// The same, wherever the position is.
+/// The links of dust at a position, 3 bits for each side, read cell by cell from the map.
 pub(crate) fn links_anywhere(map: &Frozen<'_>, p: Pos) -> u16
     requires { is_dust (cell_on map.now p) ≡ true }
     ensures links { linked result p ≡ links (cell_on map.now) p }
@@ -211,45 +211,4 @@ fn add_if_below(
         list.push(q)?;
     }
     Ok(())
-}
-
-/// The position beside one of the widest world on that side.
-#[tactic(auto, using(vx_base::proofs::Signed::signed))]
-pub(crate) fn place_beside(p: Pos, side: Side) -> Pos
-    requires { is_place p ≡ true }
-    ensures value { result ≡ beside p side }
-    ensures level { result.y ≡ p.y }
-{
-    match side {
-        Side::East => Pos { x: p.x + 1, ..p },
-        Side::West => Pos { x: p.x - 1, ..p },
-        Side::South => Pos { z: p.z + 1, ..p },
-        Side::North => Pos { z: p.z - 1, ..p },
-    }
-}
-
-/// The one over that.
-#[tactic(auto, using(vx_base::proofs::Signed::signed))]
-pub(crate) fn place_over(p: Pos, side: Side) -> Pos
-    requires { is_place p ≡ true }
-    ensures { result ≡ over (beside p side) }
-{
-    let next = place_beside(p, side);
-    Pos {
-        y: next.y + 1,
-        ..next
-    }
-}
-
-/// The one under it.
-#[tactic(auto, using(vx_base::proofs::Signed::signed))]
-pub(crate) fn place_under(p: Pos, side: Side) -> Pos
-    requires { is_place p ≡ true }
-    ensures { result ≡ under (beside p side) }
-{
-    let next = place_beside(p, side);
-    Pos {
-        y: next.y - 1,
-        ..next
-    }
 }

@@ -31,7 +31,7 @@ pub(crate) fn sight_at(map: &Frozen<'_>, p: Pos) -> Option<Sight>
     }
 }
 
-// The same, where one sector has all around the position.
+// What is seen of the dust there, read from the sector that has all around the position.
 #[inline(always)]
 #[tactic(auto, unfolding(vx_power::specs::Signals::is_fed), using(vx_power::proofs::Stepping::dust_place, vx_cells::proofs::Nearby::close_here))]
 fn sight_nearby(map: &Frozen<'_>, cells: &Cells, p: Pos) -> Option<Sight>
@@ -49,7 +49,7 @@ fn sight_nearby(map: &Frozen<'_>, cells: &Cells, p: Pos) -> Option<Sight>
     })
 }
 
-// The same, wherever the position is.
+// What is seen of the dust there, read cell by cell from the map.
 #[tactic(auto, unfolding(vx_power::specs::Signals::is_fed), using(vx_power::proofs::Stepping::dust_place))]
 fn sight_anywhere(map: &Frozen<'_>, p: Pos) -> Option<Sight>
     ensures some { IfSome result (IsSightOf (cell_on map.now) p) }

@@ -1,6 +1,7 @@
 pub mod Around
 pub mod Bare
 pub mod Carried
+pub mod Close
 pub mod Distant
 pub mod Feeders
 pub mod Feeding

@@ -42,7 +42,7 @@ pub fn is_bare(map: &Frozen<'_>, cells: &Cells, p: Pos, other: Pos) -> bool
     is_bare_row(map, cells, p, other, row + 1)
 }
 
-// The same of one row of that layer.
+// Whether none stands close to it in one row of that layer.
 #[inline(always)]
 fn is_bare_row(map: &Frozen<'_>, cells: &Cells, p: Pos, other: Pos, row: u32) -> bool
     requires around { HasAround map.now cells.now p }

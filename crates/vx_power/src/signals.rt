@@ -52,7 +52,7 @@ pub fn is_driven(map: &Frozen<'_>, p: Pos) -> bool
     }
 }
 
-// The same, where one sector has all around the position.
+// Whether some neighbor drives the conductor there, read from the sector that has all around it.
 // Direction by direction, so that each is compiled for itself.
 #[tactic(auto, unfolding(crate::specs::Signals::is_driven))]
 fn is_driven_within(map: &Frozen<'_>, cells: &Cells, p: Pos) -> bool
@@ -108,7 +108,7 @@ pub fn has_feeder(map: &Frozen<'_>, p: Pos) -> bool
     }
 }
 
-/// The same, where one sector has all around the position.
+/// Whether some neighbor feeds dust at a position, read from the sector that has all around it.
 #[tactic(auto, unfolding(crate::specs::Signals::has_feeder))]
 pub fn has_feeder_within(map: &Frozen<'_>, cells: &Cells, p: Pos) -> bool
     requires { HasAround map.now cells.now p }

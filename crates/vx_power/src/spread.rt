@@ -1,13 +1,15 @@
 //! How levels spread: from the dust that is fed, link by link.
-ghost use Rattle.std.specs.Prelude.{◌≡◌, ◌<◌, ◌≤◌, ◌+◌, ◌-◌, ◌&&◌, true, [], ◌∷◌, if◌then◌else◌, OnOk, IfOk, IfSome};
+ghost use Rattle.std.specs.Prelude.{◌≡◌, ◌<◌, ◌≤◌, ◌+◌, ◌-◌, ◌&&◌, true, false, [], ◌∷◌, if◌then◌else◌, OnOk, IfOk, IfSome};
 ghost use Rattle.std.specs.Option.{option_to_list};
+ghost use Rattle.vx_block.specs.Components.{is_dust};
 ghost use Rattle.vx_block.specs.Conductors.{conducts};
 ghost use Rattle.vx_cells.specs.Listed.{devices_on};
 ghost use Rattle.vx_cells.specs.Maps.{cell_on};
+ghost use Rattle.vx_cells.specs.Nearby.{HasAround};
 ghost use Rattle.vx_geom.specs.Neighbor.{neighbor};
 ghost use Rattle.vx_geom.specs.declared.pos.Pos.{Pos};
 ghost use Rattle.vx_geom.specs.Sizes.{sector_count};
-ghost use Rattle.vx_power.specs.Dust.{links, links_on};
+ghost use Rattle.vx_power.specs.Dust.{over, links, links_on, links_up, links_down};
 ghost use Rattle.vx_power.specs.Levels.{is_in, is_place, level_in, AreLevels, AreAllLevels};
 ghost use Rattle.vx_power.specs.Signals.{drives};
 ghost use Rattle.vx_power.specs.Spreading.{dust_at, each_dir, fed_towards, fed_from, fed_by, fed_by_sectors, linked_to, FeedAll, level_within, Reaches};
@@ -15,13 +17,15 @@ ghost use Rattle.vx_power.specs.Spreading.{dust_at, each_dir, fed_towards, fed_f
 use crate::columns::Columns;
 use crate::level_table::Levels;
 use crate::leveled::Leveled;
+use crate::links_nearby::{links_beside, links_down, links_up, may_climb, may_fall};
 use crate::next_dust::{driven, dust_at, dust_given, dust_over, dust_under};
+use crate::places::{place_beside, place_over, place_under};
 use crate::region::Region;
 use std::alloc::{AllocError, Global};
 use std::marker::Model;
 use std::mem;
 use vx_block::{Cell, Side};
-use vx_cells::Frozen;
+use vx_cells::{Cells, Frozen};
 use vx_geom::{Dir, Pos};
 
 /// The level of dust that is fed.
@@ -285,10 +289,99 @@ impl Spread {
         if !map.has_dust(p) {
             return Ok(());
         }
+        match map.around(p) {
+            Some(cells) => self.reach_close_links(map, cells, region, p, level),
+            None => self.reach_any_links(map, region, p, level),
+        }
+    }
+
+    // Reaches what dust at a position links to, wherever that is.
+    fn reach_any_links<R: Region>(
+        &mut self,
+        map: &Frozen<'_>,
+        region: &R,
+        p: Pos,
+        level: u8,
+    ) -> Result<(), AllocError>
+        requires dust { is_dust (cell_on map.now p) ≡ true }
+        requires some { 0 < level }
+        requires most { level ≤ 15 }
+        ensures { OnOk result (Reaches (R.holds region.now) level self.old self.new
+            (links (cell_on map.now) p)) }
+    {
         for side in Side::ALL {
             self.reach_links_on(map, region, p, side, level)?;
         }
         Ok(())
+    }
+
+    // Reaches what dust at a position links to, where one sector has all around it.
+    #[tactic(auto, using(crate::proofs::Stepping::dust_place))]
+    fn reach_close_links<R: Region>(
+        &mut self,
+        map: &Frozen<'_>,
+        cells: &Cells,
+        region: &R,
+        p: Pos,
+        level: u8,
+    ) -> Result<(), AllocError>
+        requires around { HasAround map.now cells.now p }
+        requires dust { is_dust (cell_on map.now p) ≡ true }
+        requires some { 0 < level }
+        requires most { level ≤ 15 }
+        ensures { OnOk result (Reaches (R.holds region.now) level self.old self.new
+            (links (cell_on map.now) p)) }
+    {
+        map.soundness();
+        let climbs = may_climb(map, cells, p);
+        let falls = may_fall(map, cells, p);
+        for side in Side::ALL {
+            self.reach_close_links_on(map, cells, region, p, side, climbs, falls, level)?;
+        }
+        Ok(())
+    }
+
+    // Reaches what it links to on one side, where these say whether it may climb or run down on any.
+    #[inline(always)]
+    fn reach_close_links_on<R: Region>(
+        &mut self,
+        map: &Frozen<'_>,
+        cells: &Cells,
+        region: &R,
+        p: Pos,
+        side: Side,
+        climbs: bool,
+        falls: bool,
+        level: u8,
+    ) -> Result<(), AllocError>
+        requires around { HasAround map.now cells.now p }
+        requires place { is_place p ≡ true }
+        requires open { climbs ≡ true → conducts (cell_on map.now (over p)) ≡ false }
+        requires low { climbs ≡ false → links_up (cell_on map.now) p side ≡ false }
+        requires high { falls ≡ false → links_down (cell_on map.now) p side ≡ false }
+        requires some { 0 < level }
+        requires most { level ≤ 15 }
+        ensures { OnOk result (Reaches (R.holds region.now) level self.old self.new
+            (links_on (cell_on map.now) p side)) }
+    {
+        let beside = dust_if(
+            map,
+            links_beside(map, cells, p, side),
+            place_beside(p, side),
+        );
+        self.reach_found(region, beside, level)?;
+        let over = dust_if(
+            map,
+            links_up(map, cells, p, side, climbs),
+            place_over(p, side),
+        );
+        self.reach_found(region, over, level)?;
+        let under = dust_if(
+            map,
+            links_down(map, cells, p, side, falls),
+            place_under(p, side),
+        );
+        self.reach_found(region, under, level)
     }
 
     // Reaches what dust at a position links to on one side.
@@ -352,4 +445,16 @@ impl Spread {
     {
         self.levels
     }
+}
+
+// A position, if dust lies there that is linked to.
+#[inline(always)]
+#[tactic(auto, using(crate::proofs::Stepping::dust_place))]
+fn dust_if(map: &Frozen<'_>, is_linked: bool, p: Pos) -> Option<Pos>
+    requires { is_linked ≡ true → is_dust (cell_on map.now p) ≡ true }
+    ensures found { option_to_list result ≡ (if is_linked then p ∷ [] else []) }
+    ensures there { IfSome result (λ q. is_place q ≡ true) }
+{
+    map.soundness();
+    if is_linked { Some(p) } else { None }
 }

@@ -1,26 +1,10 @@
-use Rattle.std.proofs.Common.{◌≡◌, true, false}
+use Rattle.std.proofs.Common.{◌≡◌, false}
 use Rattle.vx_block.specs.Components.{is_dust}
-use Rattle.vx_block.specs.Sides.{all_sides}
 use Rattle.vx_cells.specs.Maps.{cell_on}
-use Rattle.vx_power.specs.Dust.{links_on}
-use Rattle.vx_power.proofs.Reaching.{reaches_none, reaches_nothing, reaches_more, reaches_all, all_sides_give, no_links}
+use Rattle.vx_power.proofs.Reaching.{reaches_nothing, no_links}
 use Rattle.vx_power.proofs.spread.Spread.reach_links.Goals as goal
 
 pub returns-then-not-has_dust : goal.returns-then-not-has_dust
 returns-then-not-has_dust g c =
     let none : is_dust (cell_on c.args.map.now c.args.p) ≡ false = cc in
     reaches_nothing (no_links (cell_on c.args.map.now) c.args.p none)
-
-pub loop-side-init : goal.loop-side-init
-loop-side-init g c = reaches_none
-
-pub loop-side-preserved : goal.loop-side-preserved
-loop-side-preserved g c =
-    reaches_more (links_on (cell_on c.args.map.now) c.args.p) all_sides c.loop-side.side-index _
-    c.loop-side-test.true c.requires.some c.loop-side.invariant c.in_ok-reach_links_on.ensures
-
-pub returns : goal.returns
-returns g c =
-    let dust : is_dust (cell_on c.args.map.now c.args.p) ≡ true = cc in
-    reaches_all (links_on (cell_on c.args.map.now) c.args.p) all_sides c.loop-side.side-index _
-    c.loop-side-test.false (all_sides_give (cell_on c.args.map.now) c.args.p dust) c.loop-side.invariant

@@ -3,7 +3,7 @@ use Rattle.std.specs.List.{flat_map}
 use Rattle.vx_cells.specs.Maps.{cell_on}
 use Rattle.vx_power.specs.Dust.{links_on}
 use Rattle.vx_power.specs.Spreading.{Reaches}
-use Rattle.vx_power.proofs.spread.Spread.reach_links.Given as goal
+use Rattle.vx_power.proofs.spread.Spread.reach_any_links.Given as goal
 
 -- what is linked to on the sides so far is reached
 abbrev pub invariant-loop-side : goal.invariant-loop-side

@@ -2,9 +2,9 @@ use Rattle.std.proofs.Common.{sym, ap, ◌∙◌}
 use Rattle.std.proofs.lemmas.Bool.{not-false}
 use Rattle.vx_cells.specs.Maps.{cell_on}
 use Rattle.vx_geom.specs.declared.pos.Pos.{Pos}
-use Rattle.vx_levels.proofs.Nearby.{close_under, layer_under, none_under}
+use Rattle.vx_power.proofs.Close.{close_under, layer_under, none_under}
 use Rattle.vx_power.specs.Dust.{beside, under}
-use Rattle.vx_levels.proofs.links_nearby.may_fall.Goals as goal
+use Rattle.vx_power.proofs.links_nearby.may_fall.Goals as goal
 
 pub returns : goal.returns
 returns c isnt side =

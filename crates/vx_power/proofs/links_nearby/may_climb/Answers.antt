@@ -3,9 +3,9 @@ use Rattle.std.proofs.lemmas.Bool.{not-false}
 use Rattle.vx_block.specs.Conductors.{conducts}
 use Rattle.vx_cells.specs.Maps.{cell_on}
 use Rattle.vx_geom.specs.declared.pos.Pos.{Pos}
-use Rattle.vx_levels.proofs.Nearby.{close_over, layer_over, none_over, closed_over}
+use Rattle.vx_power.proofs.Close.{close_over, layer_over, none_over, closed_over}
 use Rattle.vx_power.specs.Dust.{beside, over}
-use Rattle.vx_levels.proofs.links_nearby.may_climb.Goals as goal
+use Rattle.vx_power.proofs.links_nearby.may_climb.Goals as goal
 
 pub returns-then-is_bare-clause-none : goal.returns-then-is_bare-clause-none
 returns-then-is_bare-clause-none c isnt side =

@@ -1,5 +1,5 @@
 -- Positions that a sector holds, and the indices of their cells.
-use Rattle.std.proofs.Common.{◌≡◌, ℕ, ◌<◌, Bool, true, false, Option, Some, None, nat_eq, if◌then◌else◌, refl, ap, sym}
+use Rattle.std.proofs.Common.{◌≡◌, ℕ, ◌<◌, Bool, true, false, Option, Some, None, nat_eq, if◌then◌else◌, refl, ap, sym, ◌∙◌}
 use Rattle.std.specs.Option.{option_map_or}
 use Rattle.std.proofs.lemmas.Bool.{eqb-true}
 use Rattle.vx_geom.specs.declared.pos.Pos.{Pos}
@@ -28,6 +28,11 @@ inside_at v p k h = chosen (is_inside v p) (sector_number v p) k h
 -- and is inside the world
 pub inside_from_holds : (c : SectorCells) (p : Pos) → holds c p ≡ true → is_inside c.bounds p ≡ true
 inside_from_holds c p h = inside_at c.bounds p c.sector (sector_at c p h)
+
+-- one with the same number is of it, too
+pub same_held : (c : SectorCells) (p q : Pos) → sector_of c.bounds q ≡ sector_of c.bounds p → holds c p ≡ true → holds c q ≡ true
+unfolding holds
+same_held c p q same held = ap (λ s. option_map_or (nat_eq c.sector) s false) same ∙ held
 
 -- every position of a sector has an index among its cells
 pub index_below : (v : Sizes) (p : Pos) → AreSizes v → is_inside v p ≡ true → index_in_sector v p < sector_cells v

@@ -1,14 +1,15 @@
 -- Columns of a row of a layer: their indices in a sector, and what their marks tell.
-use Rattle.std.proofs.Common.{◌≡◌, ℕ, pos, unsigned_abs, ◌+◌, ◌*◌, ◌/◌, ◌%◌, ◌<◌, ◌≤◌, inl, inr, true, Some, ap, sym, subst, ◌∙◌, w32, arith}
-use Rattle.std.proofs.lemmas.Bool.{and_from, and_parts}
+use Rattle.std.proofs.Common.{◌≡◌, ℕ, pos, unsigned_abs, ◌+◌, ◌*◌, ◌/◌, ◌%◌, ◌<◌, ◌≤◌, inl, inr, true, ◌&&◌, nat_lt, List, Some, ap, sym, subst, ◌∙◌, w32, arith}
+use Rattle.std.proofs.lemmas.Bool.{and_from, and_left, and_parts, cases_lt, le-ltb}
 use Rattle.std.proofs.lemmas.Int.{ints}
 use mir.Val.{to_z}
 use Rattle.vx_geom.specs.declared.pos.Pos.{Pos}
 use Rattle.vx_geom.specs.Sizes.{Sizes, AreSizes, span, is_below, is_inside, sector_number, sector_of, index_in_sector}
 use Rattle.vx_geom.proofs.Divisions.{part_is, part_below, below_parts}
 use Rattle.vx_geom.proofs.SectorLemmas.{below_from, inside_at}
+use Rattle.vx_marks.specs.Marks.{is_marked, AreBits}
 use Rattle.vx_marks.specs.declared.page.TheConstants.{PAGE}
-use Rattle.vx_cells.specs.Listed.{place}
+use Rattle.vx_cells.specs.Listed.{place, AreInRow}
 use Rattle.vx_cells.proofs.Indices.{numbered}
 use Rattle.vx_cells.proofs.Sectioned.{side_is}
 use Rattle.vx_cells.proofs.MapLemmas.{narrow}
@@ -57,6 +58,18 @@ module _ (v : Sizes) (sizes : AreSizes v) (x y z count index : ℕ) (at : index 
       let rest = z % span v + span v * y in
       let fits = row_in_word v.s (x % span v) rest count sizes.s_least sizes.s_most (omega (arith, wide)) within in
       omega (arith, ap (λ n. n % 64) at, fits)
+
+-- the bits of a page tell in which of the columns of a row it has marks
+pub bits_in_row : (v : Sizes) (sizes : AreSizes v) (page : List ℕ) (x y z count index bits : ℕ)
+    → index ≡ index_in_sector v (place x y z) → x % span v + count ≤ span v
+    → AreBits page (index % PAGE) count bits → AreInRow (λ q. is_marked page (index_in_sector v q % PAGE)) x y z count bits
+bits_in_row v sizes page x y z count index bits is within are k = are k ∙ elim (cases_lt k count) [
+  | inl low ↦
+      let at : index % PAGE + k ≡ index_in_sector v (place (x + k) y z) % PAGE =
+      omega (arith, low, index_later v sizes x y z count index is within k low, in_word v sizes x y z count index is within) in
+      ap (λ i. nat_lt k count && is_marked page i) at
+  | inr high ↦ let past = le-ltb k count high in and_left _ _ past ∙ sym (and_left _ _ past)
+]
 
 -- so many columns of a row of a layer, from a column of the world on, within a sector
 module _ (v : Sizes) (sizes : AreSizes v) (x y z count : ℕ) (inside : is_inside v (place x y z) ≡ true)

@@ -16,11 +16,19 @@ use Rattle.vx_store.specs.Codes.{cell_of}
 use Rattle.vx_store.specs.MarkedPlaces.{marked_places}
 use Rattle.vx_cells.specs.Listed.{AreInLayer}
 use Rattle.vx_cells.specs.SectorCells.{placed, block_at, cell_at}
-use Rattle.vx_store.specs.MachineMarks.{AreMarks}
+use Rattle.vx_store.specs.MachineMarks.{is_of, words_of, AreMachineMarks, AreMarks, MarkWords}
+use Rattle.vx_store.specs.declared.mark_kind.MarkKind.{MarkKind}
+use Rattle.vx_store.specs.declared.mark_kind.MarkKind.TheVariants.{Component, Device}
 use Rattle.vx_cells.specs.Stored.{blocks_from, stored}
 use Rattle.vx_cells.proofs.Listing.{same_found}
 use Rattle.vx_cells.proofs.Rows.{layer_page}
 use Rattle.vx_cells.proofs.StoredBlocks.{block-at, length-blocks}
+
+-- the marks of a kind tell where cells of it stand
+pub marks_of_kind : (kind : MarkKind) (codes : List ℕ) (marks : MarkWords) → AreMachineMarks codes marks
+    → AreMarks (is_of kind) codes (words_of kind marks)
+marks_of_kind Component codes marks are = are.components
+marks_of_kind Device codes marks are = are.devices
 
 -- the cell at each index is that of its byte; past the last one both are air
 cell_here : (codes : List ℕ) (chests : ChestData) (k : ℕ)

@@ -1,11 +1,11 @@
 -- The components of machines in a sector, in order.
-use Rattle.std.specs.Prelude.{◌≡◌, ℕ, ◌%◌, pos, Bool, true, false, List, Option, Some, None}
+use Rattle.std.specs.Prelude.{◌≡◌, ℕ, ◌+◌, ◌%◌, pos, Bool, true, false, ◌&&◌, nat_lt, List, Option, Some, None}
 use Rattle.std.specs.List.{filter}
 use Rattle.vx_block.specs.Components.{is_device, is_component}
 use Rattle.vx_geom.specs.declared.pos.Pos.{Pos}
 use Rattle.vx_geom.specs.Places.{positions}
 use Rattle.vx_geom.specs.Sizes.{index_in_sector}
-use Rattle.vx_marks.specs.Marks.{is_marked}
+use Rattle.vx_marks.specs.Marks.{is_set, is_marked}
 use Rattle.vx_marks.specs.declared.page.TheConstants.{PAGE}
 use Rattle.vx_cells.specs.Maps.{MapData, cell_on}
 use Rattle.vx_cells.specs.SectorCells.{SectorCells, holds, cell_at}
@@ -28,6 +28,12 @@ components_on m k = filter (λ p. is_component (cell_on m p)) (positions m.sizes
 
 unfoldable pub devices_on : MapData → ℕ → List Pos
 devices_on m k = filter (λ p. is_device (cell_on m p)) (positions m.sizes k)
+
+-- in which of so many columns of a row of a layer, from one on, stands what passes a test: a bit for
+-- each
+abbrev pub AreInRow : (Pos → Bool) → ℕ → ℕ → ℕ → ℕ → ℕ → Type 0
+AreInRow test x y z count bits =
+    (k : ℕ) → is_set bits k ≡ (nat_lt k count && test (place (x + k) y z))
 
 -- marks in a page, by the indices of a sector, tell where in a layer of it stands what passes a test;
 -- without a page nothing does

@@ -1,12 +1,13 @@
 ghost use Rattle.std.specs.Option.{option_copied};
-ghost use Rattle.std.specs.Prelude.{◌≡◌, ◌<◌, ◌≤◌, nat_lt, length, true, IfOk, OnOk, OnErr, IfSome};
+ghost use Rattle.std.specs.Prelude.{◌≡◌, ◌+◌, ◌%◌, ◌<◌, ◌≤◌, nat_lt, length, true, IfOk, OnOk, OnErr, IfSome};
 ghost use Rattle.std.specs.List.{All};
+ghost use Rattle.vx_store.specs.MachineMarks.{is_of};
 ghost use Rattle.vx_store.specs.declared.stack.TheConstants.{SLOTS};
-ghost use Rattle.vx_geom.specs.Sizes.{sector_count};
+ghost use Rattle.vx_geom.specs.Sizes.{span, sector_count};
 ghost use Rattle.vx_geom.specs.declared.bounds.TheConstants.{HIGH_HEIGHT};
 ghost use Rattle.vx_block.specs.Components.{is_dust, is_component};
 ghost use Rattle.vx_block.specs.Conductors.{conducts};
-ghost use Rattle.vx_cells.specs.Listed.{components_of, devices_of, AreInLayer};
+ghost use Rattle.vx_cells.specs.Listed.{place, components_of, devices_of, AreInLayer, AreInRow};
 
 use crate::stored::Stored;
 use std::alloc::{AllocError, Global};
@@ -14,8 +15,8 @@ use std::marker::Model;
 use std::sync::Arc;
 use vx_block::Cell;
 use vx_geom::{Bounds, Pos};
-use vx_marks::Page;
-use vx_store::{SLOTS, Slot};
+use vx_marks::{PAGE, Page};
+use vx_store::{MarkKind, SLOTS, Slot};
 
 /// What stands in one sector of the world: a cell at each position, and the slots of each chest.
 /// Copies share all of it until one of them changes, and then all sections but the changed one.
@@ -174,15 +175,32 @@ impl Cells {
         self.stored.devices(alloc)
     }
 
-    /// Marks where components of machines stand in a layer of this sector, in the page that has that
-    /// layer; none where no component stands there.
+    /// Marks where something of a kind stands in a layer of this sector, in the page that has that
+    /// layer; none where nothing of it stands there.
     #[inline(always)]
-    pub fn components_in_layer(&self, y: u32) -> Option<&Page>
+    pub fn marks_in_layer(&self, kind: MarkKind, y: u32) -> Option<&Page>
         requires { y < HIGH_HEIGHT }
-        ensures { AreInLayer (λ p. is_component (cell_at self.now p)) self.now y
+        ensures { AreInLayer (λ p. is_of kind (cell_at self.now p)) self.now y
             (option_copied result) }
     {
-        self.stored.components_in_layer(y)
+        self.stored.marks_in_layer(kind, y)
+    }
+
+    /// In which of so many columns of a row of a layer of this sector, from that one on, a component
+    /// of machines stands, a bit for each.
+    #[inline(always)]
+    pub fn components_in_row(&self, x: u32, y: u32, z: u32, count: u32) -> u64
+        requires here { holds self.now (place x y z) ≡ true }
+        requires within { x % span self.now.bounds + count ≤ span self.now.bounds }
+        ensures { AreInRow (λ p. is_component (cell_at self.now p)) x y z count result }
+    {
+        let bounds = self.bounds();
+        bounds.soundness();
+        let Some(page) = self.marks_in_layer(MarkKind::Component, y) else {
+            return 0;
+        };
+        let p = Pos::new(x as i32, y as i32, z as i32);
+        page.run(bounds.index_in_sector(p) % PAGE, count)
     }
 
     /// How many components of machines stand in this sector. No clause tells the number, since

@@ -5,9 +5,10 @@ ghost use Rattle.std.specs.List.{All};
 ghost use Rattle.vx_store.specs.declared.stack.TheConstants.{SLOTS};
 ghost use Rattle.vx_geom.specs.Sizes.{sector_count};
 ghost use Rattle.vx_geom.specs.declared.bounds.TheConstants.{HIGH_HEIGHT};
-ghost use Rattle.vx_block.specs.Components.{is_dust, is_component};
+ghost use Rattle.vx_block.specs.Components.{is_dust};
 ghost use Rattle.vx_block.specs.Conductors.{conducts};
 ghost use Rattle.vx_store.specs.Codes.{code_count, cell_of};
+ghost use Rattle.vx_store.specs.MachineMarks.{is_of};
 ghost use Rattle.vx_cells.specs.Listed.{components_of, devices_of, AreInLayer};
 
 use std::alloc::{AllocError, Global};
@@ -215,17 +216,17 @@ impl Stored {
             .places(alloc, self.bounds, self.sector, MarkKind::Device)
     }
 
-    /// Marks where components of machines stand in a layer of this sector, in the page that has that
-    /// layer; none where no component stands there.
+    /// Marks where something of a kind stands in a layer of this sector, in the page that has that
+    /// layer; none where nothing of it stands there.
     #[inline(always)]
-    pub fn components_in_layer(&self, y: u32) -> Option<&Page>
+    pub fn marks_in_layer(&self, kind: MarkKind, y: u32) -> Option<&Page>
         requires { y < HIGH_HEIGHT }
-        ensures { AreInLayer (λ p. is_component (cell_at self.now p)) self.now y
+        ensures { AreInLayer (λ p. is_of kind (cell_at self.now p)) self.now y
             (option_copied result) }
     {
         self.bounds.soundness();
         let span = self.bounds.span();
-        self.marks.page(MarkKind::Component, span * span * y / PAGE)
+        self.marks.page(kind, span * span * y / PAGE)
     }
 
     /// How many components of machines stand in this sector.

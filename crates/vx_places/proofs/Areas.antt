@@ -3,7 +3,10 @@ use Rattle.std.proofs.Common.{◌≡◌, ℕ, ◌+◌, ◌-◌, ◌*◌, ◌/◌
 use Rattle.std.specs.Option.{option_map_or}
 use Rattle.std.proofs.lemmas.Bool.{cases_Bool, eq-eqb, false_from_ne_true}
 use Rattle.std.proofs.lemmas.Nat.{mul-le}
-use Rattle.vx_block.specs.Components.{is_component}
+use Rattle.vx_block.specs.declared.cell.Cell.TheVariants.{Air}
+use Rattle.vx_store.specs.MachineMarks.{is_of}
+use Rattle.vx_store.specs.declared.mark_kind.MarkKind.{MarkKind}
+use Rattle.vx_store.specs.declared.mark_kind.MarkKind.TheVariants.{Component, Device}
 use Rattle.vx_geom.specs.declared.pos.Pos.{Pos}
 use Rattle.vx_geom.specs.Sizes.{Sizes, AreSizes, span, is_inside, sector_number, sector_of, index_in_sector}
 use Rattle.vx_geom.proofs.Divisions.{in_part, part_below, below_parts}
@@ -263,10 +266,16 @@ is_there m whole c p is = by (sector_of m.sizes p) refl is
           number = omega (arith, placed.1, number_of m.sizes p k held);
         }
 
--- a component stands inside the world
-pub component_inside : (m : MapData) (q : Pos) → is_component (cell_on m q) ≡ true → is_inside m.sizes q ≡ true
-component_inside m q stands = elim (cases_Bool (is_inside m.sizes q)) [
+-- air is of no kind
+pub no_air : (kind : MarkKind) → is_of kind Air ≡ false
+no_air Component = refl
+no_air Device = refl
+
+-- what is of a kind stands inside the world
+pub kind_inside : (kind : MarkKind) (m : MapData) (q : Pos) → is_of kind (cell_on m q) ≡ true → is_inside m.sizes q ≡ true
+kind_inside kind m q stands = elim (cases_Bool (is_inside m.sizes q)) [
   | inl inside ↦ inside
   | inr outside ↦
-      absurd (true≢false (sym stands ∙ ap is_component (outside_is_air m q (λ inside. true≢false (sym inside ∙ outside)))))
+      let air = outside_is_air m q (λ inside. true≢false (sym inside ∙ outside)) in
+      absurd (true≢false (sym stands ∙ ap (is_of kind) air ∙ no_air kind))
 ]

@@ -9,30 +9,13 @@ use Rattle.vx_geom.proofs.SectorLemmas.{inside_at, held_at, same_index}
 use Rattle.vx_marks.specs.Marks.{is_set, is_marked, AreBits}
 use Rattle.vx_marks.specs.declared.page.TheConstants.{PAGE}
 use Rattle.vx_marks.proofs.WordBits.{unset}
-use Rattle.vx_cells.specs.Listed.{place}
+use Rattle.vx_cells.specs.Listed.{place, AreInRow}
 use Rattle.vx_cells.proofs.Indices.{numbered}
 use Rattle.vx_cells.proofs.Rows.{index_later, in_word, column_held}
 use Rattle.vx_places.specs.Areas.{marked_by}
 use Rattle.vx_places.specs.Around.{layer_of, row_of, column_of, is_in_run}
 use Rattle.vx_places.specs.Places.{in_run_from}
 use Rattle.vx_places.proofs.Marked.{number_of}
-
--- in which of so many columns of a row of a layer, from one on, lies what passes a test: a bit for
--- each
-abbrev pub AreInRow : (Pos → Bool) → ℕ → ℕ → ℕ → ℕ → ℕ → Type 0
-AreInRow test x y z count bits = (k : ℕ) → is_set bits k ≡ (nat_lt k count && test (place (x + k) y z))
-
--- the bits of a page tell it of marks in the page
-pub bits_in_row : (v : Sizes) (sizes : AreSizes v) (page : List ℕ) (x y z count index bits : ℕ)
-    → index ≡ index_in_sector v (place x y z) → x % span v + count ≤ span v
-    → AreBits page (index % PAGE) count bits → AreInRow (marked_by page v) x y z count bits
-bits_in_row v sizes page x y z count index bits is within are k = are k ∙ elim (cases_lt k count) [
-  | inl low ↦
-      let at : index % PAGE + k ≡ index_in_sector v (place (x + k) y z) % PAGE =
-      omega (arith, low, index_later v sizes x y z count index is within k low, in_word v sizes x y z count index is within) in
-      ap (λ i. nat_lt k count && is_marked page i) at
-  | inr high ↦ let past = le-ltb k count high in and_left _ _ past ∙ sym (and_left _ _ past)
-]
 
 module _ (such : Pos → Bool) (v : Sizes) (sizes : AreSizes v) (x y z length : ℕ)
     (inside : is_inside v (place x y z) ≡ true) (within : x % span v + length ≤ span v) where

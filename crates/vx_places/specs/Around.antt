@@ -3,16 +3,17 @@ use Rattle.std.specs.Prelude.{◌≡◌, ℕ, ◌+◌, ◌-◌, ◌%◌, min, Bo
 use Rattle.vx_geom.specs.declared.pos.Pos.{Pos}
 use Rattle.vx_geom.specs.Sizes.{Sizes, span, is_inside}
 use Rattle.vx_block.specs.declared.cell.Cell.{Cell}
-use Rattle.vx_block.specs.Components.{is_component}
+use Rattle.vx_store.specs.MachineMarks.{is_of}
+use Rattle.vx_store.specs.declared.mark_kind.MarkKind.{MarkKind}
 use Rattle.vx_places.specs.Places.{PlacesData, is_at, steps_between}
 
 -- at most so many steps lead from one position to the other
 abbrev pub is_around : Pos → ℕ → Pos → Bool
 is_around p steps q = nat_le (steps_between p q) steps
 
--- and a component of machines stands there
-abbrev pub is_component_around : (Pos → Cell) → Pos → ℕ → Pos → Bool
-is_component_around w p steps q = is_around p steps q && is_component (w q)
+-- and something of a kind stands there
+abbrev pub is_kind_around : MarkKind → (Pos → Cell) → Pos → ℕ → Pos → Bool
+is_kind_around kind w p steps q = is_around p steps q && is_of kind (w q)
 
 -- and it passes a test
 abbrev pub is_such_around : (Pos → Bool) → Pos → ℕ → Pos → Bool

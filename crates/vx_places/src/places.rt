@@ -9,7 +9,7 @@ ghost use Rattle.vx_cells.specs.SectorCells.{cell_at};
 ghost use Rattle.vx_marks.specs.Marks.{in_run};
 ghost use Rattle.vx_marks.specs.declared.page.TheConstants.{PAGE};
 ghost use Rattle.vx_places.specs.Areas.{IsPart, LiesInOne, IsSector, IsColumnOf, in_area, marked_by};
-ghost use Rattle.vx_places.specs.Around.{is_component_around, is_such_around, is_in_run, at_number, between_numbers, layer_of, row_of, Adds};
+ghost use Rattle.vx_places.specs.Around.{is_kind_around, is_such_around, is_in_run, at_number, between_numbers, layer_of, row_of, Adds};
 ghost use Rattle.vx_places.specs.Places.{marked_in, in_run_from, is_at, steps_between, HasRoom};
 
 use crate::area::Area;
@@ -19,7 +19,7 @@ use std::marker::Model;
 use vx_cells::{Cells, Frozen};
 use vx_geom::{Bounds, Pos};
 use vx_marks::{Marks, PAGE, Page};
-use vx_store::marked_places;
+use vx_store::{MarkKind, marked_places};
 
 /// A set of positions of a world, kept by sector. A sector where nothing was marked takes no memory
 /// beside its entry, and neither do 4,096 places of a sector of which none was.
@@ -118,19 +118,20 @@ impl Places {
     }
 
     /// Adds each position of a map to which at most so many steps lead from this one, which may lie
-    /// anywhere, and at which a component of machines stands.
+    /// anywhere, and at which something of that kind stands.
     pub fn mark_around(
         &mut self,
         alloc: Global,
         map: &Frozen<'_>,
         p: Pos,
         steps: u8,
+        kind: MarkKind,
     ) -> Result<(), AllocError>
         requires { steps ≤ 8 }
         ensures sizes { self.new.sizes ≡ self.old.sizes }
         ensures marked { OnOk result ((q : Pos) → is_at self.new q
             ≡ (is_at self.old q || (is_inside self.old.sizes q
-            && is_component_around (cell_on map.now) p steps q))) }
+            && is_kind_around kind (cell_on map.now) p steps q))) }
     {
         let steps = u32::from(steps);
         let bounds = self.bounds();
@@ -139,7 +140,7 @@ impl Places {
         let mut next = least_within(p.z, steps, count);
         while next < end {
             let length = shared_columns(bounds, map.bounds(), next).min(end - next);
-            self.mark_rows(alloc, map, p, steps, next, next + length)?;
+            self.mark_rows(alloc, map, p, steps, kind, next, next + length)?;
             next += length;
         }
         Ok(())
@@ -154,6 +155,7 @@ impl Places {
         map: &Frozen<'_>,
         p: Pos,
         steps: u32,
+        kind: MarkKind,
         north: u32,
         south: u32,
     ) -> Result<(), AllocError>
@@ -164,7 +166,7 @@ impl Places {
         requires there { north % span map.now.sizes + (south - north) ≤ span map.now.sizes }
         ensures sizes { self.new.sizes ≡ self.old.sizes }
         ensures marked { OnOk result (Adds (between_numbers row_of
-            (is_component_around (cell_on map.now) p steps) north south) self.old self.new) }
+            (is_kind_around kind (cell_on map.now) p steps) north south) self.old self.new) }
     {
         self.soundness();
         let bounds = self.bounds();
@@ -180,7 +182,7 @@ impl Places {
                 north,
                 south,
             };
-            self.mark_area(alloc, map, p, steps, area)?;
+            self.mark_area(alloc, map, p, steps, kind, area)?;
             west = east;
         }
         Ok(())
@@ -194,6 +196,7 @@ impl Places {
         map: &Frozen<'_>,
         p: Pos,
         steps: u32,
+        kind: MarkKind,
         area: Area,
     ) -> Result<(), AllocError>
         requires few { steps ≤ 8 }
@@ -201,7 +204,7 @@ impl Places {
         requires there { LiesInOne map.now.sizes area }
         ensures sizes { self.new.sizes ≡ self.old.sizes }
         ensures marked { OnOk result (Adds
-            (in_area (is_component_around (cell_on map.now) p steps) area) self.old self.new) }
+            (in_area (is_kind_around kind (cell_on map.now) p steps) area) self.old self.new) }
     {
         self.soundness();
         map.soundness();
@@ -215,13 +218,13 @@ impl Places {
         let count = layers(bounds).min(layers(map.bounds()));
         let first = least_within(p.y, steps, count);
         for y in first..end_within(p.y, steps, count) {
-            self.mark_layer(alloc, cells, there, p, steps, area, sector, y)?;
+            self.mark_layer(alloc, cells, there, p, steps, kind, area, sector, y)?;
         }
         Ok(())
     }
 
-    // Adds those of a layer of an area alone, which a sector of the map has. Where no component
-    // stands in its rows it is passed over by one look.
+    // Adds those of a layer of an area alone, which a sector of the map has. Where nothing of the
+    // kind stands in its rows it is passed over by one look.
     #[inline(always)]
     fn mark_layer(
         &mut self,
@@ -230,6 +233,7 @@ impl Places {
         bounds: Bounds,
         p: Pos,
         steps: u32,
+        kind: MarkKind,
         area: Area,
         sector: u32,
         y: u32,
@@ -245,12 +249,12 @@ impl Places {
         requires sector { IsSector bounds area cells.now.sector }
         ensures sizes { self.new.sizes ≡ self.old.sizes }
         ensures marked { OnOk result (Adds (at_number layer_of
-            (in_area (is_component_around (cell_at cells.now) p steps) area) y)
+            (in_area (is_kind_around kind (cell_at cells.now) p steps) area) y)
             self.old self.new) }
     {
         self.soundness();
         bounds.soundness();
-        let Some(page) = cells.components_in_layer(y) else {
+        let Some(page) = cells.marks_in_layer(kind, y) else {
             return Ok(());
         };
         if !may_have_marks(page, bounds, area, y) {

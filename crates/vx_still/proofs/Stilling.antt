@@ -1,5 +1,5 @@
 -- Levels as dust stores them agree far from changes, and what rests by them.
-use Rattle.std.proofs.Common.{◌≡◌, ℕ, suc, ◌-◌, true, false, ◌||◌, if◌then◌else◌, inl, inr, List, [], ◌∷◌, ◌++◌, refl, sym, ap, ◌∙◌, subst}
+use Rattle.std.proofs.Common.{◌≡◌, ℕ, suc, ◌-◌, true, false, if◌then◌else◌, inl, inr, List, [], ◌∷◌, ◌++◌, refl, sym, ap, ◌∙◌, subst}
 use Rattle.std.specs.List.{list_any}
 use Rattle.std.proofs.lemmas.Bool.{cases_Bool, false≢true, or_parts}
 use Rattle.vx_geom.specs.declared.dir.Dir.{Dir}
@@ -31,7 +31,6 @@ use Rattle.vx_piston.specs.Moves.{is_restless}
 use Rattle.vx_piston.proofs.Restless.{restless_reads}
 use Rattle.vx_still.specs.Stillness.{stored_on, Stays, LeavesStill, WritesKeepStill, TicksLeaveStill, StillRests, MirrorsAgree, TicksMirror}
 use Rattle.vx_still.proofs.Heeding.{sees_reads, own_read, dust_next, dust_rests, no_store, no_dust_level}
-use Rattle.vx_part.proofs.Changing.{stays}
 
 -- what f gives for one of these neighbors is among what it gives for all
 among_around : (f : Pos → List Pos) (p q : Pos) (ds : List Dir) (d : Dir) → IsAmong ds d → IsAmong (f (neighbor p d)) q

@@ -9,7 +9,7 @@ use Rattle.vx_block.specs.Components.{is_component, is_device, is_dust}
 use Rattle.vx_cells.specs.Maps.{MapData, cell_on}
 use Rattle.vx_levels.specs.Linked.{level_at}
 use Rattle.vx_levels.specs.Repairs.{ChangesAt, IsRight, IsRightBut}
-use Rattle.vx_places.specs.Around.{is_around, is_component_around}
+use Rattle.vx_places.specs.Around.{is_around, is_kind_around}
 use Rattle.vx_places.specs.Places.{PlacesData, is_at, steps_between}
 use Rattle.vx_part.specs.Laws.{reads}
 use Rattle.vx_power.specs.Laws.{dust_level}
@@ -18,6 +18,9 @@ use Rattle.vx_power.specs.Local.{within_steps, sees, is_touched, AreAlike}
 use Rattle.vx_power.proofs.Having.{has_joined}
 use Rattle.vx_power.proofs.Reach.{any_at, any_from}
 use Rattle.vx_power.proofs.Stepping.{dust_inside}
+use Rattle.vx_store.specs.MachineMarks.{is_of}
+use Rattle.vx_store.specs.declared.mark_kind.MarkKind.{MarkKind}
+use Rattle.vx_store.specs.declared.mark_kind.MarkKind.TheVariants.{Component, Device}
 use Rattle.vx_still.specs.Mirrored.{IsMirror}
 use Rattle.vx_still.specs.Stillness.{IsStill, stored_on, has_power}
 use Rattle.vx_still.specs.Telling.{AreTold, IsTold, KeepsMarks}
@@ -27,19 +30,23 @@ use Rattle.vx_still.proofs.Stilling.{mirrors_agree}
 use Rattle.vx_still.specs.Waking.{Rests, WakingData}
 use Rattle.vx_still.proofs.Looking.{change_around, component_inside, place_listed, seen_around}
 
--- where a component stands it is one around a change that so many steps lead to
-component_around : (w : Pos → Cell) (n : ℕ) (changed : List Pos) (p : Pos) → is_component (w p) ≡ true
+-- a device stands in the world
+device_inside : (m : MapData) (p : Pos) → is_device (cell_on m p) ≡ true → is_inside m.sizes p ≡ true
+device_inside m p stands = component_inside m p (or_right (is_dust (cell_on m p)) (is_device (cell_on m p)) stands)
+
+-- what is of a kind is one of that kind around a change that so many steps lead to
+of_kind_around : (kind : MarkKind) (w : Pos → Cell) (n : ℕ) (changed : List Pos) (p : Pos) → is_of kind (w p) ≡ true
     → list_any (has changed) (within_steps n p) ≡ true
-    → list_any (λ c. is_component_around w c n p) changed ≡ true
-component_around w n changed p stands is =
+    → list_any (λ c. is_kind_around kind w c n p) changed ≡ true
+of_kind_around kind w n changed p stands is =
     let found = any_at (λ c. is_around c n p) changed (change_around n changed p is) in
-    any_from (λ c. is_component_around w c n p) changed found.0 found.1
-    (and_from (is_around found.0 n p) (is_component (w p)) found.2 stands)
+    any_from (λ c. is_kind_around kind w c n p) changed found.0 found.1
+    (and_from (is_around found.0 n p) (is_of kind (w p)) found.2 stands)
 
 -- a table that mirrors what dust stores is right but where something changed, or dust sees a change
 pub mirror_right : (m : MapData) (waking : WakingData) (seen : List Pos) (table : LevelTable)
     → IsStill m waking → IsMirror m waking.changed table
-    → ((p : Pos) → has seen p ≡ (is_inside m.sizes p && list_any (λ c. is_component_around (cell_on m) c 2 p) waking.changed))
+    → ((p : Pos) → has seen p ≡ (is_inside m.sizes p && list_any (λ c. is_kind_around Component (cell_on m) c 2 p) waking.changed))
     → IsRightBut (cell_on m) table (seen ++ waking.changed)
 mirror_right m waking seen table still mirror sight = record {
   consistent = λ p dust none. mirrors_agree m waking (level_at table) p still mirror.levels dust (unseen p dust (apart p none).0);
@@ -54,25 +61,25 @@ mirror_right m waking seen table still mirror sight = record {
     unseen p dust none = elim (cases_Bool (is_touched (has waking.changed) p)) [
       | inl touched ↦
           absurd (false≢true (sym none ∙ sight p
-          ∙ and_from (is_inside m.sizes p) (list_any (λ c. is_component_around (cell_on m) c 2 p) waking.changed)
+          ∙ and_from (is_inside m.sizes p) (list_any (λ c. is_kind_around Component (cell_on m) c 2 p) waking.changed)
           (dust_inside m p dust)
-          (component_around (cell_on m) 2 waking.changed p (or_left (is_dust (cell_on m p)) (is_device (cell_on m p)) dust) touched)))
+          (of_kind_around Component (cell_on m) 2 waking.changed p (or_left (is_dust (cell_on m p)) (is_device (cell_on m p)) dust) touched)))
       | inr away ↦ away
     ]
 
--- components around changes are marked
+-- devices around changes are marked
 pub around_marked : (m : MapData) (changed : List Pos) (old new : PlacesData) → old.sizes ≡ m.sizes
     → ((p : Pos) → is_at new p
-    ≡ (is_at old p || (is_inside old.sizes p && list_any (λ c. is_component_around (cell_on m) c 4 p) changed)))
-    → (p : Pos) → is_component (cell_on m p) ≡ true
-    → list_any (λ c. is_component_around (cell_on m) c 4 p) changed ≡ true → is_at new p ≡ true
+    ≡ (is_at old p || (is_inside old.sizes p && list_any (λ c. is_kind_around Device (cell_on m) c 4 p) changed)))
+    → (p : Pos) → is_device (cell_on m p) ≡ true
+    → list_any (λ c. is_kind_around Device (cell_on m) c 4 p) changed ≡ true → is_at new p ≡ true
 around_marked m changed old new sizes marked p stands near =
-    let any = list_any (λ c. is_component_around (cell_on m) c 4 p) changed in
+    let any = list_any (λ c. is_kind_around Device (cell_on m) c 4 p) changed in
     marked p
     ∙ or_right (is_at old p) (is_inside old.sizes p && any)
-    (and_from (is_inside old.sizes p) any (ap (λ v. is_inside v p) sizes ∙ component_inside m p stands) near)
+    (and_from (is_inside old.sizes p) any (ap (λ v. is_inside v p) sizes ∙ device_inside m p stands) near)
 
--- and so are those besides
+-- and so are components besides
 pub besides_marked : (m : MapData) (besides : List Pos) (old new : PlacesData) → old.sizes ≡ m.sizes
     → ((p : Pos) → is_at new p
     ≡ (is_at old p || (is_inside old.sizes p && list_any (λ q. nat_eq (steps_between q p) 0) besides)))
@@ -125,7 +132,7 @@ module _ (m : MapData) (waking : WakingData) (put : List Pos) (old new : LevelTa
     ]
   ]
 
-  module _ (around : (p : Pos) → is_component (w p) ≡ true → list_any (λ c. is_component_around w c 4 p) waking.changed ≡ true → is_at places p ≡ true)
+  module _ (around : (p : Pos) → is_device (w p) ≡ true → list_any (λ c. is_kind_around Device w c 4 p) waking.changed ≡ true → is_at places p ≡ true)
       (besides : (p : Pos) → is_component (w p) ≡ true → has waking.besides p ≡ true → is_at places p ≡ true)
       (p : Pos) (away : is_at places p ≡ false) where
     unmarked : is_at places p ≡ true → ⊥
@@ -143,23 +150,29 @@ module _ (m : MapData) (waking : WakingData) (put : List Pos) (old new : LevelTa
       | inr not ↦ not
     ]
 
-    none_read : is_component (w p) ≡ true → list_any (has waking.changed) (reads p) ≡ false
+    none_read : is_device (w p) ≡ true → list_any (has waking.changed) (reads p) ≡ false
     none_read stands = elim (cases_Bool (list_any (has waking.changed) (reads p))) [
-      | inl read ↦ absurd (unmarked (around p stands (component_around w 4 waking.changed p stands read)))
+      | inl read ↦ absurd (unmarked (around p stands (of_kind_around Device w 4 waking.changed p stands read)))
       | inr not ↦ not
     ]
 
-    alike : is_component (w p) ≡ true → AreAlike (sees p) (has_power (stored_on m)) (has_power (dust_level w))
+    alike : is_device (w p) ≡ true → AreAlike (sees p) (has_power (stored_on m)) (has_power (dust_level w))
     alike stands q among = elim (told q).near [
       | inl same ↦ sym same ∙ ap (nat_lt 0) (exact q)
       | inr marked ↦ absurd (unmarked (marked p stands (seen_around 2 p q among)))
     ]
 
+    -- another component than dust is a device
+    device : is_component (w p) ≡ true → is_dust (w p) ≡ false → is_device (w p) ≡ true
+    device stands other = sym (ap (λ b. b || is_device (w p)) other) ∙ stands
+
     pub rests_unmarked : Rests m p
     rests_unmarked = elim (cases_Bool (is_component (w p))) [
       | inl stands ↦ elim (cases_Bool (is_dust (w p))) [
         | inl dust ↦ as_dust dust
-        | inr other ↦ others_rest_by_power m waking p still (none_besides stands) (none_read stands) other (alike stands)
+        | inr other ↦
+            let device = device stands other in
+            others_rest_by_power m waking p still (none_besides stands) (none_read device) other (alike device)
       ]
       | inr other ↦ others_rest m p other
     ]

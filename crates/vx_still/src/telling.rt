@@ -13,12 +13,13 @@ use vx_geom::Pos;
 use vx_levels::LinkedLevels;
 use vx_places::Places;
 use vx_power::Leveled;
+use vx_store::MarkKind;
 
 // What heeds the level of dust is at most so many steps off.
 const HEEDED: u8 = 2;
 
-/// Marks those of these positions where dust has another level than it stores, and the components
-/// near those where it gained or lost all power.
+/// Marks those of these positions where dust has another level than it stores, and the devices near
+/// those where it gained or lost all power. Other dust near them heeds its own level alone.
 pub(crate) fn tell_all(
     alloc: Global,
     map: &Frozen<'_>,
@@ -62,7 +63,7 @@ fn tell(
     if have_same_power(level, stored) {
         return Ok(());
     }
-    places.mark_around(alloc, map, p, HEEDED)
+    places.mark_around(alloc, map, p, HEEDED, MarkKind::Device)
 }
 
 // Whether both levels are over 0, or both are 0.

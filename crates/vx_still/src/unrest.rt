@@ -16,6 +16,7 @@ use vx_cells::Frozen;
 use vx_geom::Pos;
 use vx_levels::{LinkedLevels, repair};
 use vx_places::Places;
+use vx_store::MarkKind;
 
 // A part reads cells that at most so many steps lead to.
 const CELLS_OFF: u8 = 4;
@@ -58,7 +59,14 @@ pub fn unsettled(
         return Ok(Some(Look { places: None }));
     }
     let mut places = Places::new(alloc, map.bounds())?;
-    mark_around_all(alloc, map, &mut places, changed.as_slice(), CELLS_OFF)?;
+    mark_around_all(
+        alloc,
+        map,
+        &mut places,
+        changed.as_slice(),
+        CELLS_OFF,
+        MarkKind::Device,
+    )?;
     places.mark_all(alloc, waking.besides.as_slice())?;
     tell_all(alloc, map, levels, &mut places, changed.as_slice())?;
     tell_all(alloc, map, levels, &mut places, put.as_slice())?;

@@ -18,6 +18,11 @@ abbrev pub words_of : MarkKind → MarkWords → List ℕ
 words_of Component marks = marks.components
 words_of Device marks = marks.devices
 
+-- and the cells that these are of
+abbrev pub is_of : MarkKind → Cell → Bool
+is_of Component c = is_component c
+is_of Device c = is_device c
+
 -- a page in which nothing is marked
 unfoldable pub blank_page : MarkWords
 blank_page = record { components = replicate 64 0; devices = replicate 64 0 }

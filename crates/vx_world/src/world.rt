@@ -167,7 +167,8 @@ impl<A: Places, B: Seats> World<A, B> {
         self.submit_in(rt, pass, self.number_of(cmd.place()), &cmd, gate)
     }
 
-    /// The same of a command for which it was found which sector of the world holds its position.
+    /// Carries out a command as `submit` does, where it was found before which sector of the world
+    /// holds its position.
     pub fn submit_in<R: Wait, G: Gate>(
         &self,
         rt: &R,

@@ -5,9 +5,10 @@ use Rattle.vx_cells.specs.Maps.{cell_on}
 use Rattle.vx_geom.specs.Sizes.{is_inside}
 use Rattle.vx_levels.specs.Linked.{level_at}
 use Rattle.vx_levels.specs.Repairs.{ChangesAt, IsRight, IsRightBut}
-use Rattle.vx_places.specs.Around.{is_component_around}
+use Rattle.vx_places.specs.Around.{is_kind_around}
 use Rattle.vx_places.specs.Places.{is_at}
 use Rattle.vx_power.specs.Levels.{has}
+use Rattle.vx_store.specs.declared.mark_kind.MarkKind.TheVariants.{Component, Device}
 use Rattle.vx_still.specs.Telling.{AreTold}
 use Rattle.vx_still.proofs.Unsettling.{around_marked, besides_marked, mirror_right, rests_unmarked, still_told}
 use Rattle.vx_still.specs.Waking.{with_changed}
@@ -26,7 +27,7 @@ repair-requires c =
     ∙ sym c.in_ok-extend_from_slice-2.ensures.items)
     (mirror_right m all c.in_ok-unsure.unsure.items c.args.levels.now c.requires.still c.requires.mirror
     (λ p. c.in_ok-unsure.ensures p
-    ∙ ap (λ ps. is_inside m.sizes p && list_any (λ d. is_component_around (cell_on m) d 2 p) ps) (c.as_slice.ensures.value ∙ is)))
+    ∙ ap (λ ps. is_inside m.sizes p && list_any (λ d. is_kind_around Component (cell_on m) d 2 p) ps) (c.as_slice.ensures.value ∙ is)))
 
 pub returns-clause-look : goal.returns-clause-look
 returns-clause-look c =
@@ -59,7 +60,7 @@ returns-clause-look c =
           (subst (AreTold m level last) c.as_slice-6.ensures.value c.in_ok-tell_all-2.ensures.told)
           (λ q stands near. after_first q
           (around_marked m c.as_slice-3.result.now c.in_ok-places.places first sizes_0 c.in_ok-mark_around_all.ensures.marked q stands
-          (ap (list_any (λ d. is_component_around (cell_on m) d 4 q)) (c.as_slice-3.ensures.value ∙ is) ∙ near)))
+          (ap (list_any (λ d. is_kind_around Device (cell_on m) d 4 q)) (c.as_slice-3.ensures.value ∙ is) ∙ near)))
           (λ q stands listed. after_marks q
           (besides_marked m c.as_slice-4.result.now first second sizes_1 c.in_ok-mark_all.ensures.marked q stands
           (subst (λ ps. has ps q ≡ true) (sym (c.as_slice-4.ensures.value ∙ ap (λ d. d.besides) c.waking.view_is)) listed))),

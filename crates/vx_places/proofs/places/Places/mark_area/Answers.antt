@@ -3,7 +3,6 @@ use Rattle.std.specs.Int.{w32}
 use Rattle.std.specs.Option.{option_copied}
 use Rattle.std.proofs.lemmas.Bool.{and_parts, false_from_ne_true, true≢false}
 use Rattle.std.proofs.lemmas.Int.{to_z-of_z}
-use Rattle.vx_block.specs.Components.{is_component}
 use Rattle.vx_geom.specs.declared.pos.Pos.{Pos}
 use Rattle.vx_geom.specs.Sizes.{Sizes, is_inside, sector_number, sector_of}
 use Rattle.vx_geom.proofs.SectorLemmas.{inside_at}
@@ -11,10 +10,11 @@ use Rattle.vx_cells.specs.Listed.{place}
 use Rattle.vx_cells.specs.Maps.{sector_at, cell_on}
 use Rattle.vx_cells.specs.SectorCells.{SectorCells, cell_at}
 use Rattle.vx_cells.proofs.Rows as rows
+use Rattle.vx_store.specs.MachineMarks.{is_of}
 use Rattle.vx_places.specs.Areas.{IsPart, in_area}
-use Rattle.vx_places.specs.Around.{is_around, is_component_around, is_such_around, at_number, layer_of, row_of, column_of, least_within, end_within}
+use Rattle.vx_places.specs.Around.{is_around, is_kind_around, is_such_around, at_number, layer_of, row_of, column_of, least_within, end_within}
 use Rattle.vx_places.proofs.Adding.{adds_same, adds_none, none_below, one_number, all_numbers}
-use Rattle.vx_places.proofs.Areas.{IsThere, area_inside, first_of, part_from, stands_there, is_there, component_inside}
+use Rattle.vx_places.proofs.Areas.{IsThere, area_inside, first_of, part_from, stands_there, is_there, kind_inside, no_air}
 use Rattle.vx_places.proofs.Near.{parts_of, near_layer, same_in_layer, place_of, below_end, between_near}
 use Rattle.vx_places.proofs.places.Places.mark_area.Goals as goal
 use Rattle.vx_places.proofs.places.Places.mark_area.Goals.{After-sector_of, After-end_within-y-end}
@@ -39,7 +39,7 @@ found_is c = c.sector_of.ensures ∙ ap (λ p. sector_at c.args.map.now.sectors 
 
 -- whether a component stands at a position
 abbrev stands : After-sector_of → Pos → Bool
-stands c q = is_component (cell_on c.args.map.now q)
+stands c q = is_of c.args.kind (cell_on c.args.map.now q)
 
 pub returns-in_default-clause-marked : goal.returns-in_default-clause-marked
 returns-in_default-clause-marked c =
@@ -51,11 +51,11 @@ returns-in_default-clause-marked c =
     (λ q inside. false_from_ne_true _ (λ all.
     let is = parts_of (stands b) v c.args.p c.args.steps q inside c.args.area all in
     let stood = (and_parts (is_around c.args.p c.args.steps q) _ is.around).1 in
-    let there = inside_at m.sizes q (component_inside m q stood) in
+    let there = inside_at m.sizes q (kind_inside c.args.kind m q stood) in
     let air = ap (cell_on m) (place_of v q inside)
     ∙ stands_there m c.soundness-2.ensures c.args.area c.requires.there None none (column_of q) (layer_of q) (row_of q)
     is.within there.y_below in
-    true≢false (sym stood ∙ ap is_component air)))
+    true≢false (sym stood ∙ ap (is_of c.args.kind) air ∙ no_air c.args.kind)))
 
 -- it is a sector of the map
 sector_there : (c : After-sector_of) (cells : SectorCells) → option_copied c.sector_of.result ≡ Some cells
@@ -90,7 +90,7 @@ end c =
 
 -- the test by which positions are added
 abbrev added_by : After-end_within-y-end → Pos → Bool
-added_by c = in_area (is_component_around (cell_on c.args.map.now) c.args.p c.args.steps) c.args.area
+added_by c = in_area (is_kind_around c.args.kind (cell_on c.args.map.now) c.args.p c.args.steps) c.args.area
 
 -- they lie in these layers
 layers_hold : (c : After-end_within-y-end) (q : Pos) → is_inside c.args.self.now.sizes q ≡ true
@@ -100,11 +100,11 @@ layers_hold : (c : After-end_within-y-end) (q : Pos) → is_inside c.args.self.n
 layers_hold c q inside all =
     let m = c.args.map.now in
     let v = c.args.self.now.sizes in
-    let such : Pos → Bool = λ q. is_component (cell_on m q) in
+    let such : Pos → Bool = λ q. is_of c.args.kind (cell_on m q) in
     let is = parts_of such v c.args.p c.args.steps q inside c.args.area all in
     let stood = (and_parts (is_around c.args.p c.args.steps q) _ is.around).1 in
     let in_world = inside_at v q inside in
-    let on_map = inside_at m.sizes q (component_inside m q stood) in
+    let on_map = inside_at m.sizes q (kind_inside c.args.kind m q stood) in
     near_layer such v c.args.p c.args.steps q inside c.min-count.result
     (omega (arith, c.min-count.ensures, here c, there c, in_world.y_below, on_map.y_below)) is.around
 
@@ -167,14 +167,14 @@ loop-y-preserved c =
     let new = c.mark_layer.new.self in
     let cells = c.in-Some.cells.now in
     let low = below_end c.args.p.y c.args.steps c.min-count.result y (omega (arith, c.loop-y-test.true, end b)) in
-    let such : Pos → Bool = λ q. is_component (cell_at cells q) in
+    let such : Pos → Bool = λ q. is_of c.args.kind (cell_at cells q) in
     one_number layer_of (added_by b) c.args.self.now y old new c.loop-y.invariant
     (adds_same (at_number layer_of (in_area (is_such_around such c.args.p c.args.steps) c.args.area) y) _ old new
     c.in_ok-mark_layer.ensures.marked
     (λ q inside. same_in_layer old.sizes c.args.p c.args.steps q inside c.args.area y such (stands found)
     (λ of layer.
     let is = place_of old.sizes q inside in
-    ap is_component (sym (ap (cell_on m) is
+    ap (is_of c.args.kind) (sym (ap (cell_on m) is
     ∙ stands_there m c.soundness-2.ensures c.args.area c.requires.there (Some cells)
     (ap option_copied (sym c.in-Some.is) ∙ found_is found) (column_of q) (layer_of q) (row_of q) of
     (omega (arith, layer, low, c.min-count.ensures, there b))

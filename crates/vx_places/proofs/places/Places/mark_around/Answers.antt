@@ -1,11 +1,11 @@
 use Rattle.std.proofs.Common.{Bool, ◌≡◌, ◌+◌, ◌*◌, FitsSigned, ap, subst, ◌∙◌, arith, rules}
 use Rattle.std.specs.Int.{w32}
 use Rattle.std.proofs.lemmas.Int.{to_z-of_z}
-use Rattle.vx_block.specs.Components.{is_component}
 use Rattle.vx_geom.specs.declared.pos.Pos.{Pos}
 use Rattle.vx_geom.specs.Sizes.{Sizes, span}
 use Rattle.vx_cells.specs.Maps.{cell_on}
-use Rattle.vx_places.specs.Around.{is_component_around, between_numbers, row_of, least_within, end_within, Adds}
+use Rattle.vx_store.specs.MachineMarks.{is_of}
+use Rattle.vx_places.specs.Around.{is_kind_around, between_numbers, row_of, least_within, end_within, Adds}
 use Rattle.vx_places.proofs.Adding.{none_below, more_numbers, all_numbers}
 use Rattle.vx_places.proofs.Near.{near_row, end_most}
 use Rattle.vx_places.proofs.places.Places.mark_around.Goals as goal
@@ -31,10 +31,10 @@ end c =
 
 -- the test by which positions are added
 abbrev stands : After-least_within-next → Pos → Bool
-stands c q = is_component (cell_on c.args.map.now q)
+stands c q = is_of c.args.kind (cell_on c.args.map.now q)
 
 abbrev around : After-least_within-next → Pos → Bool
-around c = is_component_around (cell_on c.args.map.now) c.args.p c.args.steps
+around c = is_kind_around c.args.kind (cell_on c.args.map.now) c.args.p c.args.steps
 
 pub loop-next-init : goal.loop-next-init
 loop-next-init c =
@@ -72,7 +72,7 @@ loop-next-preserved c =
     record {
       least = omega (arith, c.loop-next.invariant.least);
       added = more_numbers row_of (around b) c.args.self.now next end old new (omega arith) c.loop-next.invariant.added
-          (subst (λ n. Adds (between_numbers row_of (is_component_around (cell_on c.args.map.now) c.args.p n) next end) old new)
+          (subst (λ n. Adds (between_numbers row_of (is_kind_around c.args.kind (cell_on c.args.map.now) c.args.p n) next end) old new)
           c.from-steps.ensures c.in_ok-mark_rows.ensures.marked);
     }
 

@@ -2,26 +2,26 @@ use Rattle.std.proofs.Common.{ℕ, List, Bool, ◌≡◌, ◌+◌, ◌-◌, ◌<
 use Rattle.std.specs.Int.{w32}
 use Rattle.std.specs.Option.{option_copied}
 use Rattle.std.proofs.lemmas.Int.{to_z-of_z}
-use Rattle.vx_block.specs.Components.{is_component}
 use Rattle.vx_geom.specs.declared.pos.Pos.{Pos}
 use Rattle.vx_geom.specs.Sizes.{Sizes, AreSizes, is_inside}
 use Rattle.vx_geom.proofs.SectorLemmas.{inside_at}
 use Rattle.vx_cells.specs.Listed.{place, AreInLayer}
 use Rattle.vx_cells.specs.SectorCells.{holds, cell_at}
+use Rattle.vx_store.specs.MachineMarks.{is_of}
 use Rattle.vx_places.specs.Areas.{IsColumnOf, IsPart, IsSector, in_area, marked_by}
 use Rattle.vx_places.specs.Around.{is_such_around, at_number, layer_of, row_of, column_of, least_within, end_within}
 use Rattle.vx_places.proofs.Adding.{adds_same, adds_none, none_below, one_number, all_numbers}
 use Rattle.vx_places.proofs.Areas.{area_held}
 use Rattle.vx_places.proofs.Near.{row_in_area, none_in_layer, same_in_layer, place_of, end_most, between_near}
 use Rattle.vx_places.proofs.places.Places.mark_layer.Goals as goal
-use Rattle.vx_places.proofs.places.Places.mark_layer.Goals.{After-components_in_layer, In-Some, After-end_within-z-end}
+use Rattle.vx_places.proofs.places.Places.mark_layer.Goals.{After-marks_in_layer, In-Some, After-end_within-z-end}
 
 -- a position of the layer of the area, and that the sector has it
-place_is : (c : After-components_in_layer) (q : Pos) → is_inside c.args.self.now.sizes q ≡ true → layer_of q ≡ c.args.y
+place_is : (c : After-marks_in_layer) (q : Pos) → is_inside c.args.self.now.sizes q ≡ true → layer_of q ≡ c.args.y
     → q ≡ place (column_of q) c.args.y (row_of q)
 place_is c q inside layer = place_of c.args.self.now.sizes q inside ∙ ap (λ y. place (column_of q) y (row_of q)) layer
 
-is_held : (c : After-components_in_layer) (q : Pos) → is_inside c.args.self.now.sizes q ≡ true
+is_held : (c : After-marks_in_layer) (q : Pos) → is_inside c.args.self.now.sizes q ≡ true
     → IsColumnOf c.args.area (column_of q) (row_of q) → layer_of q ≡ c.args.y → holds c.args.cells.now q ≡ true
 is_held c q inside of layer =
     let size = c.requires.size in
@@ -31,24 +31,24 @@ is_held c q inside of layer =
     (subst (λ v. IsSector v c.args.area c.args.cells.now.sector) size c.requires.sector) (column_of q) c.args.y (row_of q) of
     (subst (λ (v : Sizes). c.args.y < v.h) size c.requires.held)
 
-layer_is : (c : After-components_in_layer) (q : Pos) → is_inside c.args.self.now.sizes q ≡ true → layer_of q ≡ c.args.y
+layer_is : (c : After-marks_in_layer) (q : Pos) → is_inside c.args.self.now.sizes q ≡ true → layer_of q ≡ c.args.y
     → q.y ≡ pos c.args.y
 layer_is c q inside layer = (inside_at c.args.self.now.sizes q inside).y_is ∙ ap pos layer
 
 -- whether a component stands there
-abbrev stands : After-components_in_layer → Pos → Bool
-stands c q = is_component (cell_at c.args.cells.now q)
+abbrev stands : After-marks_in_layer → Pos → Bool
+stands c q = is_of c.args.kind (cell_at c.args.cells.now q)
 
 pub returns-in_default-clause-marked : goal.returns-in_default-clause-marked
 returns-in_default-clause-marked c =
-    let b = (goal.at.returns-in_default-clause-marked c).After-components_in_layer in
-    let none = subst (AreInLayer (stands b) c.args.cells.now c.args.y) (ap option_copied c.in_default.is) c.components_in_layer.ensures in
+    let b = (goal.at.returns-in_default-clause-marked c).After-marks_in_layer in
+    let none = subst (AreInLayer (stands b) c.args.cells.now c.args.y) (ap option_copied c.in_default.is) c.marks_in_layer.ensures in
     adds_none _ c.args.self.now
     (λ q inside. none_in_layer (stands b) c.args.self.now.sizes c.args.p c.args.steps q inside c.args.area c.args.y
     (λ of layer. none q (is_held b q inside of layer) (layer_is b q inside layer)))
 
 -- which the marks of the page tell
-told : (c : After-components_in_layer) (page : List ℕ) → AreInLayer (stands c) c.args.cells.now c.args.y (Some page)
+told : (c : After-marks_in_layer) (page : List ℕ) → AreInLayer (stands c) c.args.cells.now c.args.y (Some page)
     → (q : Pos) → is_inside c.args.self.now.sizes q ≡ true → IsColumnOf c.args.area (column_of q) (row_of q) → layer_of q ≡ c.args.y
     → marked_by page c.args.bounds q ≡ stands c q
 told c page are q inside of layer =
@@ -56,9 +56,9 @@ told c page are q inside of layer =
 
 pub returns-then-not-may_have_marks-clause-marked : goal.returns-then-not-may_have_marks-clause-marked
 returns-then-not-may_have_marks-clause-marked c =
-    let b = (goal.at.returns-then-not-may_have_marks-clause-marked c).After-components_in_layer in
+    let b = (goal.at.returns-then-not-may_have_marks-clause-marked c).After-marks_in_layer in
     let page = c.in-Some.page.now in
-    let are = subst (AreInLayer (stands b) c.args.cells.now c.args.y) (ap option_copied c.in-Some.is) c.components_in_layer.ensures in
+    let are = subst (AreInLayer (stands b) c.args.cells.now c.args.y) (ap option_copied c.in-Some.is) c.marks_in_layer.ensures in
     adds_none _ c.args.self.now
     (λ q inside. none_in_layer (stands b) c.args.self.now.sizes c.args.p c.args.steps q inside c.args.area c.args.y
     (λ of layer. sym (told b page are q inside of layer)
@@ -128,9 +128,9 @@ pub returns-clause-marked : goal.returns-clause-marked
 returns-clause-marked c =
     let at = goal.at.returns-clause-marked c in
     let b = at.After-end_within-z-end in
-    let found = at.After-components_in_layer in
+    let found = at.After-marks_in_layer in
     let v = c.args.self.now.sizes in
-    let are = subst (AreInLayer (stands found) c.args.cells.now c.args.y) (ap option_copied c.in-Some.is) c.components_in_layer.ensures in
+    let are = subst (AreInLayer (stands found) c.args.cells.now c.args.y) (ap option_copied c.in-Some.is) c.marks_in_layer.ensures in
     adds_same (layer b) _ c.args.self.now c.loop-z.self
     (all_numbers row_of (layer b) c.args.self.now c.loop-z.z c.loop-z.self c.loop-z.invariant
     (λ q inside near. omega (

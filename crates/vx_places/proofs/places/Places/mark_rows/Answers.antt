@@ -2,13 +2,13 @@ use Rattle.std.proofs.Common.{Bool, ◌≡◌, ◌+◌, ◌*◌, ◌%◌, ◌≤
 use Rattle.std.specs.Int.{w32}
 use Rattle.std.proofs.lemmas.Bool.{and_parts}
 use Rattle.std.proofs.lemmas.Int.{to_z-of_z}
-use Rattle.vx_block.specs.Components.{is_component}
 use Rattle.vx_geom.specs.declared.pos.Pos.{Pos}
 use Rattle.vx_geom.specs.Sizes.{Sizes, span}
 use Rattle.vx_cells.specs.Maps.{cell_on}
+use Rattle.vx_store.specs.MachineMarks.{is_of}
 use Rattle.vx_places.specs.Areas.{IsPart}
 use Rattle.vx_places.specs.declared.area.Area.{Area}
-use Rattle.vx_places.specs.Around.{is_component_around, between_numbers, row_of, column_of, least_within, end_within}
+use Rattle.vx_places.specs.Around.{is_kind_around, between_numbers, row_of, column_of, least_within, end_within}
 use Rattle.vx_places.proofs.Adding.{none_below, more_numbers, all_numbers}
 use Rattle.vx_places.proofs.Near.{near_column, end_most}
 use Rattle.vx_places.proofs.places.Places.mark_rows.Goals as goal
@@ -32,10 +32,10 @@ end c =
 
 -- the tests by which positions are added, in all rows and in these
 abbrev stands : After-least_within-west → Pos → Bool
-stands c q = is_component (cell_on c.args.map.now q)
+stands c q = is_of c.args.kind (cell_on c.args.map.now q)
 
 abbrev around : After-least_within-west → Pos → Bool
-around c = is_component_around (cell_on c.args.map.now) c.args.p c.args.steps
+around c = is_kind_around c.args.kind (cell_on c.args.map.now) c.args.p c.args.steps
 
 abbrev in_rows : After-least_within-west → Pos → Bool
 in_rows c = between_numbers row_of (around c) c.args.north c.args.south

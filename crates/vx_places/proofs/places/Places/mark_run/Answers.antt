@@ -2,13 +2,13 @@ use Rattle.std.proofs.Common.{◌≡◌, ap, subst, sym, ◌∙◌, arith}
 use Rattle.std.proofs.lemmas.Int.{ints}
 use Rattle.std.proofs.lemmas.Result.{on_ok_weaker}
 use Rattle.vx_geom.specs.Sizes.{is_inside, sector_number, index_in_sector}
-use Rattle.vx_cells.specs.Listed.{place}
-use Rattle.vx_cells.proofs.Rows.{in_word, low_inside, place_is}
+use Rattle.vx_cells.specs.Listed.{place, AreInRow}
+use Rattle.vx_cells.proofs.Rows.{bits_in_row, in_word, low_inside, place_is}
 use Rattle.vx_places.specs.Areas.{marked_by}
 use Rattle.vx_places.specs.Around.{Adds, is_in_run}
 use Rattle.vx_places.specs.Places.{in_run_from}
 use Rattle.vx_places.proofs.Adding.{adds_same, adds_none}
-use Rattle.vx_places.proofs.Runs.{AreInRow, bits_in_row, row_run, none_run}
+use Rattle.vx_places.proofs.Runs.{row_run, none_run}
 use Rattle.vx_places.proofs.places.Places.mark_run.Goals as goal
 use Rattle.vx_places.proofs.places.Places.mark_run.Goals.{After-new-p, After-run-bits}
 

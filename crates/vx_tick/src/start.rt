@@ -15,7 +15,7 @@ use vx_still::{Waking, Watch, linked_anew, unsettled};
 
 // To make levels right again where a cell changed, and to look around it, costs about as much as to
 // tell the levels of so many components anew and to look at them.
-const COMPONENTS_EACH: usize = 64;
+const COMPONENTS_EACH: usize = 32;
 
 // For so few cells it costs less at any size.
 const FEW: usize = 16;

@@ -11,7 +11,7 @@ use Rattle.vx_power.specs.Signals.{is_fed}
 use Rattle.vx_power.specs.Walks.{IsAmong}
 use Rattle.vx_power.proofs.Around.{IsOff, itself, step_off, off_joined, link_off, in_columns}
 use Rattle.vx_power.proofs.Carried.{level_carried}
-use Rattle.vx_power.proofs.Local.{Near, shows, is_fed_same, links_same}
+use Rattle.vx_power.proofs.Local.{Near, builds, shows, is_fed_same, links_same}
 
 -- what lies so many columns off is held by the columns up to that far
 held_by : (m d : ℕ) (p q : Pos) → m ≤ d → IsOff m p q → is_in (columns_by p d) q ≡ true
@@ -52,7 +52,7 @@ module _ (w v : Pos → Cell) (p : Pos) (alike : (q : Pos) → is_in (columns_by
 
   linked : (n : ℕ) (q : Pos) → IsDeep (suc n) q → links w q ≡ links v q
   linked n q deep =
-      let few = deep.0 in links_same w v q (shows w v 2 q (near 2 (14 - suc n) q (omega (arith, few)) deep.1))
+      let few = deep.0 in links_same w v q (builds w v 2 q (shows w v 2 q (near 2 (14 - suc n) q (omega (arith, few)) deep.1)))
 
   next : (n : ℕ) (q r : Pos) → IsDeep (suc n) q → IsAmong (links v q) r → IsDeep n r
   next n q r deep among =

@@ -160,7 +160,7 @@ module _ (w : Pos → Cell) where
   ]
 
   -- a neighbor has one in the opposite direction
-  back_to : (s p : Pos) (d : Dir) → neighbor s d ≡ p → neighbor p (opposite d) ≡ s
+  pub back_to : (s p : Pos) (d : Dir) → neighbor s d ≡ p → neighbor p (opposite d) ≡ s
   back_to s p d there = ap (λ q. neighbor q (opposite d)) (sym there) ∙ there_and_back s d
 
   -- dust that is fed by what stands somewhere is fed

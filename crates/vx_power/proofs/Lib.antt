@@ -16,3 +16,4 @@ pub mod Showing
 pub mod Sources
 pub mod Stepping
 pub mod Tables
+pub mod Turning

@@ -220,6 +220,19 @@ pub reaches_more : {X : Type 0} {inside : Pos → Bool} {level : ℕ} {a b c : S
 reaches_more f xs i d within some first second =
     reaches_as (sym (flat_more f xs i d within)) (reaches_on some first second)
 
+-- a list to which what each item gives is added, one item more and after the last of them
+pub list_more : {X : Type 0} (f : X → List Pos) (xs : List X) (i : ℕ) (d : X) (init : List Pos) {done new : List Pos} → i < length xs
+    → done ≡ init ++ flat_map f (take i xs) → new ≡ done ++ f (get_or xs i d)
+    → new ≡ init ++ flat_map f (take (i + 1) xs)
+list_more f xs i d init within so_far added =
+    added ∙ ap (λ ps. ps ++ f (get_or xs i d)) so_far
+    ∙ append_assoc init (flat_map f (take i xs)) (f (get_or xs i d))
+    ∙ ap (λ ps. init ++ ps) (sym (flat_more f xs i d within))
+
+pub list_all : {X : Type 0} (f : X → List Pos) (xs : List X) (i : ℕ) (ps init : List Pos) {done : List Pos} → length xs ≤ i
+    → flat_map f xs ≡ ps → done ≡ init ++ flat_map f (take i xs) → done ≡ init ++ ps
+list_all f xs i ps init past give so_far = so_far ∙ ap (λ qs. init ++ qs) (ap (flat_map f) (take_all i xs past) ∙ give)
+
 -- what all items of a list reach, after the last of them
 pub reaches_all : {X : Type 0} {inside : Pos → Bool} {level : ℕ} {a b : SpreadData}
     (f : X → List Pos) (xs : List X) (i : ℕ) (ps : List Pos) → length xs ≤ i → flat_map f xs ≡ ps

@@ -4,4 +4,5 @@ pub mod Levels
 pub mod Local
 pub mod Signals
 pub mod Spreading
+pub mod Turning
 pub mod Walks

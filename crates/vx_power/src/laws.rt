@@ -1,4 +1,5 @@
 ghost use Rattle.vx_power.specs.Local.{DustSees, PowerSees, ActivitySees, DustSeesShown, PowerSeesShown, ActivitySeesShown, LevelsAreLocal};
+ghost use Rattle.vx_power.specs.Turning.{LinksSeeBuilt, FeedingSeesTurned, ActivityHeeds};
 ghost use Rattle.vx_power.specs.Laws.{LevelsAreWalks, LevelsFallByOne, LinksLeadBack, PointsToAll, PointsAlong, PointsToJoins};
 
 /// The level of dust is 15 less the length of the shortest walk of links to fed dust, or 0; it
@@ -40,4 +41,14 @@ pub fn signals_see_what_is_shown()
     ensures dust { DustSeesShown }
     ensures power { PowerSeesShown }
     ensures activity { ActivitySeesShown }
+{}
+
+/// Where only torches, levers and repeaters were turned on or off, dust links to what it linked to;
+/// it is fed as before unless one of them would feed it, were it on; and what is active heeds those
+/// alone that are beside it, or beside a conductor that is beside it, as it does dust that gained or
+/// lost all power.
+pub fn signals_heed_what_was_turned()
+    ensures links { LinksSeeBuilt }
+    ensures feeding { FeedingSeesTurned }
+    ensures activity { ActivityHeeds }
 {}

@@ -3,6 +3,7 @@
 
 mod columns;
 mod dust;
+mod fed_dust;
 mod laws;
 mod level_table;
 mod leveled;
@@ -16,14 +17,14 @@ mod sheet;
 mod signals;
 mod spread;
 
+pub use fed_dust::add_all_fed;
 pub use laws::{
     dust_points_as_it_joins, levels_are_local, levels_are_walks, links_lead_back,
-    signals_see_few_steps, signals_see_what_is_shown,
+    signals_heed_what_was_turned, signals_see_few_steps, signals_see_what_is_shown,
 };
 pub use level_table::Levels;
 pub use leveled::Leveled;
 pub use links_nearby::{links_beside, links_down, links_up, may_climb, may_fall};
-pub use nearby::{is_bare, next_nearby};
 pub use next_dust::{dust_at, dust_over, dust_under};
 pub use places::{place_beside, place_over, place_under};
 pub use power::{activates, active, powered};

@@ -27,6 +27,9 @@ pub(crate) fn in_sight(
     ensures { IfOk result (λ seen. (p : Pos) → has seen.items p ≡ (is_inside map.now.sizes p
         && list_any (λ c. is_kind_around Component (cell_on map.now) c 2 p) changed.now)) }
 {
+    if changed.is_empty() {
+        return Ok(Vec::new(alloc));
+    }
     let mut places = Places::new(alloc, map.bounds())?;
     mark_around_all(alloc, map, &mut places, changed, SIGHT, MarkKind::Component)?;
     places.all(alloc)

@@ -16,10 +16,14 @@ use vx_cells::Frozen;
 use vx_geom::Pos;
 use vx_levels::{LinkedLevels, repair};
 use vx_places::Places;
+use vx_power::add_all_fed;
 use vx_store::MarkKind;
 
 // A part reads cells that at most so many steps lead to.
 const CELLS_OFF: u8 = 4;
+
+// Whether they are on it reads of those alone that so many steps lead to.
+const STATES_OFF: u8 = 2;
 
 // What heeds dust that got another level costs as much to find as a look at so many components.
 const PER_LEVEL: usize = 4;
@@ -47,10 +51,11 @@ pub fn unsettled(
         IsRight (cell_on map.now) levels.new)) }
     ensures look { IfOk result (λ found. IfSome found (IsLook map.now)) }
 {
-    let mut changed = Vec::from_slice(alloc, &waking.changed)?;
-    changed.extend_from_slice(written)?;
-    let mut unsure = in_sight(alloc, map, changed.as_slice())?;
-    unsure.extend_from_slice(changed.as_slice())?;
+    let mut rebuilt = Vec::from_slice(alloc, &waking.rebuilt)?;
+    rebuilt.extend_from_slice(written)?;
+    let mut unsure = in_sight(alloc, map, rebuilt.as_slice())?;
+    unsure.extend_from_slice(rebuilt.as_slice())?;
+    add_all_fed(&mut unsure, map, waking.turned.as_slice())?;
     let components = map.component_count() as usize;
     let Some(put) = repair(alloc, map, levels, unsure, turns_for(components))? else {
         return Ok(None);
@@ -63,12 +68,20 @@ pub fn unsettled(
         alloc,
         map,
         &mut places,
-        changed.as_slice(),
+        rebuilt.as_slice(),
         CELLS_OFF,
         MarkKind::Device,
     )?;
+    mark_around_all(
+        alloc,
+        map,
+        &mut places,
+        waking.turned.as_slice(),
+        STATES_OFF,
+        MarkKind::Device,
+    )?;
     places.mark_all(alloc, waking.besides.as_slice())?;
-    tell_all(alloc, map, levels, &mut places, changed.as_slice())?;
+    tell_all(alloc, map, levels, &mut places, rebuilt.as_slice())?;
     tell_all(alloc, map, levels, &mut places, put.as_slice())?;
     Ok(Some(Look {
         places: Some(places),

@@ -4,11 +4,15 @@ use std::alloc::Global;
 use std::marker::Model;
 use vx_geom::Pos;
 
-/// Where a map is not still: where changes at some positions are seen, and at some positions
-/// besides.
+/// Where a map is not still: where it was rebuilt, where parts were only turned on or off, and some
+/// positions besides.
 #[derive(Drop)]
 pub struct Waking {
-    pub changed: Vec<Pos>,
+    /// Where a cell of another build stands than did.
+    pub rebuilt: Vec<Pos>,
+    /// Where a torch, a lever or a repeater was turned on or off.
+    pub turned: Vec<Pos>,
+    /// What is looked at besides.
     pub besides: Vec<Pos>,
 }
 
@@ -17,24 +21,34 @@ impl Model for Waking {
 
     ghost Value = { WakingData };
 
-    ghost view = { λ a. record { changed = a.changed.items; besides = a.besides.items } };
+    ghost view = { λ a. record {
+      rebuilt = a.rebuilt.items;
+      turned = a.turned.items;
+      besides = a.besides.items;
+    } };
 }
 
 impl Waking {
     /// Nowhere. It takes no memory.
     pub fn nothing(alloc: Global) -> Waking
-        ensures { result ≡ record { changed = []; besides = [] } }
+        ensures { result ≡ record { rebuilt = []; turned = []; besides = [] } }
     {
         Waking {
-            changed: Vec::new(alloc),
+            rebuilt: Vec::new(alloc),
+            turned: Vec::new(alloc),
             besides: Vec::new(alloc),
         }
     }
 
     /// Whether it is nowhere.
     pub fn is_nothing(&self) -> bool
-        ensures { result ≡ true → self.now ≡ record { changed = []; besides = [] } }
+        ensures { result ≡ true → self.now ≡ record { rebuilt = []; turned = []; besides = [] } }
     {
-        self.changed.is_empty() && self.besides.is_empty()
+        self.rebuilt.is_empty() && self.turned.is_empty() && self.besides.is_empty()
+    }
+
+    /// How many cells show other than they did. Only costs rest on it.
+    pub fn count(&self) -> usize {
+        self.rebuilt.len().saturating_add(self.turned.len())
     }
 }

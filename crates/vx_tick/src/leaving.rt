@@ -26,13 +26,10 @@ pub fn left(
     ensures besides { IfOk result (λ waking. waking.besides
         ≡ hidden_changes (cell_on map.now) changes.now ++ restless.now) }
 {
-    let Waking {
-        mut changed,
-        mut besides,
-    } = left_by_parts(alloc, map, changes)?;
-    add_places(&mut changed, moved)?;
-    besides.extend_from_slice(restless)?;
-    Ok(Waking { changed, besides })
+    let mut waking = left_by_parts(alloc, map, changes)?;
+    add_places(&mut waking.rebuilt, moved)?;
+    waking.besides.extend_from_slice(restless)?;
+    Ok(waking)
 }
 
 // What a tick leaves to be looked at where parts change so and no piston moves.
@@ -75,7 +72,7 @@ fn add_change(waking: &mut Waking, p: Pos, cell: &Cell, was: Cell) -> Result<(),
         ++ (if shows_same cell.now was && not (is_dust cell.now) then p ∷ [] else [])) }
 {
     if !shows_same(*cell, was) {
-        waking.changed.push(p)?;
+        waking.turned.push(p)?;
     } else if !cell.is_dust() {
         waking.besides.push(p)?;
     }

@@ -70,7 +70,7 @@ impl Start {
             levels,
             calm,
         } = watch;
-        if has_much_changed(map, waking.changed.len().saturating_add(written.len())) {
+        if has_much_changed(map, waking.count().saturating_add(written.len())) {
             return Start::anew(alloc, map, 0);
         }
         if let Some(levels) = levels {

@@ -1,0 +1,12 @@
+use Rattle.std.proofs.Common.{◌≡◌, ◌++◌, take}
+use Rattle.std.specs.List.{flat_map}
+use Rattle.vx_cells.specs.Maps.{cell_on}
+use Rattle.vx_power.specs.Spreading.{fed_towards}
+use Rattle.vx_power.specs.Turning.{all_on}
+use Rattle.vx_power.proofs.fed_dust.add_fed.Given as goal
+
+-- what it would feed in the directions so far is added
+abbrev pub invariant-loop-dir : goal.invariant-loop-dir
+invariant-loop-dir l =
+    l.list.items
+    ≡ l.initial.list.items ++ flat_map (fed_towards (all_on (cell_on l.map)) l.fn.p) (take l.dir-index l.dir-items)

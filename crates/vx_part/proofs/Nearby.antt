@@ -12,8 +12,9 @@ use Rattle.vx_cells.specs.Maps.{MapData, cell_on}
 use Rattle.vx_cells.specs.SameCells.{same_cell}
 use Rattle.vx_power.specs.Laws.{dust_level}
 use Rattle.vx_power.specs.Levels.{is_in, columns_around, AreLevels}
+use Rattle.vx_power.specs.Local.{shown}
 use Rattle.vx_power.proofs.Around.{itself, step_off, wider, in_columns}
-use Rattle.vx_power.proofs.Local.{Near, shows_from}
+use Rattle.vx_power.proofs.Local.{Near, builds_from, each_near, here, near_from, power_near}
 use Rattle.vx_part.specs.Changes.{change_at, before, changes}
 use Rattle.vx_part.specs.Parts.{next_part}
 use Rattle.vx_part.proofs.Reading.{part_same}
@@ -45,8 +46,11 @@ module _ (m : MapData) (k : ℕ) (level : Pos → ℕ) (levels : AreLevels m k l
   same_part : (p : Pos) → is_in (columns_around m.sizes k 0) p ≡ true
       → next_part (cell_on m) level p ≡ next_part (cell_on m) (dust_level (cell_on m)) p
   same_part p lies =
-      part_same (cell_on m) (cell_on m) level (dust_level (cell_on m)) p
-      (shows_from (cell_on m) (cell_on m) 4 p (λ q among. refl)) (right 2 0 p (omega arith) lies) refl
+      let w = cell_on m in
+      let near = right 2 0 p (omega arith) lies in
+      part_same w w level (dust_level w) p (builds_from w w 4 p (λ q among. refl))
+      (each_near w (λ q. shown (w q)) (λ q. shown (w q)) p (near_from (λ q. shown (w q)) (λ q. shown (w q)) 2 p (λ q among. refl)))
+      (power_near w level (dust_level w) p near) refl (λ dust. here level (dust_level w) 2 p near)
 
   same_change : (p : Pos) → is_in (columns_around m.sizes k 0) p ≡ true
       → change_at (cell_on m) level p ≡ change_at (cell_on m) (dust_level (cell_on m)) p

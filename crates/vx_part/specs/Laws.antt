@@ -5,11 +5,12 @@ use Rattle.vx_block.specs.declared.cell.Cell.{Cell}
 use Rattle.vx_block.specs.declared.cell.Cell.TheVariants as cell
 use Rattle.vx_block.specs.declared.mount.Mount.{Mount}
 use Rattle.vx_block.specs.declared.lamp.Lamp.TheVariants as lamp
-use Rattle.vx_block.specs.Components.{is_component}
+use Rattle.vx_block.specs.Components.{is_component, is_dust}
 use Rattle.vx_block.specs.Repeating.{Repeating}
 use Rattle.vx_block.specs.States.{mount_dir, ticks_of}
 use Rattle.vx_power.specs.Local.{within_steps, sees, AreAlike, ShowAlike}
 use Rattle.vx_power.specs.Signals.{is_powered}
+use Rattle.vx_power.specs.Turning.{BuiltAlike, ShowHeeded, PowerHeeded}
 use Rattle.vx_part.specs.Parts.{is_locked, counted, next_lamp, next_part}
 
 -- dust keeps its level
@@ -64,6 +65,13 @@ abbrev pub PartsReadShown : Type 0
 PartsReadShown = (w v : Pos → Cell) (a b : Pos → ℕ) (p : Pos)
     → ShowAlike (reads p) w v → w p ≡ v p → AreAlike (sees p) a b
     → next_part w a p ≡ next_part v b p
+
+-- or by how they are built, and of those that it heeds by what they show, and by which dust has power;
+-- dust heeds its own level besides
+abbrev pub PartsHeed : Type 0
+PartsHeed = (w v : Pos → Cell) (a b : Pos → ℕ) (p : Pos)
+    → BuiltAlike (reads p) w v → w p ≡ v p → ShowHeeded w v p → PowerHeeded w a b p
+    → (is_dust (w p) ≡ true → a p ≡ b p) → next_part w a p ≡ next_part v b p
 
 -- what is no component stays
 abbrev pub OthersStay : Type 0

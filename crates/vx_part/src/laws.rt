@@ -1,4 +1,4 @@
-ghost use Rattle.vx_part.specs.Laws.{DustKeepsItsLevel, TorchesInvert, LockedRepeatersStay, RepeatersDelay, LampsGoOutLate, PartsRead, PartsReadShown, OthersStay};
+ghost use Rattle.vx_part.specs.Laws.{DustKeepsItsLevel, TorchesInvert, LockedRepeatersStay, RepeatersDelay, LampsGoOutLate, PartsRead, PartsReadShown, PartsHeed, OthersStay};
 
 /// Dust keeps its level, and a torch inverts the power of its block, a tick later.
 pub fn dust_keeps_torches_invert()
@@ -27,6 +27,12 @@ pub fn parts_read_four_steps()
 /// Of the other cells that four steps lead to, it is decided by what they show alone.
 pub fn parts_read_what_is_shown()
     ensures { PartsReadShown }
+{}
+
+/// Where they are built alike it is decided by what is shown beside a part, and beside a conductor
+/// that is beside it, and by which dust has power there; and that of dust by its level.
+pub fn parts_heed_what_is_near()
+    ensures { PartsHeed }
 {}
 
 /// What is no component of machines stays as it is.

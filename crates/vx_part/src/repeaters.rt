@@ -1,13 +1,14 @@
 //! Repeaters: what locks them, and how they count.
-ghost use Rattle.std.specs.Prelude.{◌≡◌, ◌<◌};
+ghost use Rattle.std.specs.Prelude.{◌≡◌, ◌<◌, IfSome};
 ghost use Rattle.vx_block.specs.States.{ticks_of};
 ghost use Rattle.vx_cells.specs.Maps.{cell_on};
+ghost use Rattle.vx_cells.specs.Nearby.{HasAround};
 ghost use Rattle.vx_part.specs.Parts.{is_on_towards, locks_from, is_locked, next_wait, counted, next_repeater};
 
 use vx_block::{Cell, Repeater, Side};
-use vx_cells::Frozen;
+use vx_cells::{Cells, Frozen};
 use vx_geom::Pos;
-use vx_power::{Leveled, activates};
+use vx_power::{Leveled, activates, next_cell};
 
 // Whether a cell is a repeater that is on and faces that side.
 fn is_on_towards(side: Side, cell: Cell) -> bool
@@ -20,19 +21,24 @@ fn is_on_towards(side: Side, cell: Cell) -> bool
 }
 
 #[tactic(auto, unfolding(crate::specs::Parts::locks_from))]
-fn locks_from(map: &Frozen<'_>, p: Pos, side: Side) -> bool
+fn locks_from(map: &Frozen<'_>, around: Option<&Cells>, p: Pos, side: Side) -> bool
+    requires { IfSome around (λ cells. HasAround map.now cells.now p) }
     ensures { result ≡ locks_from (cell_on map.now) p side }
 {
-    is_on_towards(side.back(), map.beside(p, side.dir()))
+    match next_cell(map, around, p, side.dir()) {
+        Some((_, cell)) => is_on_towards(side.back(), cell),
+        None => false,
+    }
 }
 
 // Whether a repeater at a position that faces that way is locked.
 #[tactic(auto, unfolding(crate::specs::Parts::is_locked))]
-fn is_locked(map: &Frozen<'_>, p: Pos, facing: Side) -> bool
+fn is_locked(map: &Frozen<'_>, around: Option<&Cells>, p: Pos, facing: Side) -> bool
+    requires { IfSome around (λ cells. HasAround map.now cells.now p) }
     ensures { result ≡ is_locked (cell_on map.now) p facing }
 {
     let right = facing.right();
-    locks_from(map, p, right) || locks_from(map, p, right.back())
+    locks_from(map, around, p, right) || locks_from(map, around, p, right.back())
 }
 
 /// What a repeater at a position is after the tick.
@@ -45,11 +51,12 @@ pub fn next_repeater<L: Leveled>(
 ) -> Repeater
     ensures { result ≡ next_repeater (cell_on map.now) (L.level levels.now) p repeater }
 {
-    if is_locked(map, p, repeater.facing()) {
+    let around = map.around(p);
+    if is_locked(map, around, p, repeater.facing()) {
         return repeater;
     }
     let behind = repeater.facing().back().dir();
-    counted(repeater, activates(map, levels, p, behind))
+    counted(repeater, activates(map, around, levels, p, behind))
 }
 
 // What a repeater that is not locked is after a tick with this input.

@@ -5,23 +5,24 @@ use Rattle.vx_block.specs.declared.cell.Cell.TheVariants.{Piston}
 use Rattle.vx_cells.specs.Maps.{MapData, cell_on}
 use Rattle.vx_geom.specs.declared.pos.Pos.{Pos}
 use Rattle.vx_power.specs.Laws.{dust_level}
-use Rattle.vx_power.specs.Local.{within_steps, AreAlike, ShowAlike, AreLevelsNear}
+use Rattle.vx_power.specs.Local.{within_steps, AreLevelsNear}
 use Rattle.vx_power.specs.Signals.{is_active}
-use Rattle.vx_power.proofs.Local.{activity_sees_shown, activity_by}
-use Rattle.vx_piston.specs.Laws.{RestlessReads, OthersStay}
+use Rattle.vx_power.specs.Turning.{BuiltAlike, ShowHeeded, PowerHeeded}
+use Rattle.vx_power.proofs.Local.{activity_heeds, activity_by}
+use Rattle.vx_piston.specs.Laws.{RestlessHeeds, OthersStay}
 use Rattle.vx_piston.specs.Moves.{pushing, drawing, move_of, candidate, restless_as, is_restless}
 
-module _ (w v : Pos → Cell) (a b : Pos → ℕ) (p : Pos)
-    (cells : ShowAlike (within_steps 4 p) w v) (levels : AreAlike (within_steps 2 p) a b) where
-  reads_as : (c : Cell) → restless_as w a p c ≡ restless_as v b p c
-  reads_as (Piston d sticky false) = activity_sees_shown w v a b (Some d) p cells levels
-  reads_as (Piston d sticky true) = ap not (activity_sees_shown w v a b (Some d) p cells levels)
-  reads_as _ = refl
+module _ (w v : Pos → Cell) (a b : Pos → ℕ) (p : Pos) (cells : BuiltAlike (within_steps 4 p) w v)
+    (shows : ShowHeeded w v p) (powers : PowerHeeded w a b p) where
+  heeds_as : (c : Cell) → restless_as w a p c ≡ restless_as v b p c
+  heeds_as (Piston d sticky false) = activity_heeds w v a b (Some d) p cells shows powers
+  heeds_as (Piston d sticky true) = ap not (activity_heeds w v a b (Some d) p cells shows powers)
+  heeds_as _ = refl
 
-pub restless_reads : RestlessReads
+pub restless_heeds : RestlessHeeds
 unfolding is_restless
-restless_reads w v a b p cells own levels =
-    ap (restless_as w a p) own ∙ reads_as w v a b p cells levels (v p)
+restless_heeds w v a b p cells own shows powers =
+    ap (restless_as w a p) own ∙ heeds_as w v a b p cells shows powers (v p)
 
 stays : (b : Bool) → not b ≡ false → b ≡ true
 stays true is = refl

@@ -8,7 +8,8 @@ use Rattle.vx_block.specs.declared.cell.Cell.{Cell}
 use Rattle.vx_block.specs.declared.mobility.Mobility.TheVariants.{Empty, Moves, Breaks}
 use Rattle.vx_block.specs.Mobilities.{mobility_of}
 use Rattle.vx_cells.specs.Maps.{MapData, cell_on}
-use Rattle.vx_power.specs.Local.{within_steps, AreAlike, ShowAlike}
+use Rattle.vx_power.specs.Local.{within_steps}
+use Rattle.vx_power.specs.Turning.{BuiltAlike, ShowHeeded, PowerHeeded}
 use Rattle.vx_power.specs.Walks.{IsAmong}
 use Rattle.vx_piston.specs.Moves.{Moving, most_cells, most_pushed, candidate, is_restless}
 
@@ -56,11 +57,11 @@ abbrev pub TakesEachOnce : MapData → Pos → Moving → Type 0
 TakesEachOnce m p move = (i j : ℕ) (q : Pos)
     → slice_get move.cells i ≡ Some q → slice_get move.cells j ≡ Some q → i ≡ j
 
--- whether a piston is restless is decided by its own cell, by what the cells that four steps lead
--- to show, and by the levels that two lead to
-abbrev pub RestlessReads : Type 0
-RestlessReads = (w v : Pos → Cell) (a b : Pos → ℕ) (p : Pos)
-    → ShowAlike (within_steps 4 p) w v → w p ≡ v p → AreAlike (within_steps 2 p) a b
+-- whether a piston is restless is decided by its own cell, by how the cells that four steps lead to
+-- are built, and of those that it heeds by what they show, and by which dust has power
+abbrev pub RestlessHeeds : Type 0
+RestlessHeeds = (w v : Pos → Cell) (a b : Pos → ℕ) (p : Pos)
+    → BuiltAlike (within_steps 4 p) w v → w p ≡ v p → ShowHeeded w v p → PowerHeeded w a b p
     → is_restless w a p ≡ is_restless v b p
 
 -- no other piston moves

@@ -1,4 +1,4 @@
-ghost use Rattle.vx_piston.specs.Laws.{OfCandidates, BeginsWithPiston, TakesFewCells, PushesFewCells, StaysInside, LiesInLine, TakesEachOnce, RestlessReads, OthersStay};
+ghost use Rattle.vx_piston.specs.Laws.{OfCandidates, BeginsWithPiston, TakesFewCells, PushesFewCells, StaysInside, LiesInLine, TakesEachOnce, RestlessHeeds, OthersStay};
 
 /// What a piston would move begins with the cell of the piston itself.
 pub fn moves_begin_with_pistons()
@@ -23,8 +23,10 @@ pub fn moves_are_lines()
     ensures once { OfCandidates TakesEachOnce }
 {}
 
-/// Whether a piston is restless is decided within four steps of it, and no other piston moves.
+/// Whether a piston is restless is decided by how cells are built within four steps of it, and by
+/// what is shown, and which dust has power, beside it and beside a conductor that is beside it. No
+/// other piston moves.
 pub fn restless_pistons_move()
-    ensures reads { RestlessReads }
+    ensures heeds { RestlessHeeds }
     ensures others { OthersStay }
 {}

@@ -60,6 +60,10 @@ has_if : (b : Bool) (ps : List Pos) (p : Pos) → has (if b then ps else []) p �
 has_if true ps p = refl
 has_if false ps p = refl
 
+-- a neighbor has one in the opposite direction
+pub back_to : (s p : Pos) (d : Dir) → neighbor s d ≡ p → neighbor p (opposite d) ≡ s
+back_to s p d there = ap (λ q. neighbor q (opposite d)) (sym there) ∙ there_and_back s d
+
 module _ (w : Pos → Cell) where
   -- what is listed beside a position is dust, and stands there
   dust_there : (p q : Pos) (d : Dir) → has (dust_at w q d) p ≡ true
@@ -158,10 +162,6 @@ module _ (w : Pos → Cell) where
         (each_from (dust_at w (neighbor s d)) p by.onward
         (there_dust p (neighbor s d) by.onward feeds.0 by.there))))
   ]
-
-  -- a neighbor has one in the opposite direction
-  pub back_to : (s p : Pos) (d : Dir) → neighbor s d ≡ p → neighbor p (opposite d) ≡ s
-  back_to s p d there = ap (λ q. neighbor q (opposite d)) (sym there) ∙ there_and_back s d
 
   -- dust that is fed by what stands somewhere is fed
   pub feeds_fed : (s p : Pos) → Feeds s p → is_fed w p ≡ true

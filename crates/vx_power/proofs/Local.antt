@@ -39,7 +39,7 @@ one_of_six Down = inr (inr (inr (inl refl)))
 one_of_six South = inr (inr (inr (inr (inl refl))))
 one_of_six North = inr (inr (inr (inr (inr (inl refl)))))
 
-among_around : (f : Pos → List Pos) (p q : Pos) (ds : List Dir) (d : Dir)
+pub among_around : (f : Pos → List Pos) (p q : Pos) (ds : List Dir) (d : Dir)
     → IsAmong ds d → IsAmong (f (neighbor p d)) q → IsAmong (around f p ds) q
 among_around f p q [] d none there = absurd none
 among_around f p q (e ∷ ds) d (inl same) there =

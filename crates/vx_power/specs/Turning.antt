@@ -11,6 +11,7 @@ use Rattle.vx_power.specs.Levels.{has}
 use Rattle.vx_power.specs.Local.{within_steps, sees, shown, AreAlike}
 use Rattle.vx_power.specs.Signals.{is_fed, is_powered, is_active}
 use Rattle.vx_power.specs.Spreading.{fed_by}
+use Rattle.vx_power.specs.Walks.{IsAmong}
 
 -- a torch, a lever or a repeater as it is when it is on
 abbrev pub turned_on : Cell → Cell
@@ -58,7 +59,7 @@ LinksSeeBuilt = (w v : Pos → Cell) (p : Pos) → BuiltAlike (sees p) w v → l
 -- were it on
 abbrev pub FeedingSeesTurned : Type 0
 FeedingSeesTurned = (w v : Pos → Cell) (turned : List Pos) (p : Pos) → BuiltAlike (sees p) w v
-    → ((q : Pos) → has turned q ≡ false → shown (w q) ≡ shown (v q))
+    → ((q : Pos) → IsAmong (sees p) q → has turned q ≡ false → shown (w q) ≡ shown (v q))
     → has (fed_by (all_on v) turned) p ≡ false → is_fed w p ≡ is_fed v p
 
 -- what is active at p depends on how the cells that it sees are built, and of those that it heeds on

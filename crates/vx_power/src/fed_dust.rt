@@ -26,16 +26,20 @@ pub fn add_all_fed(
     Ok(())
 }
 
-// Adds the dust that one of them would feed.
+// Adds the dust that one of them would feed. Direction by direction, so that each is compiled for
+// itself.
+#[tactic(auto, unfolding(crate::specs::Spreading::fed_from))]
 fn add_fed(list: &mut Vec<Pos>, map: &Frozen<'_>, p: Pos) -> Result<(), AllocError>
     ensures { OnOk result (list.new.items ≡ list.old.items
         ++ fed_from (all_on (cell_on map.now)) p) }
 {
     let cell = turned_on(map.cell(p));
-    for dir in Dir::ALL {
-        add_fed_towards(list, map, &cell, p, dir)?;
-    }
-    Ok(())
+    add_fed_towards(list, map, &cell, p, Dir::East)?;
+    add_fed_towards(list, map, &cell, p, Dir::West)?;
+    add_fed_towards(list, map, &cell, p, Dir::Up)?;
+    add_fed_towards(list, map, &cell, p, Dir::Down)?;
+    add_fed_towards(list, map, &cell, p, Dir::South)?;
+    add_fed_towards(list, map, &cell, p, Dir::North)
 }
 
 // Adds the dust that it would feed in one direction.

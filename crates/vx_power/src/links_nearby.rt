@@ -14,8 +14,8 @@ use vx_block::Side;
 use vx_cells::{Cells, Frozen};
 use vx_geom::{Dir, Pos};
 
-/// Whether dust at a position may climb on any side: some component stands close to it in the layer over it,
-/// and nothing over it conducts.
+/// Whether dust at a position may climb on any side: some component stands close to it in the layer
+/// over it, and nothing over it conducts. `true` does not promise that it does.
 pub fn may_climb(map: &Frozen<'_>, cells: &Cells, p: Pos) -> bool
     requires { HasAround map.now cells.now p }
     ensures open { result ≡ true → conducts (cell_on map.now (over p)) ≡ false }
@@ -29,8 +29,8 @@ pub fn may_climb(map: &Frozen<'_>, cells: &Cells, p: Pos) -> bool
     !cells.has_conductor(above)
 }
 
-/// Whether dust at a position may run down on any side: some component stands close to it in the layer under
-/// it.
+/// Whether dust at a position may run down on any side: some component stands close to it in the
+/// layer under it. `true` does not promise that it does.
 pub fn may_fall(map: &Frozen<'_>, cells: &Cells, p: Pos) -> bool
     requires { HasAround map.now cells.now p }
     ensures { result ≡ false → (side : Side) → links_down (cell_on map.now) p side ≡ false }

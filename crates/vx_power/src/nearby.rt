@@ -1,5 +1,6 @@
 //! Positions close to one, where one sector has all around it.
-ghost use Rattle.std.specs.Prelude.{◌≡◌, ◌≤◌, pos, unsigned_abs, true, false};
+ghost use Rattle.std.specs.Prelude.{◌≡◌, ◌≤◌, pos, unsigned_abs, true, false, None, IfSome};
+ghost use Rattle.vx_block.specs.declared.cell.Cell.TheVariants.{Air};
 ghost use Rattle.vx_block.specs.Components.{is_component};
 ghost use Rattle.vx_cells.specs.Maps.{cell_on};
 ghost use Rattle.vx_cells.specs.Nearby.{HasAround, IsClose};
@@ -7,6 +8,7 @@ ghost use Rattle.vx_cells.specs.SectorCells.{holds, cell_at};
 ghost use Rattle.vx_geom.specs.declared.pos.Pos.{Pos};
 ghost use Rattle.vx_geom.specs.Neighbor.{neighbor};
 
+use vx_block::Cell;
 use vx_cells::{Cells, Frozen};
 use vx_geom::{Dir, Pos};
 
@@ -22,8 +24,31 @@ pub fn next_nearby(map: &Frozen<'_>, cells: &Cells, p: Pos, dir: Dir) -> Pos
     p.step(dir).unwrap()
 }
 
+/// The next position in that direction and what stands there; `None` outside the world. `around` is
+/// the sector that has all around this one, if there is one: then it is read from that.
+#[inline(always)]
+#[tactic(auto, using(vx_base::proofs::Signed::signed))]
+pub fn next_cell(
+    map: &Frozen<'_>,
+    around: Option<&Cells>,
+    p: Pos,
+    dir: Dir,
+) -> Option<(Pos, Cell)>
+    requires { IfSome around (λ cells. HasAround map.now cells.now p) }
+    ensures next { IfSome result (λ next. next.0 ≡ neighbor p dir) }
+    ensures cell { IfSome result (λ next. next.1 ≡ cell_on map.now (neighbor p dir)) }
+    ensures outside { result ≡ None → cell_on map.now (neighbor p dir) ≡ Air }
+{
+    if let Some(cells) = around {
+        let next = next_nearby(map, cells, p, dir);
+        return Some((next, cells.get(next)));
+    }
+    let next = map.next(p, dir)?;
+    Some((next, map.cell(next)))
+}
+
 /// Whether no component of machines stands close to a position in the layer of another that is
-/// close to it.
+/// close to it. `false` promises nothing: only costs rest on it.
 #[inline(always)]
 pub fn is_bare(map: &Frozen<'_>, cells: &Cells, p: Pos, other: Pos) -> bool
     requires around { HasAround map.now cells.now p }

@@ -59,6 +59,7 @@ pub fn dust_under(map: &Frozen<'_>, p: Pos, side: Side) -> Option<Pos>
 }
 
 /// The dust in that direction to which a cell at a position gives power.
+#[inline(always)]
 #[tactic(auto, using(crate::proofs::Stepping::dust_place))]
 pub fn dust_given(map: &Frozen<'_>, cell: &Cell, p: Pos, dir: Dir) -> Option<Pos>
     ensures found { option_to_list result
@@ -74,6 +75,7 @@ pub fn dust_given(map: &Frozen<'_>, cell: &Cell, p: Pos, dir: Dir) -> Option<Pos
 }
 
 /// The conductor in that direction that a cell at a position drives.
+#[inline(always)]
 pub fn driven(map: &Frozen<'_>, cell: &Cell, p: Pos, dir: Dir) -> Option<Pos>
     ensures { SomeIff result
         ((drives cell.now dir && conducts (cell_on map.now (neighbor p dir))) ≡ true)

@@ -1,8 +1,9 @@
 //! What the power of dust reaches: conductors that it powers, lamps and pistons that it makes
 //! active.
-ghost use Rattle.std.specs.Prelude.{◌≡◌, ◌&&◌, ◌||◌, nat_lt};
+ghost use Rattle.std.specs.Prelude.{◌≡◌, ◌&&◌, ◌||◌, not, nat_lt, IfSome};
 ghost use Rattle.vx_block.specs.Components.{is_dust};
 ghost use Rattle.vx_cells.specs.Maps.{cell_on};
+ghost use Rattle.vx_cells.specs.Nearby.{HasAround};
 ghost use Rattle.vx_geom.specs.Dirs.{opposite};
 ghost use Rattle.vx_power.specs.Laws.{dust_level};
 ghost use Rattle.vx_power.specs.Local.{AreLevelsNear};
@@ -10,9 +11,10 @@ ghost use Rattle.vx_power.specs.Signals.{reaches, gives, is_source, has_source, 
 
 use crate::dust::points;
 use crate::leveled::Leveled;
+use crate::nearby::next_cell;
 use crate::signals::{drives, gives};
 use vx_block::{Cell, Side};
-use vx_cells::Frozen;
+use vx_cells::{Cells, Frozen};
 use vx_geom::{Dir, Pos};
 
 // Whether dust at a position reaches the cell from which it lies in that direction.
@@ -40,22 +42,36 @@ pub fn powered<L: Leveled>(map: &Frozen<'_>, levels: &L, p: Pos) -> bool
     map.has_conductor(p) && has_source(map, levels, p)
 }
 
-// Whether some neighbor drives what stands at a position, or is dust that powers it.
+// Whether some neighbor drives what stands at a position, or is dust that powers it. Direction by
+// direction, so that each is compiled for itself.
 #[tactic(auto, unfolding(crate::specs::Signals::has_source))]
 fn has_source<L: Leveled>(map: &Frozen<'_>, levels: &L, p: Pos) -> bool
     ensures { result ≡ has_source (cell_on map.now) (L.level levels.now) p }
 {
-    Dir::ALL.iter().any(|dir| is_source(map, levels, p, *dir))
+    let around = map.around(p);
+    is_source(map, around, levels, p, Dir::East)
+        || is_source(map, around, levels, p, Dir::West)
+        || is_source(map, around, levels, p, Dir::Up)
+        || is_source(map, around, levels, p, Dir::Down)
+        || is_source(map, around, levels, p, Dir::South)
+        || is_source(map, around, levels, p, Dir::North)
 }
 
 // Whether the neighbor in that direction is one of these.
+#[inline(always)]
 #[tactic(auto, unfolding(crate::specs::Signals::is_source, crate::specs::Signals::drives_from, crate::specs::Signals::dust_powers))]
-fn is_source<L: Leveled>(map: &Frozen<'_>, levels: &L, p: Pos, dir: Dir) -> bool
+fn is_source<L: Leveled>(
+    map: &Frozen<'_>,
+    around: Option<&Cells>,
+    levels: &L,
+    p: Pos,
+    dir: Dir,
+) -> bool
+    requires { IfSome around (λ cells. HasAround map.now cells.now p) }
     ensures { result ≡ is_source (cell_on map.now) (L.level levels.now) p dir }
 {
-    match map.next(p, dir) {
-        Some(next) => {
-            let cell = map.cell(next);
+    match next_cell(map, around, p, dir) {
+        Some((next, cell)) => {
             drives(cell, dir.opposite()) || has_power_towards(map, levels, next, &cell, dir)
         }
         None => false,
@@ -78,14 +94,21 @@ fn has_power_towards<L: Leveled>(
 }
 
 /// Whether what stands in that direction from a position makes a lamp, a piston or a repeater there
-/// active.
+/// active. `around` is the sector that has all around the position, if there is one.
 #[inline(always)]
 #[tactic(auto, unfolding(crate::specs::Signals::activates, crate::specs::Signals::is_powered, crate::specs::Signals::dust_powers))]
-pub fn activates<L: Leveled>(map: &Frozen<'_>, levels: &L, p: Pos, dir: Dir) -> bool
+pub fn activates<L: Leveled>(
+    map: &Frozen<'_>,
+    around: Option<&Cells>,
+    levels: &L,
+    p: Pos,
+    dir: Dir,
+) -> bool
+    requires { IfSome around (λ cells. HasAround map.now cells.now p) }
     ensures { result ≡ activates (cell_on map.now) (L.level levels.now) p dir }
 {
-    match map.next(p, dir) {
-        Some(next) => acts(map, levels, next, &map.cell(next), dir),
+    match next_cell(map, around, p, dir) {
+        Some((next, cell)) => acts(map, levels, next, &cell, dir),
         None => false,
     }
 }
@@ -119,7 +142,31 @@ pub fn active<L: Leveled>(map: &Frozen<'_>, levels: &L, p: Pos, front: Option<Di
 fn is_activated<L: Leveled>(map: &Frozen<'_>, levels: &L, p: Pos, front: Option<Dir>) -> bool
     ensures { result ≡ is_active (cell_on map.now) (L.level levels.now) front p }
 {
-    Dir::ALL.iter().any(|dir| !is_front(front, *dir) && activates(map, levels, p, *dir))
+    let around = map.around(p);
+    activates_past(map, around, levels, front, p, Dir::East)
+        || activates_past(map, around, levels, front, p, Dir::West)
+        || activates_past(map, around, levels, front, p, Dir::Up)
+        || activates_past(map, around, levels, front, p, Dir::Down)
+        || activates_past(map, around, levels, front, p, Dir::South)
+        || activates_past(map, around, levels, front, p, Dir::North)
+}
+
+// Whether what stands in that direction makes a lamp or a piston at a position active, and it is
+// not that of its front.
+#[inline(always)]
+fn activates_past<L: Leveled>(
+    map: &Frozen<'_>,
+    around: Option<&Cells>,
+    levels: &L,
+    front: Option<Dir>,
+    p: Pos,
+    dir: Dir,
+) -> bool
+    requires { IfSome around (λ cells. HasAround map.now cells.now p) }
+    ensures { result ≡ (not (is_front front dir)
+        && activates (cell_on map.now) (L.level levels.now) p dir) }
+{
+    !is_front(front, dir) && activates(map, around, levels, p, dir)
 }
 
 fn is_front(front: Option<Dir>, dir: Dir) -> bool

@@ -1,5 +1,6 @@
 pub mod Heeding
 pub mod Looking
+pub mod Marking
 pub mod Mirroring
 pub mod Sensing
 pub mod Stilling

@@ -11,7 +11,7 @@ use Rattle.vx_geom.specs.Dirs.{all_dirs}
 use Rattle.vx_geom.specs.Neighbor.{neighbor}
 use Rattle.vx_geom.specs.Places.{positions}
 use Rattle.vx_geom.specs.Sizes.{AreSizes, is_inside, sector_count, sector_number, sector_of}
-use Rattle.vx_block.specs.Components.{is_component}
+use Rattle.vx_block.specs.Components.{is_component, is_device, is_dust}
 use Rattle.vx_cells.specs.Listed.{components_on}
 use Rattle.vx_cells.specs.Maps.{MapData, cell_on}
 use Rattle.vx_cells.proofs.Indices.{numbered, number_below}
@@ -79,6 +79,10 @@ component_inside m p component = elim (cases_Bool (is_inside m.sizes p)) [
       let air = outside_is_air m p (λ inside. false≢true (sym outside ∙ inside)) in
       absurd (false≢true (sym (ap is_component air) ∙ component))
 ]
+
+-- and so does a device
+pub device_inside : (m : MapData) (p : Pos) → is_device (cell_on m p) ≡ true → is_inside m.sizes p ≡ true
+device_inside m p stands = component_inside m p (or_right (is_dust (cell_on m p)) (is_device (cell_on m p)) stands)
 
 -- a list has a position that no steps lead to from one of its own
 pub listed_place : (ps : List Pos) (p : Pos)

@@ -3,21 +3,18 @@ use Rattle.std.proofs.Common.{◌≡◌, ℕ, Bool, true, false, ◌&&◌, ◌||
 use Rattle.std.proofs.lemmas.Bool.{and_from, cases_Bool, or_cases, or_left, or_right}
 use Rattle.vx_geom.specs.declared.pos.Pos.{Pos}
 use Rattle.vx_geom.specs.Sizes.{is_inside}
-use Rattle.vx_block.specs.Components.{is_device, is_dust}
+use Rattle.vx_block.specs.Components.{is_dust}
 use Rattle.vx_cells.specs.Maps.{MapData, cell_on}
 use Rattle.vx_levels.specs.Linked.{level_at}
 use Rattle.vx_levels.specs.Repairs.{IsRight}
-use Rattle.vx_places.specs.Around.{is_around, is_kind_around}
 use Rattle.vx_places.specs.Places.{PlacesData, is_at, steps_between}
 use Rattle.vx_places.proofs.Steps.{is_place}
 use Rattle.vx_power.specs.Levels.{LevelTable, has, same_place}
 use Rattle.vx_power.proofs.Having.{has_joined, place_is}
 use Rattle.vx_power.proofs.Stepping.{dust_inside}
-use Rattle.vx_store.specs.declared.mark_kind.MarkKind.TheVariants.{Device}
 use Rattle.vx_still.specs.Stillness.{stored_on}
-use Rattle.vx_still.specs.Telling.{AreTold, IsTold, KeepsMarks}
+use Rattle.vx_still.specs.Telling.{AreTold, HasHeeders, IsMarked, IsTold, KeepsMarks}
 use Rattle.vx_still.proofs.Heeding.{no_store}
-use Rattle.vx_still.proofs.Looking.{component_inside}
 use Rattle.vx_still.proofs.Unsettling.{still_told}
 
 -- only dust has another level than what is stored
@@ -47,18 +44,15 @@ module _ (m : MapData) (table : LevelTable) (p : Pos) (level stored : ℕ) (righ
     near = inl (sym (ap (nat_lt 0) level_is) ∙ same ∙ ap (nat_lt 0) stored_is);
   }
 
-  -- or with all devices near
-  pub told_around : (new : PlacesData) → marked.sizes ≡ m.sizes
-      → ((q : Pos) → is_at new q ≡ (is_at marked q || (is_inside marked.sizes q && is_kind_around Device (cell_on m) p 2 q)))
-      → IsTold m (level_at table) new p
-  told_around new marked_sizes around = record {
-    own = inr (around p ∙ or_left (is_at marked p) (is_inside marked.sizes p && is_kind_around Device (cell_on m) p 2 p) here);
-    near = inr λ q stands near.
-        around q
-        ∙ or_right (is_at marked q) (is_inside marked.sizes q && is_kind_around Device (cell_on m) p 2 q)
-        (and_from (is_inside marked.sizes q) (is_kind_around Device (cell_on m) p 2 q)
-        (ap (λ v. is_inside v q) marked_sizes ∙ component_inside m q (or_right (is_dust (cell_on m q)) (is_device (cell_on m q)) stands))
-        (and_from (is_around p 2 q) (is_device (cell_on m q)) near stands));
+  -- a device there is marked, as any cell is
+  pub own_marked : IsMarked m marked p
+  own_marked stands = here
+
+  -- or with the devices that heed it
+  pub told_with_heeders : (new : PlacesData) → KeepsMarks marked new → HasHeeders m new p → IsTold m (level_at table) new p
+  told_with_heeders new kept heeders = record {
+    own = inr (kept p here);
+    near = inr heeders;
   }
 
 -- one position more is told

@@ -1,5 +1,5 @@
 -- Outside what is marked all rests.
-use Rattle.std.proofs.Common.{◌≡◌, ℕ, true, false, ◌&&◌, ◌||◌, nat_eq, nat_lt, inl, inr, List, ◌++◌, sym, ap, ◌∙◌}
+use Rattle.std.proofs.Common.{◌≡◌, ◌⊎◌, ℕ, true, false, ◌&&◌, ◌||◌, nat_eq, nat_lt, inl, inr, List, ◌++◌, sym, ap, ◌∙◌}
 use Rattle.std.specs.List.{list_any}
 use Rattle.std.proofs.lemmas.Bool.{and_from, cases_Bool, false≢true, or_left, or_parts, or_right}
 use Rattle.vx_geom.specs.declared.pos.Pos.{Pos}
@@ -14,25 +14,25 @@ use Rattle.vx_places.specs.Places.{PlacesData, is_at, steps_between}
 use Rattle.vx_part.specs.Laws.{reads}
 use Rattle.vx_power.specs.Laws.{dust_level}
 use Rattle.vx_power.specs.Levels.{LevelTable, has}
-use Rattle.vx_power.specs.Local.{within_steps, sees, is_touched, AreAlike}
+use Rattle.vx_power.specs.Local.{within_steps, is_touched}
+use Rattle.vx_power.specs.Spreading.{fed_by}
+use Rattle.vx_power.specs.Turning.{all_on, has_power, EachHeeded, PowerHeeded}
 use Rattle.vx_power.proofs.Having.{has_joined}
+use Rattle.vx_power.proofs.Local.{each_weaker}
 use Rattle.vx_power.proofs.Reach.{any_at, any_from}
 use Rattle.vx_power.proofs.Stepping.{dust_inside}
 use Rattle.vx_store.specs.MachineMarks.{is_of}
 use Rattle.vx_store.specs.declared.mark_kind.MarkKind.{MarkKind}
 use Rattle.vx_store.specs.declared.mark_kind.MarkKind.TheVariants.{Component, Device}
 use Rattle.vx_still.specs.Mirrored.{IsMirror}
-use Rattle.vx_still.specs.Stillness.{IsStill, stored_on, has_power}
-use Rattle.vx_still.specs.Telling.{AreTold, IsTold, KeepsMarks}
+use Rattle.vx_still.specs.Stillness.{IsStill, stored_on}
+use Rattle.vx_still.specs.Telling.{AreMarkedFrom, AreTold, IsMarked, IsTold, KeepsMarks}
 use Rattle.vx_still.proofs.Heeding.{no_store, no_dust_level, others_rest}
 use Rattle.vx_still.proofs.Sensing.{dust_rests_by_level, others_rest_by_power}
 use Rattle.vx_still.proofs.Stilling.{mirrors_agree}
-use Rattle.vx_still.specs.Waking.{Rests, WakingData}
-use Rattle.vx_still.proofs.Looking.{change_around, component_inside, place_listed, seen_around}
-
--- a device stands in the world
-device_inside : (m : MapData) (p : Pos) → is_device (cell_on m p) ≡ true → is_inside m.sizes p ≡ true
-device_inside m p stands = component_inside m p (or_right (is_dust (cell_on m p)) (is_device (cell_on m p)) stands)
+use Rattle.vx_still.specs.Waking.{ReadsNone, Rests, WakingData}
+use Rattle.vx_still.proofs.Looking.{change_around, component_inside, device_inside, place_listed}
+use Rattle.vx_still.proofs.Marking.{each_all, each_back, heeders_still}
 
 -- what is of a kind is one of that kind around a change that so many steps lead to
 of_kind_around : (kind : MarkKind) (w : Pos → Cell) (n : ℕ) (changed : List Pos) (p : Pos) → is_of kind (w p) ≡ true
@@ -43,27 +43,38 @@ of_kind_around kind w n changed p stands is =
     any_from (λ c. is_kind_around kind w c n p) changed found.0 found.1
     (and_from (is_around found.0 n p) (is_of kind (w p)) found.2 stands)
 
--- a table that mirrors what dust stores is right but where something changed, or dust sees a change
+-- a table that mirrors what dust stores is right but where something was rebuilt, or dust sees that it
+-- was, or a part that was turned would feed it
 pub mirror_right : (m : MapData) (waking : WakingData) (seen : List Pos) (table : LevelTable)
-    → IsStill m waking → IsMirror m waking.changed table
-    → ((p : Pos) → has seen p ≡ (is_inside m.sizes p && list_any (λ c. is_kind_around Component (cell_on m) c 2 p) waking.changed))
-    → IsRightBut (cell_on m) table (seen ++ waking.changed)
+    → IsStill m waking → IsMirror m waking.rebuilt table
+    → ((p : Pos) → has seen p ≡ (is_inside m.sizes p && list_any (λ c. is_kind_around Component (cell_on m) c 2 p) waking.rebuilt))
+    → IsRightBut (cell_on m) table ((seen ++ waking.rebuilt) ++ fed_by (all_on (cell_on m)) waking.turned)
 mirror_right m waking seen table still mirror sight = record {
-  consistent = λ p dust none. mirrors_agree m waking (level_at table) p still mirror.levels dust (unseen p dust (apart p none).0);
+  consistent = λ p dust none.
+      mirrors_agree m waking (level_at table) p still mirror.levels dust (record {
+        rebuilt = unseen p dust (apart p none).0;
+        turned = (either (seen ++ waking.rebuilt) fed p none).1;
+      });
   linked = λ p none dust. mirror.linked p (unseen p dust (apart p none).0) dust;
   empty = λ p bare none. mirror.empty p bare (apart p none).1;
 }
   where
-    apart : (p : Pos) → has (seen ++ waking.changed) p ≡ false → (has seen p ≡ false) × (has waking.changed p ≡ false)
-    apart p none = or_parts (has seen p) (has waking.changed p) (sym (has_joined seen waking.changed p) ∙ none)
+    fed : List Pos
+    fed = fed_by (all_on (cell_on m)) waking.turned
 
-    unseen : (p : Pos) → is_dust (cell_on m p) ≡ true → has seen p ≡ false → is_touched (has waking.changed) p ≡ false
-    unseen p dust none = elim (cases_Bool (is_touched (has waking.changed) p)) [
+    either : (ps qs : List Pos) (p : Pos) → has (ps ++ qs) p ≡ false → (has ps p ≡ false) × (has qs p ≡ false)
+    either ps qs p none = or_parts (has ps p) (has qs p) (sym (has_joined ps qs p) ∙ none)
+
+    apart : (p : Pos) → has ((seen ++ waking.rebuilt) ++ fed) p ≡ false → (has seen p ≡ false) × (has waking.rebuilt p ≡ false)
+    apart p none = either seen waking.rebuilt p (either (seen ++ waking.rebuilt) fed p none).0
+
+    unseen : (p : Pos) → is_dust (cell_on m p) ≡ true → has seen p ≡ false → is_touched (has waking.rebuilt) p ≡ false
+    unseen p dust none = elim (cases_Bool (is_touched (has waking.rebuilt) p)) [
       | inl touched ↦
           absurd (false≢true (sym none ∙ sight p
-          ∙ and_from (is_inside m.sizes p) (list_any (λ c. is_kind_around Component (cell_on m) c 2 p) waking.changed)
+          ∙ and_from (is_inside m.sizes p) (list_any (λ c. is_kind_around Component (cell_on m) c 2 p) waking.rebuilt)
           (dust_inside m p dust)
-          (of_kind_around Component (cell_on m) 2 waking.changed p (or_left (is_dust (cell_on m p)) (is_device (cell_on m p)) dust) touched)))
+          (of_kind_around Component (cell_on m) 2 waking.rebuilt p (or_left (is_dust (cell_on m p)) (is_device (cell_on m p)) dust) touched)))
       | inr away ↦ away
     ]
 
@@ -96,13 +107,13 @@ pub still_told : (m : MapData) (level : Pos → ℕ) (old new : PlacesData) (p :
     → IsTold m level old p → IsTold m level new p
 still_told m level old new p kept told = record {
   own = elim told.own [ inl same ↦ inl same | inr marked ↦ inr (kept p marked) ];
-  near = elim told.near [ inl same ↦ inl same | inr marked ↦ inr (λ q stands near. kept q (marked q stands near)) ];
+  near = elim told.near [ inl same ↦ inl same | inr marked ↦ inr (heeders_still m old new p kept marked) ];
 }
 
 module _ (m : MapData) (waking : WakingData) (put : List Pos) (old new : LevelTable) (places : PlacesData)
-    (still : IsStill m waking) (mirror : IsMirror m waking.changed old) (right : IsRight (cell_on m) new)
-    (changes : ChangesAt put old new) (told_changed : AreTold m (level_at new) places waking.changed)
-    (told_put : AreTold m (level_at new) places put) where
+    (still : IsStill m waking) (mirror : IsMirror m waking.rebuilt old) (right : IsRight (cell_on m) new)
+    (changes : ChangesAt put old new) (told_rebuilt : AreTold m (level_at new) places waking.rebuilt)
+    (told_put : AreTold m (level_at new) places put) (heeders : AreMarkedFrom m places waking.turned) where
   abbrev w : Pos → Cell
   w = cell_on m
 
@@ -113,26 +124,40 @@ module _ (m : MapData) (waking : WakingData) (put : List Pos) (old new : LevelTa
     | inr bare ↦ right.empty q bare ∙ sym (no_dust_level w q bare)
   ]
 
-  -- where nothing changed and no level was put the level is the one that is stored
-  stored_still : (q : Pos) → has waking.changed q ≡ false → has put q ≡ false → level_at new q ≡ stored_on m q
-  stored_still q unchanged kept = elim (cases_Bool (is_dust (w q))) [
-    | inl dust ↦ changes q kept ∙ mirror.levels q dust unchanged
-    | inr bare ↦ changes q kept ∙ mirror.empty q bare unchanged ∙ sym (no_store (w q) bare)
+  -- where nothing was rebuilt and no level was put the level is the one that is stored
+  stored_still : (q : Pos) → has waking.rebuilt q ≡ false → has put q ≡ false → level_at new q ≡ stored_on m q
+  stored_still q unbuilt kept = elim (cases_Bool (is_dust (w q))) [
+    | inl dust ↦ changes q kept ∙ mirror.levels q dust unbuilt
+    | inr bare ↦ changes q kept ∙ mirror.empty q bare unbuilt ∙ sym (no_store (w q) bare)
   ]
 
   -- so each position is told
   told : (q : Pos) → IsTold m (level_at new) places q
-  told q = elim (cases_Bool (has waking.changed q)) [
-    | inl changed ↦ told_changed q changed
-    | inr unchanged ↦ elim (cases_Bool (has put q)) [
+  told q = elim (cases_Bool (has waking.rebuilt q)) [
+    | inl rebuilt ↦ told_rebuilt q rebuilt
+    | inr unbuilt ↦ elim (cases_Bool (has put q)) [
       | inl listed ↦ told_put q listed
       | inr kept ↦
-          let same = stored_still q unchanged kept in
+          let same = stored_still q unbuilt kept in
           record { own = inl same; near = inl (ap (nat_lt 0) same) }
     ]
   ]
 
-  module _ (around : (p : Pos) → is_device (w p) ≡ true → list_any (λ c. is_kind_around Device w c 4 p) waking.changed ≡ true → is_at places p ≡ true)
+  -- what heeds dust has its power, or is marked
+  power_told : (r : Pos) → EachHeeded w r (λ q. (has_power (level_at new) r ≡ has_power (stored_on m) r) ⊎ IsMarked m places q)
+  power_told r = elim (told r).near [
+    | inl same ↦ each_all w r (λ q. inl same)
+    | inr marked ↦ each_weaker w r (λ q is. inr is) marked
+  ]
+
+  -- and what heeds a part that was turned is marked
+  turned_told : (r : Pos) → EachHeeded w r (λ q. has waking.turned r ≡ true → IsMarked m places q)
+  turned_told r = elim (cases_Bool (has waking.turned r)) [
+    | inl is ↦ each_weaker w r (λ q marked yes. marked) (heeders r is)
+    | inr isnt ↦ each_all w r (λ q yes. absurd (false≢true (sym isnt ∙ yes)))
+  ]
+
+  module _ (around : (p : Pos) → is_device (w p) ≡ true → list_any (λ c. is_kind_around Device w c 4 p) waking.rebuilt ≡ true → is_at places p ≡ true)
       (besides : (p : Pos) → is_component (w p) ≡ true → has waking.besides p ≡ true → is_at places p ≡ true)
       (p : Pos) (away : is_at places p ≡ false) where
     unmarked : is_at places p ≡ true → ⊥
@@ -150,17 +175,34 @@ module _ (m : MapData) (waking : WakingData) (put : List Pos) (old new : LevelTa
       | inr not ↦ not
     ]
 
-    none_read : is_device (w p) ≡ true → list_any (has waking.changed) (reads p) ≡ false
-    none_read stands = elim (cases_Bool (list_any (has waking.changed) (reads p))) [
-      | inl read ↦ absurd (unmarked (around p stands (of_kind_around Device w 4 waking.changed p stands read)))
+    unbuilt : is_device (w p) ≡ true → list_any (has waking.rebuilt) (reads p) ≡ false
+    unbuilt stands = elim (cases_Bool (list_any (has waking.rebuilt) (reads p))) [
+      | inl read ↦ absurd (unmarked (around p stands (of_kind_around Device w 4 waking.rebuilt p stands read)))
       | inr not ↦ not
     ]
 
-    alike : is_device (w p) ≡ true → AreAlike (sees p) (has_power (stored_on m)) (has_power (dust_level w))
-    alike stands q among = elim (told q).near [
-      | inl same ↦ sym same ∙ ap (nat_lt 0) (exact q)
-      | inr marked ↦ absurd (unmarked (marked p stands (seen_around 2 p q among)))
+    none_turned : is_device (w p) ≡ true → (r : Pos) → (has waking.turned r ≡ true → IsMarked m places p) → has waking.turned r ≡ false
+    none_turned stands r marked = elim (cases_Bool (has waking.turned r)) [
+      | inl is ↦ absurd (unmarked (marked is stands))
+      | inr not ↦ not
     ]
+
+    none_read : is_device (w p) ≡ true → ReadsNone m waking p
+    none_read stands = record {
+      rebuilt = unbuilt stands;
+      turned = each_weaker w p (none_turned stands)
+          (each_back {R = λ r q. has waking.turned r ≡ true → IsMarked m places q} w p turned_told);
+    }
+
+    alike_at : is_device (w p) ≡ true → (r : Pos)
+        → (has_power (level_at new) r ≡ has_power (stored_on m) r) ⊎ IsMarked m places p
+        → has_power (stored_on m) r ≡ has_power (dust_level w) r
+    alike_at stands r (inl same) = sym same ∙ ap (nat_lt 0) (exact r)
+    alike_at stands r (inr marked) = absurd (unmarked (marked stands))
+
+    alike : is_device (w p) ≡ true → PowerHeeded w (stored_on m) (dust_level w) p
+    alike stands = each_weaker w p (alike_at stands)
+        (each_back {R = λ r q. (has_power (level_at new) r ≡ has_power (stored_on m) r) ⊎ IsMarked m places q} w p power_told)
 
     -- another component than dust is a device
     device : is_component (w p) ≡ true → is_dust (w p) ≡ false → is_device (w p) ≡ true

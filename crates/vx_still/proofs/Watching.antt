@@ -26,16 +26,16 @@ pub writes_keep_watch : WritesKeepWatch
 writes_keep_watch m next watch written is kept = record {
   still = writes_keep_still m next watch.waking written is.still kept;
   mirror =
-      IfSome_then watch.levels {P = IsMirror m watch.waking.changed} {Q = IsMirror next (watch.waking.changed ++ written)} is.mirror
-      (λ table mirror. writes_keep_mirror m next watch.waking.changed written table mirror kept);
+      IfSome_then watch.levels {P = IsMirror m watch.waking.rebuilt} {Q = IsMirror next (watch.waking.rebuilt ++ written)} is.mirror
+      (λ table mirror. writes_keep_mirror m next watch.waking.rebuilt written table mirror kept);
 }
 
 pub ticks_leave_watch : TicksLeaveWatch
 ticks_leave_watch m next watch left right = record {
-  still = ticks_leave_still m next watch.waking.changed watch.waking.besides left;
+  still = ticks_leave_still m next watch.waking left;
   mirror =
-      IfSome_then watch.levels {P = IsRight (cell_on m)} {Q = IsMirror next watch.waking.changed} right
-      (λ table right. ticks_leave_mirror m next watch.waking.changed watch.waking.besides table left right);
+      IfSome_then watch.levels {P = IsRight (cell_on m)} {Q = IsMirror next watch.waking.rebuilt} right
+      (λ table right. ticks_leave_mirror m next watch.waking table left right);
 }
 
 -- a table that is right has the levels of the map at every position
@@ -54,7 +54,7 @@ low n = omega arith
 
 -- nothing has to be looked at
 abbrev nowhere : WakingData
-nowhere = record { changed = []; besides = [] }
+nowhere = record { rebuilt = []; turned = []; besides = [] }
 
 -- where a watch tells of nothing all rests
 module _ (m : MapData) (table : LevelTable) (is : IsWatch m (record { waking = nowhere; levels = Some table })) where
@@ -62,7 +62,8 @@ module _ (m : MapData) (table : LevelTable) (is : IsWatch m (record { waking = n
       → (level_at table q ≤ 15) × IsConsistent (cell_on m) (level_at table) q
   agrees q dust = (
     low (level_in table q),
-    mirrors_agree m nowhere (level_at table) q is.still is.mirror.levels dust (none_of_none (sees q)),
+    mirrors_agree m nowhere (level_at table) q is.still is.mirror.levels dust
+        (record { rebuilt = none_of_none (sees q); turned = refl }),
   )
 
   stored : (q : Pos) → stored_on m q ≡ dust_level (cell_on m) q
@@ -72,4 +73,9 @@ module _ (m : MapData) (table : LevelTable) (is : IsWatch m (record { waking = n
   ]
 
   pub all_rests : (p : Pos) → Rests m p
-  all_rests p = still_rests m nowhere p is.still refl (none_of_none (reads p)) (λ q among. stored q)
+  all_rests p =
+      still_rests m nowhere p is.still refl (record {
+        rebuilt = none_of_none (reads p);
+        turned = record { own = refl; beside = λ d. refl; through = λ d e is. refl };
+      })
+      (λ q among. stored q)

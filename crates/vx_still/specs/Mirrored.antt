@@ -8,23 +8,24 @@ use Rattle.vx_levels.specs.Repairs.{IsRight}
 use Rattle.vx_power.specs.Levels.{LevelTable, has}
 use Rattle.vx_power.specs.Local.{is_touched}
 use Rattle.vx_still.specs.Stillness.{LeavesStill, Mirrors}
+use Rattle.vx_still.specs.Waking.{WakingData}
 
--- it has the level that dust stores and none where no dust lies, but where something changed; and
--- the links of dust that sees no change
-pub record IsMirror (m : MapData) (changed : List Pos) (table : LevelTable) : Type 0 where
-  pub levels : Mirrors m changed (level_at table)
-  pub empty : (p : Pos) → is_dust (cell_on m p) ≡ false → has changed p ≡ false
+-- it has the level that dust stores and none where no dust lies, but where something was rebuilt; and
+-- the links of dust that sees nothing that was
+pub record IsMirror (m : MapData) (rebuilt : List Pos) (table : LevelTable) : Type 0 where
+  pub levels : Mirrors m rebuilt (level_at table)
+  pub empty : (p : Pos) → is_dust (cell_on m p) ≡ false → has rebuilt p ≡ false
       → level_at table p ≡ 0
-  pub linked : (p : Pos) → is_touched (has changed) p ≡ false → KnowsLinks (cell_on m) table p
+  pub linked : (p : Pos) → is_touched (has rebuilt) p ≡ false → KnowsLinks (cell_on m) table p
 
--- cells are written, with their places among the changed ones
+-- cells are written, with their places among those that were rebuilt
 abbrev pub WritesKeepMirror : Type 0
-WritesKeepMirror = (m next : MapData) (changed written : List Pos) (table : LevelTable)
-    → IsMirror m changed table
+WritesKeepMirror = (m next : MapData) (rebuilt written : List Pos) (table : LevelTable)
+    → IsMirror m rebuilt table
     → ((p : Pos) → has written p ≡ false → cell_on next p ≡ cell_on m p)
-    → IsMirror next (changed ++ written) table
+    → IsMirror next (rebuilt ++ written) table
 
 -- after a tick, where the table had the levels and links of the map before it
 abbrev pub TicksLeaveMirror : Type 0
-TicksLeaveMirror = (m next : MapData) (changed besides : List Pos) (table : LevelTable)
-    → LeavesStill m next changed besides → IsRight (cell_on m) table → IsMirror next changed table
+TicksLeaveMirror = (m next : MapData) (waking : WakingData) (table : LevelTable)
+    → LeavesStill m next waking → IsRight (cell_on m) table → IsMirror next waking.rebuilt table

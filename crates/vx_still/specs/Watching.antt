@@ -8,7 +8,7 @@ use Rattle.vx_power.specs.Levels.{LevelTable, has}
 use Rattle.vx_still.specs.declared.look.Look.{Look}
 use Rattle.vx_still.specs.Mirrored.{IsMirror}
 use Rattle.vx_still.specs.Stillness.{IsStill, LeavesStill}
-use Rattle.vx_still.specs.Waking.{with_changed}
+use Rattle.vx_still.specs.Waking.{with_rebuilt}
 use Rattle.vx_still.specs.Waking.{IsSettled, WakingData}
 
 pub record WatchData : Type 0 where
@@ -18,13 +18,13 @@ pub record WatchData : Type 0 where
 -- the map is still but where that tells, and a table mirrors what its dust stores
 pub record IsWatch (m : MapData) (watch : WatchData) : Type 0 where
   pub still : IsStill m watch.waking
-  pub mirror : IfSome watch.levels (IsMirror m watch.waking.changed)
+  pub mirror : IfSome watch.levels (IsMirror m watch.waking.rebuilt)
 
--- with more changed positions
+-- with more positions that were rebuilt
 abbrev pub with_written : WatchData → List Pos → WatchData
-with_written watch written = record watch { waking = with_changed watch.waking written }
+with_written watch written = record watch { waking = with_rebuilt watch.waking written }
 
--- cells are written, with their places among the changed ones
+-- cells are written, with their places among those that were rebuilt
 abbrev pub WritesKeepWatch : Type 0
 WritesKeepWatch = (m next : MapData) (watch : WatchData) (written : List Pos) → IsWatch m watch
     → ((p : Pos) → has written p ≡ false → cell_on next p ≡ cell_on m p)
@@ -33,7 +33,7 @@ WritesKeepWatch = (m next : MapData) (watch : WatchData) (written : List Pos) �
 -- after a tick, where a table had the levels and links of the map before it
 abbrev pub TicksLeaveWatch : Type 0
 TicksLeaveWatch = (m next : MapData) (watch : WatchData)
-    → LeavesStill m next watch.waking.changed watch.waking.besides
+    → LeavesStill m next watch.waking
     → IfSome watch.levels (IsRight (cell_on m)) → IsWatch next watch
 
 -- all rests outside the places that are told

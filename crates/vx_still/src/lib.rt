@@ -2,6 +2,7 @@
 #![tactic(auto)]
 
 mod anew;
+mod heeders;
 mod laws;
 mod look;
 mod sight;

@@ -6,6 +6,7 @@ ghost use Rattle.vx_levels.specs.Repairs.{IsRight};
 ghost use Rattle.vx_power.specs.Levels.{stored_level};
 ghost use Rattle.vx_still.specs.Telling.{AreTold, IsTold, KeepsMarks};
 
+use crate::heeders::mark_heeders;
 use std::alloc::{AllocError, Global};
 use vx_block::Cell;
 use vx_cells::Frozen;
@@ -13,13 +14,9 @@ use vx_geom::Pos;
 use vx_levels::LinkedLevels;
 use vx_places::Places;
 use vx_power::Leveled;
-use vx_store::MarkKind;
 
-// What heeds the level of dust is at most so many steps off.
-const HEEDED: u8 = 2;
-
-/// Marks those of these positions where dust has another level than it stores, and the devices near
-/// those where it gained or lost all power. Other dust near them heeds its own level alone.
+/// Marks those of these positions where dust has another level than it stores, and the devices that
+/// heed those where it gained or lost all power. Other dust heeds its own level alone.
 pub(crate) fn tell_all(
     alloc: Global,
     map: &Frozen<'_>,
@@ -29,7 +26,7 @@ pub(crate) fn tell_all(
 ) -> Result<(), AllocError>
     requires sizes { places.old.sizes ≡ map.now.sizes }
     requires right { IsRight (cell_on map.now) levels.now }
-    ensures sizes { places.new.sizes ≡ places.old.sizes }
+    ensures sizes { OnOk result (places.new.sizes ≡ places.old.sizes) }
     ensures kept { OnOk result (KeepsMarks places.old places.new) }
     ensures told { OnOk result
         (AreTold map.now (level_at levels.now) places.new positions.now) }
@@ -50,7 +47,7 @@ fn tell(
 ) -> Result<(), AllocError>
     requires sizes { places.old.sizes ≡ map.now.sizes }
     requires right { IsRight (cell_on map.now) levels.now }
-    ensures sizes { places.new.sizes ≡ places.old.sizes }
+    ensures sizes { OnOk result (places.new.sizes ≡ places.old.sizes) }
     ensures kept { OnOk result (KeepsMarks places.old places.new) }
     ensures told { OnOk result (IsTold map.now (level_at levels.now) places.new p) }
 {
@@ -63,7 +60,8 @@ fn tell(
     if have_same_power(level, stored) {
         return Ok(());
     }
-    places.mark_around(alloc, map, p, HEEDED, MarkKind::Device)
+    mark_heeders(alloc, map, places, p)?;
+    Ok(())
 }
 
 // Whether both levels are over 0, or both are 0.

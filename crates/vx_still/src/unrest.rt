@@ -5,8 +5,9 @@ ghost use Rattle.vx_levels.specs.Repairs.{IsRight};
 ghost use Rattle.vx_still.specs.Mirrored.{IsMirror};
 ghost use Rattle.vx_still.specs.Stillness.{IsStill};
 ghost use Rattle.vx_still.specs.Watching.{IsLook};
-ghost use Rattle.vx_still.specs.Waking.{with_changed};
+ghost use Rattle.vx_still.specs.Waking.{with_rebuilt};
 
+use crate::heeders::mark_all_heeders;
 use crate::look::Look;
 use crate::sight::{in_sight, mark_around_all};
 use crate::telling::tell_all;
@@ -21,9 +22,6 @@ use vx_store::MarkKind;
 
 // A part reads cells that at most so many steps lead to.
 const CELLS_OFF: u8 = 4;
-
-// Whether they are on it reads of those alone that so many steps lead to.
-const STATES_OFF: u8 = 2;
 
 // What heeds dust that got another level costs as much to find as a look at so many components.
 const PER_LEVEL: usize = 4;
@@ -45,8 +43,8 @@ pub fn unsettled(
     written: &[Pos],
     levels: &mut LinkedLevels,
 ) -> Result<Option<Look>, AllocError>
-    requires still { IsStill map.now (with_changed waking.now written.now) }
-    requires mirror { IsMirror map.now (with_changed waking.now written.now).changed levels.old }
+    requires still { IsStill map.now (with_rebuilt waking.now written.now) }
+    requires mirror { IsMirror map.now (with_rebuilt waking.now written.now).rebuilt levels.old }
     ensures right { IfOk result (λ found. IfSome found (λ look.
         IsRight (cell_on map.now) levels.new)) }
     ensures look { IfOk result (λ found. IfSome found (IsLook map.now)) }
@@ -72,14 +70,7 @@ pub fn unsettled(
         CELLS_OFF,
         MarkKind::Device,
     )?;
-    mark_around_all(
-        alloc,
-        map,
-        &mut places,
-        waking.turned.as_slice(),
-        STATES_OFF,
-        MarkKind::Device,
-    )?;
+    mark_all_heeders(alloc, map, &mut places, waking.turned.as_slice())?;
     places.mark_all(alloc, waking.besides.as_slice())?;
     tell_all(alloc, map, levels, &mut places, rebuilt.as_slice())?;
     tell_all(alloc, map, levels, &mut places, put.as_slice())?;

@@ -1,4 +1,5 @@
-use Rattle.vx_still.proofs.Sensing.{parts_read_power, others_rest_by_power, dust_rests_by_level}
+use Rattle.vx_still.proofs.Sensing.{others_rest_by_power, dust_rests_by_level}
+use Rattle.vx_still.proofs.Stilling.{parts_read_power}
 use Rattle.vx_still.proofs.laws.parts_heed_power.Goals as goal
 
 pub returns-clause-power : goal.returns-clause-power

@@ -16,9 +16,6 @@ loop-p-init c = record {
 pub tell-requires-clause-sizes : goal.tell-requires-clause-sizes
 tell-requires-clause-sizes c = c.loop-p.invariant.sizes ∙ c.requires.sizes
 
-pub returns-in_err-tell-clause-sizes : goal.returns-in_err-tell-clause-sizes
-returns-in_err-tell-clause-sizes c = c.in_err-tell.ensures.sizes ∙ c.loop-p.invariant.sizes
-
 pub loop-p-preserved : goal.loop-p-preserved
 loop-p-preserved c =
     let positions = c.args.positions.now in

@@ -9,22 +9,28 @@ use Rattle.vx_places.specs.Around.{is_kind_around}
 use Rattle.vx_places.specs.Places.{is_at}
 use Rattle.vx_power.specs.Levels.{has}
 use Rattle.vx_store.specs.declared.mark_kind.MarkKind.TheVariants.{Component, Device}
-use Rattle.vx_still.specs.Telling.{AreTold}
+use Rattle.vx_power.specs.Spreading.{fed_by}
+use Rattle.vx_power.specs.Turning.{all_on}
+use Rattle.vx_still.specs.Telling.{AreMarkedFrom, AreTold}
+use Rattle.vx_still.proofs.Marking.{heeders_still}
 use Rattle.vx_still.proofs.Unsettling.{around_marked, besides_marked, mirror_right, rests_unmarked, still_told}
-use Rattle.vx_still.specs.Waking.{with_changed}
+use Rattle.vx_still.specs.Waking.{with_rebuilt}
 use Rattle.vx_still.proofs.unrest.unsettled.Goals as goal
 
 pub repair-requires : goal.repair-requires
 repair-requires c =
     let m = c.args.map.now in
-    let all = with_changed c.args.waking.now c.args.written.now in
-    let is : c.extend_from_slice.new.self.items ≡ all.changed =
+    let all = with_rebuilt c.args.waking.now c.args.written.now in
+    let is : c.extend_from_slice.new.self.items ≡ all.rebuilt =
     c.in_ok-extend_from_slice.ensures.items
     ∙ ap (λ ps. ps ++ c.args.written.now)
-    (c.in_ok-changed.ensures.items ∙ c.deref.ensures.value ∙ ap (λ d. d.changed) c.waking.view_is) in
+    (c.in_ok-rebuilt.ensures.items ∙ c.deref.ensures.value ∙ ap (λ d. d.rebuilt) c.waking.view_is) in
     subst (IsRightBut (cell_on m) c.args.levels.now)
-    (ap (λ ps. c.in_ok-unsure.unsure.items ++ ps) (sym (c.as_slice-2.ensures.value ∙ is))
-    ∙ sym c.in_ok-extend_from_slice-2.ensures.items)
+    (ap (λ ps. (c.in_ok-unsure.unsure.items ++ ps) ++ fed_by (all_on (cell_on m)) all.turned) (sym (c.as_slice-2.ensures.value ∙ is))
+    ∙ ap (λ ps. ps ++ fed_by (all_on (cell_on m)) all.turned) (sym c.in_ok-extend_from_slice-2.ensures.items)
+    ∙ ap (λ ps. c.extend_from_slice-2.new.self.items ++ fed_by (all_on (cell_on m)) ps)
+    (sym (c.as_slice-3.ensures.value ∙ ap (λ d. d.turned) c.waking.view_is))
+    ∙ sym c.in_ok-add_all_fed.ensures)
     (mirror_right m all c.in_ok-unsure.unsure.items c.args.levels.now c.requires.still c.requires.mirror
     (λ p. c.in_ok-unsure.ensures p
     ∙ ap (λ ps. is_inside m.sizes p && list_any (λ d. is_kind_around Component (cell_on m) d 2 p) ps) (c.as_slice.ensures.value ∙ is)))
@@ -32,36 +38,43 @@ repair-requires c =
 pub returns-clause-look : goal.returns-clause-look
 returns-clause-look c =
     let m = c.args.map.now in
-    let all = with_changed c.args.waking.now c.args.written.now in
-    let is : c.extend_from_slice.new.self.items ≡ all.changed =
+    let all = with_rebuilt c.args.waking.now c.args.written.now in
+    let is : c.extend_from_slice.new.self.items ≡ all.rebuilt =
     c.in_ok-extend_from_slice.ensures.items
     ∙ ap (λ ps. ps ++ c.args.written.now)
-    (c.in_ok-changed.ensures.items ∙ c.deref.ensures.value ∙ ap (λ d. d.changed) c.waking.view_is) in
+    (c.in_ok-rebuilt.ensures.items ∙ c.deref.ensures.value ∙ ap (λ d. d.rebuilt) c.waking.view_is) in
     let put = c.in-Some.put.items in
     let old = c.args.levels.now in
     let new = c.repair.new.levels in
     let level = level_at new in
     let first = c.mark_around_all.new.places in
+    let heeded = c.mark_all_heeders.new.places in
     let second = c.mark_all.new.self in
     let third = c.tell_all.new.places in
     let last = c.tell_all-2.new.places in
     let sizes_0 = c.in_ok-places.ensures.sizes ∙ c.bounds.ensures in
     let sizes_1 = c.mark_around_all.ensures.sizes ∙ sizes_0 in
+    let sizes_2 = c.in_ok-mark_all_heeders.ensures.sizes ∙ sizes_1 in
     let after_marks : (q : _) → is_at second q ≡ true → is_at last q ≡ true = λ q at. c.in_ok-tell_all-2.ensures.kept q (c.in_ok-tell_all.ensures.kept q at) in
     let after_first : (q : _) → is_at first q ≡ true → is_at last q ≡ true = λ q at.
-    after_marks q (c.in_ok-mark_all.ensures.marked q ∙ or_left (is_at first q) _ at) in
-    let sizes_4 = c.in_ok-tell_all-2.ensures.sizes ∙ c.tell_all.ensures.sizes ∙ c.mark_all.ensures.sizes ∙ sizes_1 in (
+    after_marks q (c.in_ok-mark_all.ensures.marked q ∙ or_left (is_at heeded q) _ (c.in_ok-mark_all_heeders.ensures.kept q at)) in
+    let after_heeded : (q : _) → is_at heeded q ≡ true → is_at last q ≡ true = λ q at.
+    after_marks q (c.in_ok-mark_all.ensures.marked q ∙ or_left (is_at heeded q) _ at) in
+    let sizes_4 = c.in_ok-tell_all-2.ensures.sizes ∙ c.in_ok-tell_all.ensures.sizes ∙ c.mark_all.ensures.sizes ∙ sizes_2 in (
       sizes_4,
       rests_unmarked m all put old new last c.requires.still c.requires.mirror
           (subst (λ o. IfSome o (λ p. IsRight (cell_on m) new)) c.in-Some.is c.in_ok-put.ensures.right)
           (subst (λ o. IfSome o (λ p. ChangesAt p.items old new)) c.in-Some.is c.in_ok-put.ensures.changes)
           (λ q there. still_told m level third last q c.in_ok-tell_all-2.ensures.kept
-          (subst (AreTold m level third) (c.as_slice-5.ensures.value ∙ is) c.in_ok-tell_all.ensures.told q there))
-          (subst (AreTold m level last) c.as_slice-6.ensures.value c.in_ok-tell_all-2.ensures.told)
+          (subst (AreTold m level third) (c.as_slice-7.ensures.value ∙ is) c.in_ok-tell_all.ensures.told q there))
+          (subst (AreTold m level last) c.as_slice-8.ensures.value c.in_ok-tell_all-2.ensures.told)
+          (λ q there. heeders_still m heeded last q after_heeded
+          (subst (AreMarkedFrom m heeded) (c.as_slice-5.ensures.value ∙ ap (λ d. d.turned) c.waking.view_is)
+          c.in_ok-mark_all_heeders.ensures.marked q there))
           (λ q stands near. after_first q
-          (around_marked m c.as_slice-3.result.now c.in_ok-places.places first sizes_0 c.in_ok-mark_around_all.ensures.marked q stands
-          (ap (list_any (λ d. is_kind_around Device (cell_on m) d 4 q)) (c.as_slice-3.ensures.value ∙ is) ∙ near)))
+          (around_marked m c.as_slice-4.result.now c.in_ok-places.places first sizes_0 c.in_ok-mark_around_all.ensures.marked q stands
+          (ap (list_any (λ d. is_kind_around Device (cell_on m) d 4 q)) (c.as_slice-4.ensures.value ∙ is) ∙ near)))
           (λ q stands listed. after_marks q
-          (besides_marked m c.as_slice-4.result.now first second sizes_1 c.in_ok-mark_all.ensures.marked q stands
-          (subst (λ ps. has ps q ≡ true) (sym (c.as_slice-4.ensures.value ∙ ap (λ d. d.besides) c.waking.view_is)) listed))),
+          (besides_marked m c.as_slice-6.result.now heeded second sizes_2 c.in_ok-mark_all.ensures.marked q stands
+          (subst (λ ps. has ps q ≡ true) (sym (c.as_slice-6.ensures.value ∙ ap (λ d. d.besides) c.waking.view_is)) listed))),
     )

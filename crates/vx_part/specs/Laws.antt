@@ -10,7 +10,7 @@ use Rattle.vx_block.specs.Repeating.{Repeating}
 use Rattle.vx_block.specs.States.{mount_dir, ticks_of}
 use Rattle.vx_power.specs.Local.{within_steps, sees, AreAlike, ShowAlike}
 use Rattle.vx_power.specs.Signals.{is_powered}
-use Rattle.vx_power.specs.Turning.{BuiltAlike, ShowHeeded, PowerHeeded}
+use Rattle.vx_power.specs.Turning.{built, BuiltAlike, ShowHeeded, PowerHeeded}
 use Rattle.vx_part.specs.Parts.{is_locked, counted, next_lamp, next_part}
 
 -- dust keeps its level
@@ -72,6 +72,11 @@ abbrev pub PartsHeed : Type 0
 PartsHeed = (w v : Pos → Cell) (a b : Pos → ℕ) (p : Pos)
     → BuiltAlike (reads p) w v → w p ≡ v p → ShowHeeded w v p → PowerHeeded w a b p
     → (is_dust (w p) ≡ true → a p ≡ b p) → next_part w a p ≡ next_part v b p
+
+-- and it is built as what stood there
+abbrev pub PartsKeepTheirBuild : Type 0
+PartsKeepTheirBuild = (w : Pos → Cell) (level : Pos → ℕ) (p : Pos)
+    → built (next_part w level p) ≡ built (w p)
 
 -- what is no component stays
 abbrev pub OthersStay : Type 0

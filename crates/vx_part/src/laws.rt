@@ -1,4 +1,4 @@
-ghost use Rattle.vx_part.specs.Laws.{DustKeepsItsLevel, TorchesInvert, LockedRepeatersStay, RepeatersDelay, LampsGoOutLate, PartsRead, PartsReadShown, PartsHeed, OthersStay};
+ghost use Rattle.vx_part.specs.Laws.{DustKeepsItsLevel, TorchesInvert, LockedRepeatersStay, RepeatersDelay, LampsGoOutLate, PartsRead, PartsReadShown, PartsHeed, PartsKeepTheirBuild, OthersStay};
 
 /// Dust keeps its level, and a torch inverts the power of its block, a tick later.
 pub fn dust_keeps_torches_invert()
@@ -33,6 +33,11 @@ pub fn parts_read_what_is_shown()
 /// that is beside it, and by which dust has power there; and that of dust by its level.
 pub fn parts_heed_what_is_near()
     ensures { PartsHeed }
+{}
+
+/// A tick turns parts on or off, pistons left out, and leaves each as it is built.
+pub fn parts_keep_their_build()
+    ensures { PartsKeepTheirBuild }
 {}
 
 /// What is no component of machines stays as it is.

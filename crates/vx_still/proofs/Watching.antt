@@ -20,7 +20,7 @@ use Rattle.vx_still.specs.Watching.{IsWatch, WritesKeepWatch, TicksLeaveWatch}
 use Rattle.vx_still.proofs.Heeding.{no_store, no_dust_level}
 use Rattle.vx_still.proofs.Mirroring.{writes_keep_mirror, ticks_leave_mirror}
 use Rattle.vx_still.proofs.Stilling.{mirrors_agree, still_rests, ticks_leave_still, writes_keep_still}
-use Rattle.vx_still.specs.Waking.{Rests, WakingData}
+use Rattle.vx_still.specs.Waking.{nowhere, Rests}
 
 pub writes_keep_watch : WritesKeepWatch
 writes_keep_watch m next watch written is kept = record {
@@ -51,10 +51,6 @@ none_of_none (p ∷ ps) = none_of_none ps
 
 low : (n : ℕ) → n % 16 ≤ 15
 low n = omega arith
-
--- nothing has to be looked at
-abbrev nowhere : WakingData
-nowhere = record { rebuilt = []; turned = []; besides = [] }
 
 -- where a watch tells of nothing all rests
 module _ (m : MapData) (table : LevelTable) (is : IsWatch m (record { waking = nowhere; levels = Some table })) where

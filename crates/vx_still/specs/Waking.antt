@@ -1,5 +1,5 @@
 -- What rests on a map, and where a tick has to look.
-use Rattle.std.specs.Prelude.{◌≡◌, Bool, false, List, ◌++◌}
+use Rattle.std.specs.Prelude.{◌≡◌, Bool, false, List, [], ◌++◌}
 use Rattle.std.specs.List.{list_any}
 use Rattle.vx_geom.specs.declared.pos.Pos.{Pos}
 use Rattle.vx_cells.specs.Maps.{MapData, cell_on}
@@ -27,6 +27,10 @@ pub record WakingData : Type 0 where
   pub rebuilt : List Pos
   pub turned : List Pos
   pub besides : List Pos
+
+-- nowhere
+abbrev pub nowhere : WakingData
+nowhere = record { rebuilt = []; turned = []; besides = [] }
 
 -- with more positions that were rebuilt
 abbrev pub with_rebuilt : WakingData → List Pos → WakingData

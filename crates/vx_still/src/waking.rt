@@ -1,4 +1,4 @@
-ghost use Rattle.std.specs.Prelude.{◌≡◌, true, []};
+ghost use Rattle.std.specs.Prelude.{◌≡◌, true};
 
 use std::alloc::Global;
 use std::marker::Model;
@@ -29,9 +29,11 @@ impl Model for Waking {
 }
 
 impl Waking {
+    ghost use Rattle.vx_still.specs.Waking.{nowhere};
+
     /// Nowhere. It takes no memory.
     pub fn nothing(alloc: Global) -> Waking
-        ensures { result ≡ record { rebuilt = []; turned = []; besides = [] } }
+        ensures { result ≡ nowhere }
     {
         Waking {
             rebuilt: Vec::new(alloc),
@@ -42,7 +44,7 @@ impl Waking {
 
     /// Whether it is nowhere.
     pub fn is_nothing(&self) -> bool
-        ensures { result ≡ true → self.now ≡ record { rebuilt = []; turned = []; besides = [] } }
+        ensures { result ≡ true → self.now ≡ nowhere }
     {
         self.rebuilt.is_empty() && self.turned.is_empty() && self.besides.is_empty()
     }

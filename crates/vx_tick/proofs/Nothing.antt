@@ -18,11 +18,10 @@ use Rattle.vx_tick.specs.Leaving.{IsPlanned, IsWorked}
 use Rattle.vx_tick.specs.Ticks.{asked, asked_up_to, changed_up_to, stepped, AreMoves}
 use Rattle.vx_tick.proofs.Asking.{kept_ask}
 use Rattle.vx_tick.proofs.Plans.{all_puts, is_worked, no_chests}
-use Rattle.vx_still.specs.Waking.{with_changed}
 use Rattle.vx_power.specs.Levels.{LevelTable}
 use Rattle.vx_still.specs.Mirrored.{IsMirror}
 use Rattle.vx_still.specs.Stillness.{IsStill}
-use Rattle.vx_still.specs.Waking.{with_changed, Rests, WakingData}
+use Rattle.vx_still.specs.Waking.{nowhere, with_rebuilt, Rests, WakingData}
 use Rattle.vx_still.specs.Watching.{IsWatch, WatchData}
 use Rattle.vx_levels.specs.Repairs.{IsRight}
 use Rattle.vx_still.proofs.Watching.{all_rests, ticks_leave_watch}
@@ -73,33 +72,34 @@ none_listed (p ∷ ps) none = absurd (omega (arith, none))
 
 -- where nothing is told and nothing was written, the table is kept as it is
 pub unwritten : (m : MapData) (waking : WakingData) (written : List Pos) (table : LevelTable)
-    → waking ≡ record { changed = []; besides = [] } → length written ≡ 0
-    → IsStill m (with_changed waking written) → IsMirror m (with_changed waking written).changed table
-    → IsWatch m (record { waking = record { changed = []; besides = [] }; levels = Some table })
+    → waking ≡ nowhere → length written ≡ 0
+    → IsStill m (with_rebuilt waking written) → IsMirror m (with_rebuilt waking written).rebuilt table
+    → IsWatch m (record { waking = nowhere; levels = Some table })
 unwritten m waking written table none empty still mirror =
     record {
-      still = subst (IsStill m) (λ i. with_changed (none i) (none_listed written empty i)) still;
+      still = subst (IsStill m) (λ i. with_rebuilt (none i) (none_listed written empty i)) still;
       mirror =
-          subst (λ (w : WakingData). IsMirror m w.changed table) (λ i. with_changed (none i) (none_listed written empty i)) mirror;
+          subst (λ (w : WakingData). IsMirror m w.rebuilt table) (λ i. with_rebuilt (none i) (none_listed written empty i)) mirror;
     }
 
 -- where all rests a tick leaves the map as it is, and so nothing is told, and levels and links that
 -- are those of the map are kept
 pub at_rest : (m : MapData) (table : LevelTable) → ((p : Pos) → Rests m p) → IsRight (cell_on m) table
-    → IsWatch m (record { waking = record { changed = []; besides = [] }; levels = Some table })
+    → IsWatch m (record { waking = nowhere; levels = Some table })
 at_rest m table rests right =
-    ticks_leave_watch m m (record { waking = record { changed = []; besides = [] }; levels = Some table }) (record {
-      shows = λ p unchanged. refl;
-      parts = λ p unchanged. sym (rests p).part;
-      others = λ p unchanged plain other. refl;
+    ticks_leave_watch m m (record { waking = nowhere; levels = Some table }) (record {
+      builds = λ p unbuilt. refl;
+      parts = λ p unbuilt. sym (rests p).part;
+      shows = λ p unbuilt unturned. refl;
+      others = λ p unbuilt unturned plain other. refl;
       pistons = λ p moves. absurd (true≢false (sym moves ∙ (rests p).piston));
     }) right
 
 -- so a plan of nothing, after which it is still kept, tells the tick
 pub nothing_planned : (m : MapData) (table : LevelTable)
-    → IsWatch m (record { waking = record { changed = []; besides = [] }; levels = Some table }) → (rs : Regions) → IsFilled m
+    → IsWatch m (record { waking = nowhere; levels = Some table }) → (rs : Regions) → IsFilled m
     → (done : Plan × WatchData) → done.0.puts.items ≡ [] → done.0.fates.items ≡ []
-    → done.1 ≡ record { waking = record { changed = []; besides = [] }; levels = Some table } → IsPlanned rs m done
+    → done.1 ≡ record { waking = nowhere; levels = Some table } → IsPlanned rs m done
 nothing_planned m table is rs filled done puts fates kept =
     let rests = all_rests m table is in
     record {
@@ -108,6 +108,6 @@ nothing_planned m table is rs filled done puts fates kept =
       chests = no_chests rs m [] [] done.0.puts.items [] (nothing_worked m rests rs filled) puts;
       watch =
           subst (IsWatch (stepped rs m)) (sym kept)
-          (subst (λ n. IsWatch n (record { waking = record { changed = []; besides = [] }; levels = Some table }))
+          (subst (λ n. IsWatch n (record { waking = nowhere; levels = Some table }))
           (sym (nothing_stepped m rests rs filled)) is);
     }

@@ -1,6 +1,6 @@
 -- What a tick leaves to be looked at is all where the map after it is not still.
 use Rattle.std.proofs.Common.{◌≡◌, Bool, true, false, not, ◌&&◌, if◌then◌else◌, inl, inr, List, [], ◌∷◌, ◌++◌, Option, Some, None, refl, sym, ap, ◌∙◌, subst}
-use Rattle.std.proofs.lemmas.Bool.{cases_Bool, and_from, false≢true, or_parts, or_left, or_right}
+use Rattle.std.proofs.lemmas.Bool.{cases_Bool, and_from, false≢true, or_left, or_right}
 use Rattle.vx_geom.specs.declared.pos.Pos.{Pos}
 use Rattle.vx_geom.specs.Sizes.{sector_count}
 use Rattle.vx_block.specs.declared.cell.Cell.{Cell}
@@ -13,11 +13,13 @@ use Rattle.vx_cells.proofs.Putting.{cell_of_block}
 use Rattle.vx_power.specs.Laws.{dust_level}
 use Rattle.vx_power.specs.Levels.{has, same_place}
 use Rattle.vx_power.specs.Local.{shown}
+use Rattle.vx_power.specs.Turning.{built}
 use Rattle.vx_power.specs.Walks.{IsAmong}
 use Rattle.vx_power.proofs.Having.{has_joined, own_place}
 use Rattle.vx_power.proofs.Showing.{same_dust}
 use Rattle.vx_part.specs.Changes.{change_at}
 use Rattle.vx_part.specs.Parts.{next_part}
+use Rattle.vx_part.proofs.Keeping.{parts_keep_their_build}
 use Rattle.vx_piston.specs.Moves.{is_restless}
 use Rattle.vx_region.specs.Regions.{Regions}
 use Rattle.vx_tick.specs.declared.fate.Fate.{Fate}
@@ -26,6 +28,7 @@ use Rattle.vx_tick.specs.Ticks.{advanced, changed_up_to, stepped}
 use Rattle.vx_tick.proofs.Advancing.{no_change, a_change, is_among, parts_become_next}
 use Rattle.vx_tick.proofs.Puts.{none_put, puts_filled}
 use Rattle.vx_still.specs.Stillness.{LeavesStill}
+use Rattle.vx_still.specs.Waking.{WakingData}
 
 module _ (w : Pos → Cell) where
   in_rest : (b : Bool) (p q : Pos) (ps : List Pos) → has ps p ≡ true
@@ -76,40 +79,33 @@ place_there (put ∷ puts) p cell (inr further) =
 
 module _ (rs : Regions) (m : MapData) (changes moved : List (Pos × Cell))
     (fates : List (Pos × Fate)) (filled : IsFilled m) (worked : IsWorked rs m changes moved fates)
-    (changed besides pistons : List Pos)
-    (changed_is : changed ≡ shown_changes (cell_on m) changes ++ places_of moved)
-    (besides_is : besides ≡ hidden_changes (cell_on m) changes ++ pistons)
+    (waking : WakingData) (pistons : List Pos)
+    (rebuilt_is : waking.rebuilt ≡ places_of moved)
+    (turned_is : waking.turned ≡ shown_changes (cell_on m) changes)
+    (besides_is : waking.besides ≡ hidden_changes (cell_on m) changes ++ pistons)
     (restless : (p : Pos) → is_restless (cell_on m) (dust_level (cell_on m)) p ≡ true
     → has pistons p ≡ true) where
   -- what is looked at besides
-  hidden : (p : Pos) → has (hidden_changes (cell_on m) changes) p ≡ true → has besides p ≡ true
+  hidden : (p : Pos) → has (hidden_changes (cell_on m) changes) p ≡ true → has waking.besides p ≡ true
   hidden p is =
       ap (λ ps. has ps p) besides_is ∙ has_joined (hidden_changes (cell_on m) changes) pistons p
       ∙ or_left (has (hidden_changes (cell_on m) changes) p) (has pistons p) is
 
   would_move : (p : Pos) → is_restless (cell_on m) (dust_level (cell_on m)) p ≡ true
-      → has besides p ≡ true
+      → has waking.besides p ≡ true
   would_move p is =
       ap (λ ps. has ps p) besides_is ∙ has_joined (hidden_changes (cell_on m) changes) pistons p
       ∙ or_right (has (hidden_changes (cell_on m) changes) p) (has pistons p) (restless p is)
 
-  -- an unchanged position shows what it showed, and nothing was moved there
-  apart : (p : Pos) → has changed p ≡ false
-      → (has (shown_changes (cell_on m) changes) p ≡ false) × (has (places_of moved) p ≡ false)
-  apart p unchanged =
-      or_parts (has (shown_changes (cell_on m) changes) p) (has (places_of moved) p)
-      (sym (ap (λ ps. has ps p) changed_is
-      ∙ has_joined (shown_changes (cell_on m) changes) (places_of moved) p) ∙ unchanged)
-
-  -- its next part stands there
-  stands : (p : Pos) → has changed p ≡ false
+  -- where nothing was rebuilt nothing was moved, and the next part stands
+  stands : (p : Pos) → has waking.rebuilt p ≡ false
       → cell_on (stepped rs m) p ≡ next_part (cell_on m) (dust_level (cell_on m)) p
-  stands p unchanged =
+  stands p unbuilt =
       ap (λ n. cell_on n p) worked.after
       ∙ sym (cell_of_block (with_cells_on (advanced m) moved) p)
       ∙ ap (λ b. b.cell) (none_put (advanced m) moved p
       (puts_filled m (changed_up_to m (sector_count m.sizes)) filled).0
-      (λ cell among. false≢true (sym (apart p unchanged).1 ∙ place_there moved p cell among)))
+      (λ cell among. false≢true (sym unbuilt ∙ ap (λ ps. has ps p) rebuilt_is ∙ place_there moved p cell among)))
       ∙ cell_of_block (advanced m) p
       ∙ parts_become_next m p filled
 
@@ -118,45 +114,48 @@ module _ (rs : Regions) (m : MapData) (changes moved : List (Pos × Cell))
   among p cell is =
       subst (λ xs. IsAmong xs (p, cell)) (sym worked.parts) (is_among m filled p cell is)
 
-  -- which shows what stood there
-  shows_still : (p : Pos) → has changed p ≡ false → (o : Option Cell)
+  -- which shows what stood there, where nothing was turned
+  shows_still : (p : Pos) → has waking.turned p ≡ false → (o : Option Cell)
       → change_at (cell_on m) (dust_level (cell_on m)) p ≡ o
       → shown (next_part (cell_on m) (dust_level (cell_on m)) p) ≡ shown (cell_on m p)
-  shows_still p unchanged None none =
+  shows_still p unturned None none =
       ap shown (no_change (cell_on m) (dust_level (cell_on m)) p none)
-  shows_still p unchanged (Some cell) some =
+  shows_still p unturned (Some cell) some =
       ap shown (sym (a_change (cell_on m) (dust_level (cell_on m)) p cell some).0)
       ∙ elim (cases_Bool (shows_same cell (cell_on m p))) [
         | inl same ↦ (cell_decided (shown cell) (shown (cell_on m p))).0 same
         | inr other ↦
-            absurd (false≢true (sym (apart p unchanged).0
+            absurd (false≢true (sym unturned ∙ ap (λ ps. has ps p) turned_is
             ∙ shown_there (cell_on m) changes p cell (among p cell some) other))
       ]
 
   -- and which is the same, if it is no dust and not looked at besides
-  same_still : (p : Pos) → has changed p ≡ false → has besides p ≡ false
+  same_still : (p : Pos) → has waking.turned p ≡ false → has waking.besides p ≡ false
       → is_dust (cell_on m p) ≡ false → (o : Option Cell)
       → change_at (cell_on m) (dust_level (cell_on m)) p ≡ o
       → next_part (cell_on m) (dust_level (cell_on m)) p ≡ cell_on m p
-  same_still p unchanged away other None none =
+  same_still p unturned away other None none =
       no_change (cell_on m) (dust_level (cell_on m)) p none
-  same_still p unchanged away other (Some cell) some =
+  same_still p unturned away other (Some cell) some =
       let is = (a_change (cell_on m) (dust_level (cell_on m)) p cell some).0 in
-      let alike = ap shown is ∙ shows_still p unchanged (Some cell) some in
+      let alike = ap shown is ∙ shows_still p unturned (Some cell) some in
       let no_dust = same_dust cell (cell_on m p) alike ∙ other in
       absurd (false≢true (sym away ∙ hidden p
       (hidden_there (cell_on m) changes p cell (among p cell some)
       (and_from (shows_same cell (cell_on m p)) (not (is_dust cell))
       ((cell_decided (shown cell) (shown (cell_on m p))).1 alike) (ap not no_dust)))))
 
-  pub leaves_still : LeavesStill m (stepped rs m) changed besides
+  pub leaves_still : LeavesStill m (stepped rs m) waking
   leaves_still = record {
-    shows = λ p unchanged.
-        ap shown (stands p unchanged)
-        ∙ shows_still p unchanged (change_at (cell_on m) (dust_level (cell_on m)) p) refl;
+    builds = λ p unbuilt.
+        ap built (stands p unbuilt)
+        ∙ parts_keep_their_build (cell_on m) (dust_level (cell_on m)) p;
     parts = stands;
-    others = λ p unchanged away other.
-        stands p unchanged
-        ∙ same_still p unchanged away other (change_at (cell_on m) (dust_level (cell_on m)) p) refl;
+    shows = λ p unbuilt unturned.
+        ap shown (stands p unbuilt)
+        ∙ shows_still p unturned (change_at (cell_on m) (dust_level (cell_on m)) p) refl;
+    others = λ p unbuilt unturned away other.
+        stands p unbuilt
+        ∙ same_still p unturned away other (change_at (cell_on m) (dust_level (cell_on m)) p) refl;
     pistons = would_move;
   }

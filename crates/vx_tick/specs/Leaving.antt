@@ -32,7 +32,7 @@ pub record IsEnded (rs : Regions) (m : MapData) (done : Plan × WakingData) : Ty
   pub puts : stepped rs m ≡ with_cells_on m done.0.puts.items
   pub fates : done.0.fates.items ≡ fates_on rs m
   pub chests : All (λ (put : Pos × Cell). is_chest put.1 ≡ false) done.0.puts.items
-  pub left : LeavesStill m (stepped rs m) done.1.changed done.1.besides
+  pub left : LeavesStill m (stepped rs m) done.1
 
 -- what a tick does, told as a plan, and what is kept of the map after it
 pub record IsPlanned (rs : Regions) (m : MapData) (done : Plan × WatchData) : Type 0 where

@@ -1,8 +1,9 @@
 -- How a tick begins, by what was kept of a map.
-use Rattle.std.specs.Prelude.{[], Some, IfSome}
+use Rattle.std.specs.Prelude.{Some, IfSome}
 use Rattle.vx_cells.specs.Maps.{MapData, cell_on}
 use Rattle.vx_levels.specs.Repairs.{IsRight}
 use Rattle.vx_power.specs.Levels.{level_in, AreAllLevels}
+use Rattle.vx_still.specs.Waking.{nowhere}
 use Rattle.vx_still.specs.Watching.{IsWatch}
 use Rattle.vx_tick.specs.declared.start.Start.{Start}
 use Rattle.vx_tick.specs.declared.start.Start.TheVariants.{AtRest, Awake, Anew}
@@ -12,6 +13,6 @@ use Rattle.vx_tick.specs.Pieces.{RestsOutside}
 -- rests outside the places; or the levels are those of the map
 abbrev pub IsStart : MapData → Start → Type 0
 IsStart m (AtRest levels) =
-    IsWatch m (record { waking = record { changed = []; besides = [] }; levels = Some levels })
+    IsWatch m (record { waking = nowhere; levels = Some levels })
 IsStart m (Awake levels places) = IsRight (cell_on m) levels × IfSome places (RestsOutside m)
 IsStart m (Anew levels calm) = AreAllLevels m (level_in levels)

@@ -5,6 +5,7 @@ ghost use Rattle.vx_geom.specs.Sizes.{sector_count};
 ghost use Rattle.vx_levels.specs.Repairs.{IsRight};
 ghost use Rattle.vx_power.specs.Levels.{AreAllLevels};
 ghost use Rattle.vx_region.specs.Regions.{Regions};
+ghost use Rattle.vx_still.specs.Waking.{nowhere};
 ghost use Rattle.vx_still.specs.Watching.{IsWatch};
 ghost use Rattle.vx_tick.specs.Fates.{AreFates};
 ghost use Rattle.vx_tick.specs.Leaving.{IsEnded, IsPlanned, IsWorked};
@@ -37,7 +38,7 @@ pub fn undisturbed(
     levels: LinkedLevels,
 ) -> Result<(Plan, Watch), AllocError>
     requires { IsWatch map.now
-        (record { waking = record { changed = []; besides = [] }; levels = Some levels }) }
+        (record { waking = nowhere; levels = Some levels }) }
     ensures { IfOk result (λ done. IsPlanned version.now.policy map.now done) }
 {
     map.filling();

@@ -11,9 +11,9 @@ use vx_cells::{Frozen, is_same};
 use vx_geom::Pos;
 use vx_still::Waking;
 
-/// Where the next tick has to look after these changes, and after what moves put down: all that
-/// shows other than before wakes what sees it; what else changed is looked at alone, and so is each
-/// of these pistons, which would move.
+/// Where the next tick has to look after these changes, and after what moves put down. Moves rebuild
+/// the map. Of the changes, which leave it as it is built, what shows other than before was turned;
+/// what else changed is looked at alone, and so is each of these pistons, which would move.
 pub fn left(
     alloc: Global,
     map: &Frozen<'_>,
@@ -21,15 +21,23 @@ pub fn left(
     moved: &[(Pos, Cell)],
     restless: &[Pos],
 ) -> Result<Waking, AllocError>
-    ensures changed { IfOk result (λ waking. waking.changed
-        ≡ shown_changes (cell_on map.now) changes.now ++ places_of moved.now) }
+    ensures rebuilt { IfOk result (λ waking. waking.rebuilt ≡ places_of moved.now) }
+    ensures turned { IfOk result (λ waking.
+        waking.turned ≡ shown_changes (cell_on map.now) changes.now) }
     ensures besides { IfOk result (λ waking. waking.besides
         ≡ hidden_changes (cell_on map.now) changes.now ++ restless.now) }
 {
-    let mut waking = left_by_parts(alloc, map, changes)?;
-    add_places(&mut waking.rebuilt, moved)?;
-    waking.besides.extend_from_slice(restless)?;
-    Ok(waking)
+    let Waking {
+        turned,
+        mut besides,
+        ..
+    } = left_by_parts(alloc, map, changes)?;
+    besides.extend_from_slice(restless)?;
+    Ok(Waking {
+        rebuilt: places_of(alloc, moved)?,
+        turned,
+        besides,
+    })
 }
 
 // What a tick leaves to be looked at where parts change so and no piston moves.
@@ -38,8 +46,8 @@ fn left_by_parts(
     map: &Frozen<'_>,
     changes: &[(Pos, Cell)],
 ) -> Result<Waking, AllocError>
-    ensures changed { IfOk result (λ waking.
-        waking.changed ≡ shown_changes (cell_on map.now) changes.now) }
+    ensures turned { IfOk result (λ waking.
+        waking.turned ≡ shown_changes (cell_on map.now) changes.now) }
     ensures besides { IfOk result (λ waking.
         waking.besides ≡ hidden_changes (cell_on map.now) changes.now) }
 {
@@ -53,7 +61,7 @@ fn left_by_parts(
 // Adds a position at which this cell stands now. Dust in place of dust shows the same, and the cell
 // that was there is not looked up.
 fn look(waking: &mut Waking, map: &Frozen<'_>, p: Pos, cell: &Cell) -> Result<(), AllocError>
-    ensures changed { OnOk result (waking.new.changed ≡ waking.old.changed
+    ensures turned { OnOk result (waking.new.turned ≡ waking.old.turned
         ++ shown_changes (cell_on map.now) ((p, cell.now) ∷ [])) }
     ensures besides { OnOk result (waking.new.besides ≡ waking.old.besides
         ++ hidden_changes (cell_on map.now) ((p, cell.now) ∷ [])) }
@@ -66,7 +74,7 @@ fn look(waking: &mut Waking, map: &Frozen<'_>, p: Pos, cell: &Cell) -> Result<()
 
 // Adds a position at which one cell has become another.
 fn add_change(waking: &mut Waking, p: Pos, cell: &Cell, was: Cell) -> Result<(), AllocError>
-    ensures changed { OnOk result (waking.new.changed ≡ waking.old.changed
+    ensures turned { OnOk result (waking.new.turned ≡ waking.old.turned
         ++ (if shows_same cell.now was then [] else p ∷ [])) }
     ensures besides { OnOk result (waking.new.besides ≡ waking.old.besides
         ++ (if shows_same cell.now was && not (is_dust cell.now) then p ∷ [] else [])) }
@@ -79,14 +87,15 @@ fn add_change(waking: &mut Waking, p: Pos, cell: &Cell, was: Cell) -> Result<(),
     Ok(())
 }
 
-// Adds the positions of what was put down.
-fn add_places(found: &mut Vec<Pos>, puts: &[(Pos, Cell)]) -> Result<(), AllocError>
-    ensures { OnOk result (found.new.items ≡ found.old.items ++ places_of puts.now) }
+// The positions of what was put down.
+fn places_of(alloc: Global, puts: &[(Pos, Cell)]) -> Result<Vec<Pos>, AllocError>
+    ensures { IfOk result (λ found. found.items ≡ places_of puts.now) }
 {
+    let mut found = Vec::with_capacity(alloc, puts.len())?;
     for (p, _) in puts {
         found.push(*p)?;
     }
-    Ok(())
+    Ok(found)
 }
 
 // Whether two cells show the same.

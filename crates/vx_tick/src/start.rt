@@ -1,7 +1,7 @@
 ghost use Rattle.std.specs.Prelude.{◌≡◌, IfOk, IfSome};
 ghost use Rattle.vx_still.specs.Mirrored.{IsMirror};
 ghost use Rattle.vx_still.specs.Stillness.{IsStill};
-ghost use Rattle.vx_still.specs.Waking.{with_changed};
+ghost use Rattle.vx_still.specs.Waking.{with_rebuilt};
 ghost use Rattle.vx_still.specs.Watching.{with_written, IsWatch};
 ghost use Rattle.vx_tick.specs.Starting.{IsStart};
 
@@ -90,8 +90,8 @@ impl Start {
         written: &[Pos],
         levels: LinkedLevels,
     ) -> Result<Start, AllocError>
-        requires still { IsStill map.now (with_changed waking.now written.now) }
-        requires mirror { IsMirror map.now (with_changed waking.now written.now).changed levels }
+        requires still { IsStill map.now (with_rebuilt waking.now written.now) }
+        requires mirror { IsMirror map.now (with_rebuilt waking.now written.now).rebuilt levels }
         ensures { IfOk result (IsStart map.now) }
     {
         if waking.is_nothing() && written.is_empty() {

@@ -34,8 +34,9 @@ returns g c =
       chests = no_chests rs m done.changes.items done.moved.items plan.puts.items done.fates.items worked joined;
       left =
           leaves_still rs m done.changes.items done.moved.items done.fates.items
-          c.filling.ensures worked next.changed next.besides c.as_slice-2.result.now
-          (c.in_ok-waking.ensures.changed ∙ (λ i. shown_changes w (changes i) ++ places_of (moved i)))
+          c.filling.ensures worked next c.as_slice-2.result.now
+          (c.in_ok-waking.ensures.rebuilt ∙ (λ i. places_of (moved i)))
+          (c.in_ok-waking.ensures.turned ∙ (λ i. shown_changes w (changes i)))
           (c.in_ok-waking.ensures.besides ∙ (λ i. hidden_changes w (changes i) ++ c.as_slice-2.result.now))
           (λ p is. ap (λ ps. has ps p) (c.as_slice-2.ensures.value ∙ c.requires.restless)
           ∙ all_restless m c.soundness.ensures.valid p is);

@@ -11,15 +11,15 @@ loop-p-preserved c =
     let put = c.loop-p-item.result in
     let rest = drop (c.loop-p.p-index + 1) c.args.changes.now in
     let left = next_left c.args.changes.now c.loop-p.p-index put c.loop-p-test.true c.loop-p-item.is in (
-      carried c.loop-p.waking.changed _ _ (shown_changes w rest) _ _ c.in_ok-look.ensures.changed (ap (shown_changes w) left ∙ shown_first w put rest)
+      carried c.loop-p.waking.turned _ _ (shown_changes w rest) _ _ c.in_ok-look.ensures.turned (ap (shown_changes w) left ∙ shown_first w put rest)
           c.loop-p.invariant.0,
       carried c.loop-p.waking.besides _ _ (hidden_changes w rest) _ _ c.in_ok-look.ensures.besides (ap (hidden_changes w) left ∙ hidden_first w put rest)
           c.loop-p.invariant.1,
     )
 
-pub returns-clause-changed : goal.returns-clause-changed
-returns-clause-changed c =
-    ended c.loop-p.waking.changed _ _ (ap (shown_changes (cell_on c.args.map.now)) (drop_of_length-le c.args.changes.now c.loop-p-test.false))
+pub returns-clause-turned : goal.returns-clause-turned
+returns-clause-turned c =
+    ended c.loop-p.waking.turned _ _ (ap (shown_changes (cell_on c.args.map.now)) (drop_of_length-le c.args.changes.now c.loop-p-test.false))
     c.loop-p.invariant.0
 
 pub returns-clause-besides : goal.returns-clause-besides

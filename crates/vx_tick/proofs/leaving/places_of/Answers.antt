@@ -2,7 +2,7 @@ use Rattle.std.proofs.Common.{◌+◌, drop, ap}
 use Rattle.std.proofs.Math.ListN.{drop_of_length-le}
 use Rattle.vx_tick.specs.Leaving.{places_of}
 use Rattle.vx_tick.proofs.Turning.{next_left, carried, ended}
-use Rattle.vx_tick.proofs.leaving.add_places.Goals as goal
+use Rattle.vx_tick.proofs.leaving.places_of.Goals as goal
 
 pub loop-p-preserved : goal.loop-p-preserved
 loop-p-preserved c =

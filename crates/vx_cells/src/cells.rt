@@ -1,11 +1,11 @@
 ghost use Rattle.std.specs.Option.{option_copied};
-ghost use Rattle.std.specs.Prelude.{◌≡◌, ◌+◌, ◌%◌, ◌<◌, ◌≤◌, nat_lt, length, true, IfOk, OnOk, OnErr, IfSome};
+ghost use Rattle.std.specs.Prelude.{◌≡◌, ◌+◌, ◌%◌, ◌<◌, ◌≤◌, ◌&&◌, not, nat_lt, length, true, IfOk, OnOk, OnErr, IfSome};
 ghost use Rattle.std.specs.List.{All};
 ghost use Rattle.vx_store.specs.MachineMarks.{is_of};
 ghost use Rattle.vx_store.specs.declared.stack.TheConstants.{SLOTS};
 ghost use Rattle.vx_geom.specs.Sizes.{span, sector_count};
 ghost use Rattle.vx_geom.specs.declared.bounds.TheConstants.{HIGH_HEIGHT};
-ghost use Rattle.vx_block.specs.Components.{is_dust, is_component};
+ghost use Rattle.vx_block.specs.Components.{is_device, is_dust, is_component};
 ghost use Rattle.vx_block.specs.Conductors.{conducts};
 ghost use Rattle.vx_cells.specs.Listed.{place, components_of, devices_of, AreInLayer, AreInRow};
 
@@ -107,6 +107,16 @@ impl Cells {
         ensures { result ≡ conducts (cell_at self.now p) }
     {
         self.stored.has_conductor(p)
+    }
+
+    /// Whether neither a device nor a conductor stands at a position of this sector.
+    #[inline(always)]
+    pub fn is_idle(&self, p: Pos) -> bool
+        requires { holds self.now p ≡ true }
+        ensures { result
+            ≡ (not (is_device (cell_at self.now p)) && not (conducts (cell_at self.now p))) }
+    {
+        self.stored.is_idle(p)
     }
 
     /// Puts a cell down at a position of this sector, in place of what was there. A chest begins

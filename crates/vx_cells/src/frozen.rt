@@ -195,7 +195,8 @@ impl<'a> Frozen<'a> {
     }
 
     /// The sector that holds a position and all that lies close to it, at most one column, one
-    /// layer and one row off. `None` at the end of a chunk or of the world.
+    /// layer and one row off. `None` at the end of a chunk or of the world; no clause says so, since
+    /// only costs rest on it.
     #[inline(always)]
     pub fn around(&self, p: Pos) -> Option<&Cells>
         ensures { IfSome result (λ c. HasAround self.now c.now p) }

@@ -1,11 +1,11 @@
 ghost use Rattle.std.specs.Option.{option_copied};
-ghost use Rattle.std.specs.Prelude.{◌≡◌, ◌<◌, ◌≤◌, nat_lt, length, true, IfOk, OnOk, OnErr, IfSome};
+ghost use Rattle.std.specs.Prelude.{◌≡◌, ◌<◌, ◌≤◌, ◌&&◌, not, nat_lt, length, true, IfOk, OnOk, OnErr, IfSome};
 ghost use Rattle.std.specs.Bool.{Decides};
 ghost use Rattle.std.specs.List.{All};
 ghost use Rattle.vx_store.specs.declared.stack.TheConstants.{SLOTS};
 ghost use Rattle.vx_geom.specs.Sizes.{sector_count};
 ghost use Rattle.vx_geom.specs.declared.bounds.TheConstants.{HIGH_HEIGHT};
-ghost use Rattle.vx_block.specs.Components.{is_dust};
+ghost use Rattle.vx_block.specs.Components.{is_device, is_dust};
 ghost use Rattle.vx_block.specs.Conductors.{conducts};
 ghost use Rattle.vx_store.specs.Codes.{code_count, cell_of};
 ghost use Rattle.vx_store.specs.MachineMarks.{is_of};
@@ -19,8 +19,8 @@ use vx_geom::{Bounds, LOW_HEIGHT, Pos};
 use vx_marks::{PAGE, Page};
 use vx_section::Sections;
 use vx_store::{
-    AIR, ChestParts, MachineMarks, MarkKind, SLOTS, Slot, conducts, decode, encode, is_dust,
-    put_marked, put_over,
+    AIR, ChestParts, MachineMarks, MarkKind, SLOTS, Slot, conducts, decode, encode, is_device,
+    is_dust, put_marked, put_over,
 };
 
 /// What a sector holds, as copies of it share it: the cells as bytes, section by section, and the
@@ -131,6 +131,17 @@ impl Stored {
         ensures { result ≡ conducts (cell_at self.now p) }
     {
         conducts(self.code(p))
+    }
+
+    /// Whether neither a device nor a conductor stands at a position of this sector.
+    #[inline(always)]
+    pub fn is_idle(&self, p: Pos) -> bool
+        requires { holds self.now p ≡ true }
+        ensures { result
+            ≡ (not (is_device (cell_at self.now p)) && not (conducts (cell_at self.now p))) }
+    {
+        let code = self.code(p);
+        !is_device(code) && !conducts(code)
     }
 
     // The byte of the cell at a position of this sector.

@@ -19,7 +19,7 @@ use Rattle.vx_power.specs.Dust.{beside, over, under, links_beside, links_up, lin
 use Rattle.vx_power.specs.Laws.{dust_level}
 use Rattle.vx_power.specs.Levels.{AreAllLevels}
 use Rattle.vx_power.specs.Local.{around, within_steps, AreAlike, shown, ShowAlike, DustSees, PowerSees, ActivitySees, DustSeesShown, PowerSeesShown, ActivitySeesShown, AreLevelsNear}
-use Rattle.vx_power.specs.Signals.{gives, drives, drives_from, is_driven, is_strong, feeds_from, has_feeder, is_fed, reaches, dust_powers, is_dust_powered, is_powered, activates, is_front, is_active}
+use Rattle.vx_power.specs.Signals.{gives, drives_from, is_driven, is_strong, feeds_from, has_feeder, is_fed, reaches, dust_powers, is_dust_powered, is_powered, activates, is_front, is_active}
 use Rattle.vx_power.specs.Turning.{turned_on, built, BuiltAlike, EachHeeded, ShowHeeded, has_power, PowerHeeded, LinksSeeBuilt, ActivityHeeds}
 use Rattle.vx_power.specs.Walks.{IsAmong}
 use Rattle.vx_power.proofs.Linking.{among_left, among_right}

@@ -1,5 +1,5 @@
 -- What parts that are turned on and off feed, and that dust elsewhere is fed as before.
-use Rattle.std.proofs.Common.{◌≡◌, ◌⊎◌, Bool, true, false, not, ◌&&◌, if◌then◌else◌, List, [], ◌∷◌, ◌++◌, inl, inr, refl, sym, ap, ◌∙◌, subst}
+use Rattle.std.proofs.Common.{◌≡◌, Bool, true, false, not, ◌&&◌, if◌then◌else◌, List, [], ◌∷◌, ◌++◌, inl, inr, refl, sym, ap, ◌∙◌, subst}
 use Rattle.std.proofs.lemmas.Bool.{and_parts, cases_Bool, false≢true}
 use Rattle.std.proofs.lemmas.Bool.Decides.{same_from_decides}
 use Rattle.vx_geom.specs.declared.dir.Dir.{Dir}
@@ -19,7 +19,7 @@ use Rattle.vx_power.specs.Signals.{gives, drives, is_fed}
 use Rattle.vx_power.specs.Spreading.{dust_at, each_dir, fed_by, fed_from, fed_towards}
 use Rattle.vx_power.specs.Turning.{turned_on, all_on, built, BuiltAlike, FeedingSeesTurned}
 use Rattle.vx_power.specs.Walks.{IsAmong}
-use Rattle.vx_power.proofs.Feeders.{Feeds, GivesTo, DrivesBeside, back_to, fed_feeds, feeds_at, feeds_fed, from_feeds}
+use Rattle.vx_power.proofs.Feeders.{Feeds, back_to, fed_feeds, feeds_at, feeds_fed, from_feeds}
 use Rattle.vx_power.proofs.Having.{all_at, all_from, has_at}
 use Rattle.vx_power.proofs.Linking.{among_right}
 use Rattle.vx_power.proofs.Local.{Builds, Near, among_around, builds_from, here, one_of_six}
@@ -118,12 +118,12 @@ module _ (w u : Pos → Cell) (s p : Pos) (dust : is_dust (w p) ≡ is_dust (u p
     elim feeds.1 [
       | inl to ↦ inl (record { dir = to.dir; given = given to.dir to.there to.given; there = to.there })
       | inr by ↦ inr (record {
-          dir = by.dir;
-          onward = by.onward;
-          driven = driven by.dir by.onward by.there by.driven;
-          conducted = sym (conductor (neighbor s by.dir) by.onward by.there) ∙ by.conducted;
-          there = by.there;
-        })
+        dir = by.dir;
+        onward = by.onward;
+        driven = driven by.dir by.onward by.there by.driven;
+        conducted = sym (conductor (neighbor s by.dir) by.onward by.there) ∙ by.conducted;
+        there = by.there;
+      })
     ],
   )
 

@@ -9,7 +9,7 @@ use Rattle.vx_block.specs.Conductors.{conducts}
 use Rattle.vx_power.specs.Dust.{links}
 use Rattle.vx_power.specs.Levels.{has}
 use Rattle.vx_power.specs.Local.{within_steps, sees, shown, AreAlike}
-use Rattle.vx_power.specs.Signals.{is_fed, is_powered, is_active}
+use Rattle.vx_power.specs.Signals.{is_fed, is_active}
 use Rattle.vx_power.specs.Spreading.{fed_by}
 use Rattle.vx_power.specs.Walks.{IsAmong}
 

@@ -12,11 +12,7 @@ use vx_cells::Frozen;
 use vx_geom::{Dir, Pos};
 
 /// Adds the dust that the parts at these positions would feed, were they on.
-pub fn add_all_fed(
-    list: &mut Vec<Pos>,
-    map: &Frozen<'_>,
-    parts: &[Pos],
-) -> Result<(), AllocError>
+pub fn add_all_fed(list: &mut Vec<Pos>, map: &Frozen<'_>, parts: &[Pos]) -> Result<(), AllocError>
     ensures { OnOk result (list.new.items ≡ list.old.items
         ++ fed_by (all_on (cell_on map.now)) parts.now) }
 {

@@ -25,7 +25,7 @@ pub use laws::{
 pub use level_table::Levels;
 pub use leveled::Leveled;
 pub use links_nearby::{links_beside, links_down, links_up, may_climb, may_fall};
-pub use nearby::next_cell;
+pub use nearby::{is_next_idle, next_cell};
 pub use next_dust::{dust_at, dust_over, dust_under};
 pub use places::{place_beside, place_over, place_under};
 pub use power::{activates, active, powered};

@@ -1,7 +1,8 @@
 //! Positions close to one, where one sector has all around it.
 ghost use Rattle.std.specs.Prelude.{◌≡◌, ◌≤◌, pos, unsigned_abs, true, false, None, IfSome};
 ghost use Rattle.vx_block.specs.declared.cell.Cell.TheVariants.{Air};
-ghost use Rattle.vx_block.specs.Components.{is_component};
+ghost use Rattle.vx_block.specs.Components.{is_component, is_device};
+ghost use Rattle.vx_block.specs.Conductors.{conducts};
 ghost use Rattle.vx_cells.specs.Maps.{cell_on};
 ghost use Rattle.vx_cells.specs.Nearby.{HasAround, IsClose};
 ghost use Rattle.vx_cells.specs.SectorCells.{holds, cell_at};
@@ -28,12 +29,7 @@ pub fn next_nearby(map: &Frozen<'_>, cells: &Cells, p: Pos, dir: Dir) -> Pos
 /// the sector that has all around this one, if there is one: then it is read from that.
 #[inline(always)]
 #[tactic(auto, using(vx_base::proofs::Signed::signed))]
-pub fn next_cell(
-    map: &Frozen<'_>,
-    around: Option<&Cells>,
-    p: Pos,
-    dir: Dir,
-) -> Option<(Pos, Cell)>
+pub fn next_cell(map: &Frozen<'_>, around: Option<&Cells>, p: Pos, dir: Dir) -> Option<(Pos, Cell)>
     requires { IfSome around (λ cells. HasAround map.now cells.now p) }
     ensures next { IfSome result (λ next. next.0 ≡ neighbor p dir) }
     ensures cell { IfSome result (λ next. next.1 ≡ cell_on map.now (neighbor p dir)) }
@@ -45,6 +41,21 @@ pub fn next_cell(
     }
     let next = map.next(p, dir)?;
     Some((next, map.cell(next)))
+}
+
+/// Whether neither a device nor a conductor stands at the next position in that direction, as the
+/// sector tells that has all around this one, if there is one. `false` promises nothing: only costs
+/// rest on it.
+#[inline(always)]
+pub fn is_next_idle(map: &Frozen<'_>, around: Option<&Cells>, p: Pos, dir: Dir) -> bool
+    requires { IfSome around (λ cells. HasAround map.now cells.now p) }
+    ensures device { result ≡ true → is_device (cell_on map.now (neighbor p dir)) ≡ false }
+    ensures conductor { result ≡ true → conducts (cell_on map.now (neighbor p dir)) ≡ false }
+{
+    match around {
+        Some(cells) => cells.is_idle(next_nearby(map, cells, p, dir)),
+        None => false,
+    }
 }
 
 /// Whether no component of machines stands close to a position in the layer of another that is

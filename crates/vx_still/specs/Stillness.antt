@@ -8,7 +8,7 @@ use Rattle.vx_levels.specs.Consistency.{IsConsistent, IsExactOn}
 use Rattle.vx_power.specs.Laws.{dust_level}
 use Rattle.vx_power.specs.Levels.{has, stored_level}
 use Rattle.vx_power.specs.Local.{sees, shown, AreAlike}
-use Rattle.vx_power.specs.Turning.{built, has_power, PowerHeeded}
+use Rattle.vx_power.specs.Turning.{built, PowerHeeded}
 use Rattle.vx_part.specs.Parts.{next_part}
 use Rattle.vx_piston.specs.Moves.{is_restless}
 use Rattle.vx_still.specs.Waking.{with_rebuilt, ReadsNone, Rests, SeesNone, WakingData}

@@ -12,7 +12,7 @@ use vx_block::Cell;
 use vx_cells::{Cells, Frozen};
 use vx_geom::{Dir, Pos};
 use vx_places::Places;
-use vx_power::next_cell;
+use vx_power::{is_next_idle, next_cell};
 
 /// Marks these positions and the devices that heed what stands there.
 pub(crate) fn mark_all_heeders(
@@ -89,6 +89,9 @@ fn mark_towards(
     ensures kept { OnOk result (KeepsMarks places.old places.new) }
     ensures marked { OnOk result (AreMarkedBeside map.now places.new p dir) }
 {
+    if is_next_idle(map, around, p, dir) {
+        return Ok(());
+    }
     let Some((next, cell)) = next_cell(map, around, p, dir) else {
         return Ok(());
     };
@@ -137,6 +140,9 @@ fn mark_next(
     ensures kept { OnOk result (KeepsMarks places.old places.new) }
     ensures marked { OnOk result (IsMarked map.now places.new (neighbor p dir)) }
 {
+    if is_next_idle(map, around, p, dir) {
+        return Ok(());
+    }
     let Some((next, cell)) = next_cell(map, around, p, dir) else {
         return Ok(());
     };

@@ -19,7 +19,7 @@ mod shared_page;
 mod stack;
 
 pub use chest_parts::ChestParts;
-pub use code::{AIR, conducts, decode, encode, is_dust};
+pub use code::{AIR, conducts, decode, encode, is_device, is_dust};
 pub use machine_marks::MachineMarks;
 pub use mark_kind::MarkKind;
 pub use marked::marked_places;

@@ -1,15 +1,13 @@
-use Rattle.std.proofs.Common.{◌≡◌, ℕ, pos, ◌+◌, ◌%◌, ◌<◌, true, ◌&&◌, nat_lt, None, Some, inl, inr, refl, ap, sym, subst, ◌∙◌, arith}
+use Rattle.std.proofs.Common.{◌≡◌, ℕ, ◌+◌, ◌<◌, true, ◌&&◌, nat_lt, inl, inr, refl, ap, sym, subst, ◌∙◌, arith}
 use Rattle.std.specs.Option.{option_copied}
 use Rattle.std.proofs.lemmas.Bool.{and_left, and_right, cases_lt, le-ltb}
 use Rattle.std.proofs.lemmas.Int.{ints}
 use Rattle.vx_block.specs.Components.{is_component}
-use Rattle.vx_geom.specs.Sizes.{Sizes, AreSizes, span, is_inside, index_in_sector}
+use Rattle.vx_geom.specs.Sizes.{AreSizes, is_inside, index_in_sector}
 use Rattle.vx_geom.proofs.SectorLemmas.{inside_at}
-use Rattle.vx_marks.specs.Marks.{is_set, is_marked}
-use Rattle.vx_marks.specs.declared.page.TheConstants.{PAGE}
 use Rattle.vx_marks.proofs.WordBits.{unset}
 use Rattle.vx_cells.specs.Listed.{place, AreInLayer}
-use Rattle.vx_cells.specs.SectorCells.{SectorCells, holds, cell_at}
+use Rattle.vx_cells.specs.SectorCells.{holds, cell_at}
 use Rattle.vx_cells.proofs.Indices.{inside_from_holds, numbered, same_held}
 use Rattle.vx_cells.proofs.Rows.{bits_in_row, column_held, in_word, low_inside, place_is}
 use Rattle.vx_cells.proofs.cells.Cells.components_in_row.Goals as goal

@@ -1,6 +1,6 @@
 -- The devices that heed what stands at a position are marked, direction by direction.
-use Rattle.std.proofs.Common.{◌≡◌, true, false, ◌&&◌, ◌||◌, nat_eq, inl, inr, List, [], ◌∷◌, ◌++◌, refl, sym, ap, ◌∙◌, subst}
-use Rattle.std.proofs.lemmas.Bool.{and_from, false≢true, or_cases, or_left, or_right}
+use Rattle.std.proofs.Common.{◌≡◌, ◌⊎◌, Bool, true, false, ◌&&◌, ◌||◌, nat_eq, inl, inr, List, [], ◌∷◌, ◌++◌, refl, sym, ap, ◌∙◌, subst}
+use Rattle.std.proofs.lemmas.Bool.{and_from, and_parts, false≢true, or_cases, or_left, or_parts, or_right}
 use Rattle.vx_geom.specs.declared.dir.Dir.{Dir}
 use Rattle.vx_geom.specs.declared.dir.Dir.TheVariants.{East, West, Up, Down, South, North}
 use Rattle.vx_geom.specs.declared.pos.Pos.{Pos}
@@ -10,15 +10,17 @@ use Rattle.vx_geom.proofs.Positions.{there_and_back}
 use Rattle.vx_geom.specs.Sizes.{is_inside}
 use Rattle.vx_block.specs.declared.cell.Cell.{Cell}
 use Rattle.vx_block.specs.declared.cell.Cell.TheVariants.{Air}
-use Rattle.vx_block.specs.Components.{is_device}
+use Rattle.vx_block.specs.declared.cell.Cell.TheVariants as cell
+use Rattle.vx_block.specs.Components.{is_device, is_dust}
 use Rattle.vx_block.specs.Conductors.{conducts}
 use Rattle.vx_cells.specs.Maps.{MapData, cell_on}
 use Rattle.vx_places.specs.Places.{PlacesData, is_at, steps_between}
-use Rattle.vx_places.proofs.Steps.{is_place}
+use Rattle.vx_places.proofs.Steps as steps
 use Rattle.vx_power.specs.Levels.{has, same_place}
 use Rattle.vx_power.specs.Turning.{EachHeeded}
 use Rattle.vx_power.proofs.Having.{has_joined, place_is}
 use Rattle.vx_power.proofs.Local.{each_weaker}
+use Rattle.vx_still.specs.Unheeded.{AreUnheeded, IsUnheeded, NoneBeside}
 use Rattle.vx_still.specs.Telling.{AreMarkedBeside, AreMarkedFrom, HasHeeders, IsMarked, KeepsMarks}
 use Rattle.vx_still.proofs.Looking.{device_inside}
 
@@ -75,7 +77,7 @@ module _ (m : MapData) where
       added p
       ∙ or_right (is_at old p) (is_inside old.sizes p && nat_eq (steps_between p p) 0)
       (and_from (is_inside old.sizes p) (nat_eq (steps_between p p) 0)
-      (ap (λ v. is_inside v p) sizes ∙ device_inside m p stands) (is_place p p refl))
+      (ap (λ v. is_inside v p) sizes ∙ device_inside m p stands) (steps.is_place p p refl))
 
   -- one position more has its heeders marked
   pub from_more : (old new : PlacesData) (done : List Pos) (p : Pos) → KeepsMarks old new → AreMarkedFrom m old done
@@ -89,6 +91,69 @@ module _ (m : MapData) where
       just : (b : _) → (b || false) ≡ true → b ≡ true
       just true is = refl
       just false is = is
+
+-- dust is no device
+dust_no_device : (c : Cell) → is_dust c ≡ true → is_device c ≡ false
+dust_no_device (cell.Dust level) is = refl
+dust_no_device (cell.Torch facing lit) is = cc
+dust_no_device (cell.Lever facing on) is = cc
+dust_no_device (cell.Repeater r) is = cc
+dust_no_device (cell.Lamp state) is = cc
+dust_no_device (cell.Piston facing sticky extended) is = cc
+dust_no_device _ is = refl
+
+module _ (m : MapData) (p : Pos) where
+  -- where no device heeds it, all that do are marked
+  pub none_to_mark : (places : PlacesData) → IsUnheeded m p → HasHeeders m places p
+  none_to_mark places = each_weaker (cell_on m) p (λ q none stands. absurd (false≢true (sym none ∙ stands)))
+
+  -- in air, or where nothing conducts behind it
+  pub none_by_air : (d : Dir) → cell_on m (neighbor p d) ≡ Air → NoneBeside m p d
+  none_by_air d air = (ap is_device air, λ e is. absurd (false≢true (sym (ap conducts air) ∙ is)))
+
+  pub none_by_bare : (d : Dir) → conducts (cell_on m (neighbor p d)) ≡ false → is_device (cell_on m (neighbor p d)) ≡ false
+      → NoneBeside m p d
+  none_by_bare d bare none = (none, λ e is. absurd (false≢true (sym bare ∙ is)))
+
+  -- one position of dust more that no device heeds
+  pub noted : (old new : PlacesData) → is_dust (cell_on m p) ≡ true → ((d : Dir) → NoneBeside m p d)
+      → ((q : Pos) → is_at new q ≡ (is_at old q || (is_inside old.sizes q && nat_eq (steps_between p q) 0)))
+      → AreUnheeded m [] old → AreUnheeded m [] new
+  noted old new dust none added unheeded = record {
+    dust = λ q at unbuilt. elim (before q at) [
+      | inl was ↦ unheeded.dust q was unbuilt
+      | inr same ↦ subst (λ r. is_dust (cell_on m r) ≡ true) same dust
+    ];
+    each = λ q at untouched. elim (before q at) [
+      | inl was ↦ unheeded.each q was untouched
+      | inr same ↦ subst (IsUnheeded m) same here
+    ];
+  }
+    where
+      here : IsUnheeded m p
+      here = record {
+        own = dust_no_device (cell_on m p) dust;
+        beside = λ d. (none d).0;
+        through = λ d e is. (none d).1 e is;
+      }
+
+      before : (q : Pos) → is_at new q ≡ true → (is_at old q ≡ true) ⊎ (p ≡ q)
+      before q at =
+          elim (or_cases (is_at old q) (is_inside old.sizes q && nat_eq (steps_between p q) 0) (sym (added q) ∙ at)) [
+            | inl was ↦ inl was
+            | inr new ↦ inr (steps.place_is p q (and_parts (is_inside old.sizes q) (nat_eq (steps_between p q) 0) new).1)
+          ]
+
+-- where none of six is true, each is false
+pub none_of_six : (a b c d e f : Bool) → (((a || b) || (c || d)) || (e || f)) ≡ false
+    → (a ≡ false) × (b ≡ false) × (c ≡ false) × (d ≡ false) × (e ≡ false) × (f ≡ false)
+none_of_six a b c d e f none =
+    let parts = or_parts ((a || b) || (c || d)) (e || f) none in
+    let first = or_parts (a || b) (c || d) parts.0 in
+    let one = or_parts a b first.0 in
+    let two = or_parts c d first.1 in
+    let three = or_parts e f parts.1 in
+    (one.0, one.1, two.0, two.1, three.0, three.1)
 
 -- what holds of every position holds of each that is heeded
 pub each_all : {P : Pos → Type 0} (w : Pos → Cell) (p : Pos) → ((q : Pos) → P q) → EachHeeded w p P

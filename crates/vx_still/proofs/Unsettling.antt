@@ -1,7 +1,7 @@
 -- Outside what is marked all rests.
-use Rattle.std.proofs.Common.{◌≡◌, ◌⊎◌, ℕ, true, false, ◌&&◌, ◌||◌, nat_eq, nat_lt, inl, inr, List, ◌++◌, sym, ap, ◌∙◌}
+use Rattle.std.proofs.Common.{◌≡◌, ◌⊎◌, ℕ, Bool, true, false, not, ◌&&◌, ◌||◌, nat_eq, nat_lt, inl, inr, List, [], ◌++◌, sym, ap, ◌∙◌}
 use Rattle.std.specs.List.{list_any}
-use Rattle.std.proofs.lemmas.Bool.{and_from, cases_Bool, false≢true, or_left, or_parts, or_right}
+use Rattle.std.proofs.lemmas.Bool.{and_from, and_parts, cases_Bool, false≢true, or_left, or_parts, or_right}
 use Rattle.vx_geom.specs.declared.pos.Pos.{Pos}
 use Rattle.vx_geom.specs.Sizes.{is_inside}
 use Rattle.vx_block.specs.declared.cell.Cell.{Cell}
@@ -26,6 +26,7 @@ use Rattle.vx_store.specs.declared.mark_kind.MarkKind.{MarkKind}
 use Rattle.vx_store.specs.declared.mark_kind.MarkKind.TheVariants.{Component, Device}
 use Rattle.vx_still.specs.Mirrored.{IsMirror}
 use Rattle.vx_still.specs.Stillness.{IsStill, stored_on}
+use Rattle.vx_still.specs.Unheeded.{AreUnheeded, DustData}
 use Rattle.vx_still.specs.Telling.{AreMarkedFrom, AreTold, IsMarked, IsTold, KeepsMarks}
 use Rattle.vx_still.proofs.Heeding.{no_store, no_dust_level, others_rest}
 use Rattle.vx_still.proofs.Sensing.{dust_rests_by_level, others_rest_by_power}
@@ -43,40 +44,71 @@ of_kind_around kind w n changed p stands is =
     any_from (λ c. is_kind_around kind w c n p) changed found.0 found.1
     (and_from (is_around found.0 n p) (is_of kind (w p)) found.2 stands)
 
--- a table that mirrors what dust stores is right but where something was rebuilt, or dust sees that it
+-- where no listed component sees what was rebuilt, dust sees nothing that was
+unseen : (m : MapData) (rebuilt seen : List Pos)
+    → ((p : Pos) → has seen p ≡ (is_inside m.sizes p && list_any (λ c. is_kind_around Component (cell_on m) c 2 p) rebuilt))
+    → (p : Pos) → is_dust (cell_on m p) ≡ true → has seen p ≡ false → is_touched (has rebuilt) p ≡ false
+unseen m rebuilt seen sight p dust none = elim (cases_Bool (is_touched (has rebuilt) p)) [
+  | inl touched ↦
+      absurd (false≢true (sym none ∙ sight p
+      ∙ and_from (is_inside m.sizes p) (list_any (λ c. is_kind_around Component (cell_on m) c 2 p) rebuilt)
+      (dust_inside m p dust)
+      (of_kind_around Component (cell_on m) 2 rebuilt p (or_left (is_dust (cell_on m p)) (is_device (cell_on m p)) dust) touched)))
+  | inr away ↦ away
+]
+
+either : (ps qs : List Pos) (p : Pos) → has (ps ++ qs) p ≡ false → (has ps p ≡ false) × (has qs p ≡ false)
+either ps qs p none = or_parts (has ps p) (has qs p) (sym (has_joined ps qs p) ∙ none)
+
+-- levels that mirror what dust stores are right but where something was rebuilt, or dust sees that it
 -- was, or a part that was turned would feed it
-pub mirror_right : (m : MapData) (waking : WakingData) (seen : List Pos) (table : LevelTable)
-    → IsStill m waking → IsMirror m waking.rebuilt table
+pub mirror_right : (m : MapData) (waking : WakingData) (seen : List Pos) (kept : DustData)
+    → IsStill m waking → IsMirror m waking.rebuilt kept
     → ((p : Pos) → has seen p ≡ (is_inside m.sizes p && list_any (λ c. is_kind_around Component (cell_on m) c 2 p) waking.rebuilt))
-    → IsRightBut (cell_on m) table ((seen ++ waking.rebuilt) ++ fed_by (all_on (cell_on m)) waking.turned)
-mirror_right m waking seen table still mirror sight = record {
+    → IsRightBut (cell_on m) kept.levels ((seen ++ waking.rebuilt) ++ fed_by (all_on (cell_on m)) waking.turned)
+mirror_right m waking seen kept still mirror sight = record {
   consistent = λ p dust none.
-      mirrors_agree m waking (level_at table) p still mirror.levels dust (record {
-        rebuilt = unseen p dust (apart p none).0;
+      mirrors_agree m waking (level_at kept.levels) p still mirror.levels dust (record {
+        rebuilt = unseen m waking.rebuilt seen sight p dust (apart p none).0;
         turned = (either (seen ++ waking.rebuilt) fed p none).1;
       });
-  linked = λ p none dust. mirror.linked p (unseen p dust (apart p none).0) dust;
+  linked = λ p none dust. mirror.linked p (unseen m waking.rebuilt seen sight p dust (apart p none).0) dust;
   empty = λ p bare none. mirror.empty p bare (apart p none).1;
 }
   where
     fed : List Pos
     fed = fed_by (all_on (cell_on m)) waking.turned
 
-    either : (ps qs : List Pos) (p : Pos) → has (ps ++ qs) p ≡ false → (has ps p ≡ false) × (has qs p ≡ false)
-    either ps qs p none = or_parts (has ps p) (has qs p) (sym (has_joined ps qs p) ∙ none)
-
     apart : (p : Pos) → has ((seen ++ waking.rebuilt) ++ fed) p ≡ false → (has seen p ≡ false) × (has waking.rebuilt p ≡ false)
     apart p none = either seen waking.rebuilt p (either (seen ++ waking.rebuilt) fed p none).0
 
-    unseen : (p : Pos) → is_dust (cell_on m p) ≡ true → has seen p ≡ false → is_touched (has waking.rebuilt) p ≡ false
-    unseen p dust none = elim (cases_Bool (is_touched (has waking.rebuilt) p)) [
-      | inl touched ↦
-          absurd (false≢true (sym none ∙ sight p
-          ∙ and_from (is_inside m.sizes p) (list_any (λ c. is_kind_around Component (cell_on m) c 2 p) waking.rebuilt)
-          (dust_inside m p dust)
-          (of_kind_around Component (cell_on m) 2 waking.rebuilt p (or_left (is_dust (cell_on m p)) (is_device (cell_on m p)) dust) touched)))
-      | inr away ↦ away
+-- dust that no device heeds is so on the whole map, once that is forgotten which sees what was rebuilt
+pub forgotten : (m : MapData) (rebuilt seen : List Pos) (old new : PlacesData) → AreUnheeded m rebuilt old
+    → ((p : Pos) → has seen p ≡ (is_inside m.sizes p && list_any (λ c. is_kind_around Component (cell_on m) c 2 p) rebuilt))
+    → ((q : Pos) → is_at new q ≡ (is_at old q && not (list_any (λ p. nat_eq (steps_between p q) 0) (seen ++ rebuilt))))
+    → AreUnheeded m [] new
+forgotten m rebuilt seen old new unheeded sight left = record {
+  dust = λ p at _. there p at;
+  each = λ p at _.
+      unheeded.each p (kept p at) (unseen m rebuilt seen sight p (there p at) (either seen rebuilt p (unlisted p at)).0);
+}
+  where
+    listed : Pos → Bool
+    listed p = list_any (λ c. nat_eq (steps_between c p) 0) (seen ++ rebuilt)
+
+    kept : (p : Pos) → is_at new p ≡ true → is_at old p ≡ true
+    kept p at = (and_parts (is_at old p) (not (listed p)) (sym (left p) ∙ at)).0
+
+    unlisted : (p : Pos) → is_at new p ≡ true → has (seen ++ rebuilt) p ≡ false
+    unlisted p at = elim (cases_Bool (has (seen ++ rebuilt) p)) [
+      | inl there ↦
+          absurd (false≢true (sym (ap not (place_listed (seen ++ rebuilt) p there))
+          ∙ (and_parts (is_at old p) (not (listed p)) (sym (left p) ∙ at)).1))
+      | inr none ↦ none
     ]
+
+    there : (p : Pos) → is_at new p ≡ true → is_dust (cell_on m p) ≡ true
+    there p at = unheeded.dust p (kept p at) (either seen rebuilt p (unlisted p at)).1
 
 -- devices around changes are marked
 pub around_marked : (m : MapData) (changed : List Pos) (old new : PlacesData) → old.sizes ≡ m.sizes
@@ -110,9 +142,9 @@ still_told m level old new p kept told = record {
   near = elim told.near [ inl same ↦ inl same | inr marked ↦ inr (heeders_still m old new p kept marked) ];
 }
 
-module _ (m : MapData) (waking : WakingData) (put : List Pos) (old new : LevelTable) (places : PlacesData)
+module _ (m : MapData) (waking : WakingData) (put : List Pos) (old : DustData) (new : LevelTable) (places : PlacesData)
     (still : IsStill m waking) (mirror : IsMirror m waking.rebuilt old) (right : IsRight (cell_on m) new)
-    (changes : ChangesAt put old new) (told_rebuilt : AreTold m (level_at new) places waking.rebuilt)
+    (changes : ChangesAt put old.levels new) (told_rebuilt : AreTold m (level_at new) places waking.rebuilt)
     (told_put : AreTold m (level_at new) places put) (heeders : AreMarkedFrom m places waking.turned) where
   abbrev w : Pos → Cell
   w = cell_on m

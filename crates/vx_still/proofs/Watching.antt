@@ -18,7 +18,8 @@ use Rattle.vx_still.specs.Mirrored.{IsMirror}
 use Rattle.vx_still.specs.Stillness.{stored_on}
 use Rattle.vx_still.specs.Watching.{IsWatch, WritesKeepWatch, TicksLeaveWatch}
 use Rattle.vx_still.proofs.Heeding.{no_store, no_dust_level}
-use Rattle.vx_still.proofs.Mirroring.{writes_keep_mirror, ticks_leave_mirror}
+use Rattle.vx_still.specs.Unheeded.{DustData, IsKept}
+use Rattle.vx_still.proofs.Mirroring.{none_of_none, writes_keep_mirror, ticks_leave_mirror}
 use Rattle.vx_still.proofs.Stilling.{mirrors_agree, still_rests, ticks_leave_still, writes_keep_still}
 use Rattle.vx_still.specs.Waking.{nowhere, Rests}
 
@@ -26,16 +27,16 @@ pub writes_keep_watch : WritesKeepWatch
 writes_keep_watch m next watch written is kept = record {
   still = writes_keep_still m next watch.waking written is.still kept;
   mirror =
-      IfSome_then watch.levels {P = IsMirror m watch.waking.rebuilt} {Q = IsMirror next (watch.waking.rebuilt ++ written)} is.mirror
-      (λ table mirror. writes_keep_mirror m next watch.waking.rebuilt written table mirror kept);
+      IfSome_then watch.dust {P = IsMirror m watch.waking.rebuilt} {Q = IsMirror next (watch.waking.rebuilt ++ written)} is.mirror
+      (λ dust mirror. writes_keep_mirror m next watch.waking.rebuilt written dust mirror kept);
 }
 
 pub ticks_leave_watch : TicksLeaveWatch
-ticks_leave_watch m next watch left right = record {
+ticks_leave_watch m next watch left kept = record {
   still = ticks_leave_still m next watch.waking left;
   mirror =
-      IfSome_then watch.levels {P = IsRight (cell_on m)} {Q = IsMirror next watch.waking.rebuilt} right
-      (λ table right. ticks_leave_mirror m next watch.waking table left right);
+      IfSome_then watch.dust {P = IsKept m} {Q = IsMirror next watch.waking.rebuilt} kept
+      (λ dust kept. ticks_leave_mirror m next watch.waking dust left kept);
 }
 
 -- a table that is right has the levels of the map at every position
@@ -45,15 +46,14 @@ right_levels m table right p = elim (cases_Bool (is_dust (cell_on m p))) [
   | inr bare ↦ right.empty p bare ∙ sym (no_dust_level (cell_on m) p bare)
 ]
 
-none_of_none : (ps : List Pos) → list_any (has []) ps ≡ false
-none_of_none [] = refl
-none_of_none (p ∷ ps) = none_of_none ps
-
 low : (n : ℕ) → n % 16 ≤ 15
 low n = omega arith
 
 -- where a watch tells of nothing all rests
-module _ (m : MapData) (table : LevelTable) (is : IsWatch m (record { waking = nowhere; levels = Some table })) where
+module _ (m : MapData) (kept : DustData) (is : IsWatch m (record { waking = nowhere; dust = Some kept })) where
+  abbrev table : LevelTable
+  table = kept.levels
+
   agrees : (q : Pos) → is_dust (cell_on m q) ≡ true
       → (level_at table q ≤ 15) × IsConsistent (cell_on m) (level_at table) q
   agrees q dust = (

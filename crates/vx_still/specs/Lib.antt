@@ -1,5 +1,6 @@
 pub mod Mirrored
 pub mod Stillness
 pub mod Telling
+pub mod Unheeded
 pub mod Watching
 pub mod Waking

@@ -1,31 +1,33 @@
--- A table of levels beside a map: what it tells between ticks.
+-- What is kept of the dust of a map: what it tells between ticks.
 use Rattle.std.specs.Prelude.{◌≡◌, false, ◌++◌, List}
 use Rattle.vx_geom.specs.declared.pos.Pos.{Pos}
 use Rattle.vx_block.specs.Components.{is_dust}
 use Rattle.vx_cells.specs.Maps.{MapData, cell_on}
 use Rattle.vx_levels.specs.Linked.{level_at, KnowsLinks}
-use Rattle.vx_levels.specs.Repairs.{IsRight}
-use Rattle.vx_power.specs.Levels.{LevelTable, has}
+use Rattle.vx_power.specs.Levels.{has}
 use Rattle.vx_power.specs.Local.{is_touched}
 use Rattle.vx_still.specs.Stillness.{LeavesStill, Mirrors}
+use Rattle.vx_still.specs.Unheeded.{AreUnheeded, DustData, IsKept}
 use Rattle.vx_still.specs.Waking.{WakingData}
 
--- it has the level that dust stores and none where no dust lies, but where something was rebuilt; and
--- the links of dust that sees nothing that was
-pub record IsMirror (m : MapData) (rebuilt : List Pos) (table : LevelTable) : Type 0 where
-  pub levels : Mirrors m rebuilt (level_at table)
+-- it has the level that dust stores and none where no dust lies, but where something was rebuilt; the
+-- links of dust that sees nothing that was; and dust that no device heeds
+pub record IsMirror (m : MapData) (rebuilt : List Pos) (kept : DustData) : Type 0 where
+  pub levels : Mirrors m rebuilt (level_at kept.levels)
   pub empty : (p : Pos) → is_dust (cell_on m p) ≡ false → has rebuilt p ≡ false
-      → level_at table p ≡ 0
-  pub linked : (p : Pos) → is_touched (has rebuilt) p ≡ false → KnowsLinks (cell_on m) table p
+      → level_at kept.levels p ≡ 0
+  pub linked : (p : Pos) → is_touched (has rebuilt) p ≡ false
+      → KnowsLinks (cell_on m) kept.levels p
+  pub unheeded : AreUnheeded m rebuilt kept.unheeded
 
 -- cells are written, with their places among those that were rebuilt
 abbrev pub WritesKeepMirror : Type 0
-WritesKeepMirror = (m next : MapData) (rebuilt written : List Pos) (table : LevelTable)
-    → IsMirror m rebuilt table
+WritesKeepMirror = (m next : MapData) (rebuilt written : List Pos) (kept : DustData)
+    → IsMirror m rebuilt kept
     → ((p : Pos) → has written p ≡ false → cell_on next p ≡ cell_on m p)
-    → IsMirror next (rebuilt ++ written) table
+    → IsMirror next (rebuilt ++ written) kept
 
--- after a tick, where the table had the levels and links of the map before it
+-- after a tick, where this was kept of the map before it
 abbrev pub TicksLeaveMirror : Type 0
-TicksLeaveMirror = (m next : MapData) (waking : WakingData) (table : LevelTable)
-    → LeavesStill m next waking → IsRight (cell_on m) table → IsMirror next waking.rebuilt table
+TicksLeaveMirror = (m next : MapData) (waking : WakingData) (kept : DustData)
+    → LeavesStill m next waking → IsKept m kept → IsMirror next waking.rebuilt kept

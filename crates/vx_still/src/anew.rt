@@ -1,22 +1,28 @@
-//! The levels of a map of which nothing is known.
+//! What is kept of the dust of a map of which nothing is known.
 ghost use Rattle.std.specs.Prelude.{◌≡◌, true, IfOk};
 ghost use Rattle.vx_block.specs.Components.{is_component};
 ghost use Rattle.vx_cells.specs.Maps.{cell_on};
 ghost use Rattle.vx_geom.specs.declared.pos.Pos.{Pos};
-ghost use Rattle.vx_levels.specs.Repairs.{IsRight};
 ghost use Rattle.vx_power.specs.Levels.{has};
+ghost use Rattle.vx_still.specs.Unheeded.{IsKept};
 
+use crate::kept_dust::KeptDust;
 use std::alloc::{AllocError, Global};
 use vx_cells::Frozen;
 use vx_geom::Pos;
-use vx_levels::{LinkedLevels, all_linked};
+use vx_levels::all_linked;
+use vx_places::Places;
 
-/// The levels and links of all dust of a map. It costs a look at each component.
-pub fn linked_anew(alloc: Global, map: &Frozen<'_>) -> Result<LinkedLevels, AllocError>
-    ensures { IfOk result (λ levels. IsRight (cell_on map.now) levels) }
+/// What is to be kept of the dust of a map: its levels and links, and of none that no device heeds
+/// it. It costs a look at each component.
+pub fn linked_anew(alloc: Global, map: &Frozen<'_>) -> Result<KeptDust, AllocError>
+    ensures { IfOk result (IsKept map.now) }
 {
     let places = components(alloc, map)?;
-    all_linked(alloc, map, places.as_slice())
+    Ok(KeptDust {
+        levels: all_linked(alloc, map, places.as_slice())?,
+        unheeded: Places::new(alloc, map.bounds())?,
+    })
 }
 
 // The positions of all components of a map.

@@ -1,11 +1,12 @@
 //! Marks the devices that heed what stands at a position.
-ghost use Rattle.std.specs.Prelude.{◌≡◌, true, OnOk, IfSome};
+ghost use Rattle.std.specs.Prelude.{◌≡◌, ◌||◌, false, OnOk, IfOk, IfSome};
 ghost use Rattle.vx_block.specs.Components.{is_device};
 ghost use Rattle.vx_cells.specs.Maps.{cell_on};
 ghost use Rattle.vx_cells.specs.Nearby.{HasAround};
 ghost use Rattle.vx_geom.specs.Neighbor.{neighbor};
 ghost use Rattle.vx_places.specs.Places.{is_at};
 ghost use Rattle.vx_still.specs.Telling.{AreMarkedFrom, AreMarkedBeside, IsMarked, HasHeeders, KeepsMarks};
+ghost use Rattle.vx_still.specs.Unheeded.{NoneBeside};
 
 use std::alloc::{AllocError, Global};
 use vx_block::Cell;
@@ -45,32 +46,35 @@ fn mark_with_heeders(
     ensures marked { OnOk result (HasHeeders map.now places.new p) }
 {
     places.mark(alloc, p)?;
-    mark_heeders(alloc, map, places, p)
+    mark_heeders(alloc, map, places, p)?;
+    Ok(())
 }
 
 /// Marks the devices that heed what stands at a position: those beside it, and those beside a
-/// conductor that is beside it. Where a device stands there, it is marked already.
+/// conductor that is beside it. Where a device stands there, it is marked already. It says whether
+/// there are any.
 // Direction by direction, so that each is compiled for itself.
 pub(crate) fn mark_heeders(
     alloc: Global,
     map: &Frozen<'_>,
     places: &mut Places,
     p: Pos,
-) -> Result<(), AllocError>
+) -> Result<bool, AllocError>
     requires sizes { places.old.sizes ≡ map.now.sizes }
     requires own { IsMarked map.now places.old p }
     ensures sizes { OnOk result (places.new.sizes ≡ places.old.sizes) }
     ensures kept { OnOk result (KeepsMarks places.old places.new) }
     ensures marked { OnOk result (HasHeeders map.now places.new p) }
+    ensures none { IfOk result (λ any. any ≡ false → (dir : Dir) → NoneBeside map.now p dir) }
 {
     let around = map.around(p);
-    mark_towards(alloc, map, around, places, p, Dir::East)?;
-    mark_towards(alloc, map, around, places, p, Dir::West)?;
-    mark_towards(alloc, map, around, places, p, Dir::Up)?;
-    mark_towards(alloc, map, around, places, p, Dir::Down)?;
-    mark_towards(alloc, map, around, places, p, Dir::South)?;
-    mark_towards(alloc, map, around, places, p, Dir::North)?;
-    Ok(())
+    let east = mark_towards(alloc, map, around, places, p, Dir::East)?;
+    let west = mark_towards(alloc, map, around, places, p, Dir::West)?;
+    let up = mark_towards(alloc, map, around, places, p, Dir::Up)?;
+    let down = mark_towards(alloc, map, around, places, p, Dir::Down)?;
+    let south = mark_towards(alloc, map, around, places, p, Dir::South)?;
+    let north = mark_towards(alloc, map, around, places, p, Dir::North)?;
+    Ok(any_of(east, west, up, down, south, north))
 }
 
 // Marks those in one direction.
@@ -82,24 +86,26 @@ fn mark_towards(
     places: &mut Places,
     p: Pos,
     dir: Dir,
-) -> Result<(), AllocError>
+) -> Result<bool, AllocError>
     requires around { IfSome around (λ cells. HasAround map.now cells.now p) }
     requires sizes { places.old.sizes ≡ map.now.sizes }
     ensures sizes { OnOk result (places.new.sizes ≡ places.old.sizes) }
     ensures kept { OnOk result (KeepsMarks places.old places.new) }
     ensures marked { OnOk result (AreMarkedBeside map.now places.new p dir) }
+    ensures none { IfOk result (λ any. any ≡ false → NoneBeside map.now p dir) }
 {
     if is_next_idle(map, around, p, dir) {
-        return Ok(());
+        return Ok(false);
     }
     let Some((next, cell)) = next_cell(map, around, p, dir) else {
-        return Ok(());
+        return Ok(false);
     };
-    mark_device(alloc, map, places, next, &cell)?;
+    let here = mark_device(alloc, map, places, next, &cell)?;
     if cell.conducts() {
-        return mark_beside(alloc, map, places, next);
+        let behind = mark_beside(alloc, map, places, next)?;
+        return Ok(either(here, behind));
     }
-    Ok(())
+    Ok(here)
 }
 
 // Marks the devices beside a position in each direction.
@@ -108,20 +114,22 @@ fn mark_beside(
     map: &Frozen<'_>,
     places: &mut Places,
     p: Pos,
-) -> Result<(), AllocError>
+) -> Result<bool, AllocError>
     requires sizes { places.old.sizes ≡ map.now.sizes }
     ensures sizes { OnOk result (places.new.sizes ≡ places.old.sizes) }
     ensures kept { OnOk result (KeepsMarks places.old places.new) }
     ensures marked { OnOk result ((dir : Dir) → IsMarked map.now places.new (neighbor p dir)) }
+    ensures none { IfOk result (λ any. any ≡ false
+        → (dir : Dir) → is_device (cell_on map.now (neighbor p dir)) ≡ false) }
 {
     let around = map.around(p);
-    mark_next(alloc, map, around, places, p, Dir::East)?;
-    mark_next(alloc, map, around, places, p, Dir::West)?;
-    mark_next(alloc, map, around, places, p, Dir::Up)?;
-    mark_next(alloc, map, around, places, p, Dir::Down)?;
-    mark_next(alloc, map, around, places, p, Dir::South)?;
-    mark_next(alloc, map, around, places, p, Dir::North)?;
-    Ok(())
+    let east = mark_next(alloc, map, around, places, p, Dir::East)?;
+    let west = mark_next(alloc, map, around, places, p, Dir::West)?;
+    let up = mark_next(alloc, map, around, places, p, Dir::Up)?;
+    let down = mark_next(alloc, map, around, places, p, Dir::Down)?;
+    let south = mark_next(alloc, map, around, places, p, Dir::South)?;
+    let north = mark_next(alloc, map, around, places, p, Dir::North)?;
+    Ok(any_of(east, west, up, down, south, north))
 }
 
 // Marks the one beside a position in that direction, if a device stands there.
@@ -133,23 +141,25 @@ fn mark_next(
     places: &mut Places,
     p: Pos,
     dir: Dir,
-) -> Result<(), AllocError>
+) -> Result<bool, AllocError>
     requires around { IfSome around (λ cells. HasAround map.now cells.now p) }
     requires sizes { places.old.sizes ≡ map.now.sizes }
     ensures sizes { OnOk result (places.new.sizes ≡ places.old.sizes) }
     ensures kept { OnOk result (KeepsMarks places.old places.new) }
     ensures marked { OnOk result (IsMarked map.now places.new (neighbor p dir)) }
+    ensures none { IfOk result (λ any. any ≡ false
+        → is_device (cell_on map.now (neighbor p dir)) ≡ false) }
 {
     if is_next_idle(map, around, p, dir) {
-        return Ok(());
+        return Ok(false);
     }
     let Some((next, cell)) = next_cell(map, around, p, dir) else {
-        return Ok(());
+        return Ok(false);
     };
     mark_device(alloc, map, places, next, &cell)
 }
 
-// Marks a position if this cell, which stands there, is a device.
+// Marks a position if this cell, which stands there, is a device, and says whether it is.
 #[inline(always)]
 fn mark_device(
     alloc: Global,
@@ -157,16 +167,35 @@ fn mark_device(
     places: &mut Places,
     p: Pos,
     cell: &Cell,
-) -> Result<(), AllocError>
+) -> Result<bool, AllocError>
     requires sizes { places.old.sizes ≡ map.now.sizes }
     requires cell { cell.now ≡ cell_on map.now p }
     ensures sizes { OnOk result (places.new.sizes ≡ places.old.sizes) }
     ensures kept { OnOk result (KeepsMarks places.old places.new) }
     ensures marked { OnOk result (IsMarked map.now places.new p) }
+    ensures none { IfOk result (λ is. is ≡ false → is_device (cell_on map.now p) ≡ false) }
 {
     let _there = map;
     if !cell.is_device() {
-        return Ok(());
+        return Ok(false);
     }
-    places.mark(alloc, p)
+    places.mark(alloc, p)?;
+    Ok(true)
+}
+
+#[inline(always)]
+fn any_of(east: bool, west: bool, up: bool, down: bool, south: bool, north: bool) -> bool
+    ensures { result ≡ (((east || west) || (up || down)) || (south || north)) }
+{
+    either(
+        either(either(east, west), either(up, down)),
+        either(south, north),
+    )
+}
+
+#[inline(always)]
+fn either(a: bool, b: bool) -> bool
+    ensures { result ≡ (a || b) }
+{
+    a || b
 }

@@ -3,6 +3,7 @@
 
 mod anew;
 mod heeders;
+mod kept_dust;
 mod laws;
 mod look;
 mod sight;
@@ -12,6 +13,7 @@ mod waking;
 mod watch;
 
 pub use anew::linked_anew;
+pub use kept_dust::KeptDust;
 pub use laws::{
     maps_stay_still, parts_heed_power, tables_mirror_cells, tables_stay_mirrors, watches_stay,
 };

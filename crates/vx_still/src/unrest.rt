@@ -1,13 +1,13 @@
 //! Where a tick has to look, by levels that are kept and made right again.
 ghost use Rattle.std.specs.Prelude.{◌≡◌, IfOk, IfSome};
-ghost use Rattle.vx_cells.specs.Maps.{cell_on};
-ghost use Rattle.vx_levels.specs.Repairs.{IsRight};
 ghost use Rattle.vx_still.specs.Mirrored.{IsMirror};
 ghost use Rattle.vx_still.specs.Stillness.{IsStill};
+ghost use Rattle.vx_still.specs.Unheeded.{IsKept};
 ghost use Rattle.vx_still.specs.Watching.{IsLook};
 ghost use Rattle.vx_still.specs.Waking.{with_rebuilt};
 
 use crate::heeders::mark_all_heeders;
+use crate::kept_dust::KeptDust;
 use crate::look::Look;
 use crate::sight::{in_sight, mark_around_all};
 use crate::telling::tell_all;
@@ -15,7 +15,7 @@ use crate::waking::Waking;
 use std::alloc::{AllocError, Global};
 use vx_cells::Frozen;
 use vx_geom::Pos;
-use vx_levels::{LinkedLevels, repair};
+use vx_levels::repair;
 use vx_places::Places;
 use vx_power::add_all_fed;
 use vx_store::MarkKind;
@@ -33,29 +33,35 @@ const TURNS_EACH: usize = 64;
 const TURNS: usize = 4_096;
 
 /// Where a tick has to look of a map that is still but for what is told and what was written since,
-/// and of which the table mirrors what dust stores. The table has the levels of the map then, and
-/// their links. `None` where to make it so took too many turns; then nothing is known of the table.
-/// It costs a look at each place near what was changed, and what dust gets another level.
+/// and of which what is kept mirrors what dust stores. Of the map it has the levels and their links
+/// then. `None` where to make it so took too many turns; then nothing is known of it. It costs a look
+/// at each place near what was changed, and what dust gets another level.
 pub fn unsettled(
     alloc: Global,
     map: &Frozen<'_>,
     waking: &Waking,
     written: &[Pos],
-    levels: &mut LinkedLevels,
+    dust: &mut KeptDust,
 ) -> Result<Option<Look>, AllocError>
     requires still { IsStill map.now (with_rebuilt waking.now written.now) }
-    requires mirror { IsMirror map.now (with_rebuilt waking.now written.now).rebuilt levels.old }
-    ensures right { IfOk result (λ found. IfSome found (λ look.
-        IsRight (cell_on map.now) levels.new)) }
+    requires mirror { IsMirror map.now (with_rebuilt waking.now written.now).rebuilt dust.old }
+    ensures dust { IfOk result (λ found. IfSome found (λ look. IsKept map.now dust.new)) }
     ensures look { IfOk result (λ found. IfSome found (IsLook map.now)) }
 {
     let mut rebuilt = Vec::from_slice(alloc, &waking.rebuilt)?;
     rebuilt.extend_from_slice(written)?;
     let mut unsure = in_sight(alloc, map, rebuilt.as_slice())?;
     unsure.extend_from_slice(rebuilt.as_slice())?;
+    dust.unheeded.forget_all(unsure.as_slice());
     add_all_fed(&mut unsure, map, waking.turned.as_slice())?;
     let components = map.component_count() as usize;
-    let Some(put) = repair(alloc, map, levels, unsure, turns_for(components))? else {
+    let Some(put) = repair(
+        alloc,
+        map,
+        &mut dust.levels,
+        unsure,
+        turns_for(components),
+    )? else {
         return Ok(None);
     };
     if components < put.len().saturating_mul(PER_LEVEL) {
@@ -72,8 +78,8 @@ pub fn unsettled(
     )?;
     mark_all_heeders(alloc, map, &mut places, waking.turned.as_slice())?;
     places.mark_all(alloc, waking.besides.as_slice())?;
-    tell_all(alloc, map, levels, &mut places, rebuilt.as_slice())?;
-    tell_all(alloc, map, levels, &mut places, put.as_slice())?;
+    tell_all(alloc, map, dust, &mut places, rebuilt.as_slice())?;
+    tell_all(alloc, map, dust, &mut places, put.as_slice())?;
     Ok(Some(Look {
         places: Some(places),
     }))

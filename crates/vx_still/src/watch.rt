@@ -1,14 +1,14 @@
+use crate::kept_dust::KeptDust;
 use crate::waking::Waking;
 use std::marker::Model;
-use vx_levels::LinkedLevels;
 
-/// What is kept of a map between two ticks: where it is not still, and the levels and links of its
-/// dust, unless too much changed to keep them.
+/// What is kept of a map between two ticks: where it is not still, and what is known of its dust,
+/// unless too much changed to keep it.
 #[derive(Drop)]
 pub struct Watch {
     pub waking: Waking,
-    pub levels: Option<LinkedLevels>,
-    /// For so many ticks on end little has changed, if no levels are kept. No clause says so: only
+    pub dust: Option<KeptDust>,
+    /// For so many ticks on end little has changed, if nothing is kept of the dust. No clause says so: only
     /// costs rest on it.
     pub calm: u32,
 }
@@ -18,5 +18,5 @@ impl Model for Watch {
 
     ghost Value = { WatchData };
 
-    ghost view = { λ a. record { waking = a.waking; levels = a.levels } };
+    ghost view = { λ a. record { waking = a.waking; dust = a.dust } };
 }

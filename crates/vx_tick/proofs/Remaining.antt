@@ -1,5 +1,6 @@
 -- What a tick leaves to be looked at is all where the map after it is not still.
 use Rattle.std.proofs.Common.{◌≡◌, Bool, true, false, not, ◌&&◌, if◌then◌else◌, inl, inr, List, [], ◌∷◌, ◌++◌, Option, Some, None, refl, sym, ap, ◌∙◌, subst}
+use Rattle.std.specs.List.{All}
 use Rattle.std.proofs.lemmas.Bool.{cases_Bool, and_from, false≢true, or_left, or_right}
 use Rattle.vx_geom.specs.declared.pos.Pos.{Pos}
 use Rattle.vx_geom.specs.Sizes.{sector_count}
@@ -16,19 +17,36 @@ use Rattle.vx_power.specs.Local.{shown}
 use Rattle.vx_power.specs.Turning.{built}
 use Rattle.vx_power.specs.Walks.{IsAmong}
 use Rattle.vx_power.proofs.Having.{has_joined, own_place}
-use Rattle.vx_power.proofs.Showing.{same_dust}
+use Rattle.vx_power.proofs.Showing.{built_dust, same_dust}
 use Rattle.vx_part.specs.Changes.{change_at}
 use Rattle.vx_part.specs.Parts.{next_part}
 use Rattle.vx_part.proofs.Keeping.{parts_keep_their_build}
 use Rattle.vx_piston.specs.Moves.{is_restless}
 use Rattle.vx_region.specs.Regions.{Regions}
 use Rattle.vx_tick.specs.declared.fate.Fate.{Fate}
-use Rattle.vx_tick.specs.Leaving.{IsWorked, shows_same, shown_changes, hidden_changes, places_of}
+use Rattle.vx_tick.specs.Leaving.{IsWorked, StaysDust, shows_same, shown_changes, hidden_changes, places_of}
 use Rattle.vx_tick.specs.Ticks.{advanced, changed_up_to, stepped}
-use Rattle.vx_tick.proofs.Advancing.{no_change, a_change, is_among, parts_become_next}
+use Rattle.vx_tick.proofs.Advancing.{no_change, a_change, is_among, is_one, parts_become_next}
 use Rattle.vx_tick.proofs.Puts.{none_put, puts_filled}
 use Rattle.vx_still.specs.Stillness.{LeavesStill}
 use Rattle.vx_still.specs.Waking.{WakingData}
+
+-- each change of a tick by its parts puts dust down where dust stood, and nowhere else
+pub stays_dust : (m : MapData) → IsFilled m → (puts : List (Pos × Cell)) → puts ≡ changed_up_to m (sector_count m.sizes)
+    → All (StaysDust (cell_on m)) puts
+stays_dust m filled puts is =
+    all_from puts (λ p cell among.
+    let n = sector_count m.sizes in
+    let change = a_change (cell_on m) (dust_level (cell_on m)) p cell
+    (is_one m filled n p cell (subst (λ xs. IsAmong xs (p, cell)) is among)) in
+    ap is_dust change.0
+    ∙ built_dust (next_part (cell_on m) (dust_level (cell_on m)) p) (cell_on m p)
+    (parts_keep_their_build (cell_on m) (dust_level (cell_on m)) p))
+  where
+    all_from : (ps : List (Pos × Cell)) → ((p : Pos) (cell : Cell) → IsAmong ps (p, cell) → StaysDust (cell_on m) (p, cell))
+        → All (StaysDust (cell_on m)) ps
+    all_from [] each = tt
+    all_from (put ∷ ps) each = (each put.0 put.1 (inl refl), all_from ps (λ p cell among. each p cell (inr among)))
 
 module _ (w : Pos → Cell) where
   in_rest : (b : Bool) (p q : Pos) (ps : List Pos) → has ps p ≡ true

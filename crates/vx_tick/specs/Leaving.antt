@@ -41,6 +41,10 @@ pub record IsPlanned (rs : Regions) (m : MapData) (done : Plan × WatchData) : T
   pub chests : All (λ (put : Pos × Cell). is_chest put.1 ≡ false) done.0.puts.items
   pub watch : IsWatch (stepped rs m) done.1
 
+-- a change puts dust down where dust stood, and nowhere else
+abbrev pub StaysDust : (Pos → Cell) → Pos × Cell → Type 0
+StaysDust w put = is_dust put.1 ≡ is_dust (w put.0)
+
 -- two cells show the same
 abbrev pub shows_same : Cell → Cell → Bool
 shows_same a b = same_cell (shown a) (shown b)

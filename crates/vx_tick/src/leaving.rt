@@ -1,9 +1,10 @@
 //! What a tick leaves to be looked at by the next one.
 ghost use Rattle.std.specs.Prelude.{◌≡◌, ◌&&◌, not, [], ◌∷◌, ◌++◌, if◌then◌else◌, IfOk, OnOk};
+ghost use Rattle.std.specs.List.{All};
 ghost use Rattle.vx_block.specs.Components.{is_dust};
 ghost use Rattle.vx_cells.specs.Maps.{cell_on};
 ghost use Rattle.vx_power.specs.Local.{shown};
-ghost use Rattle.vx_tick.specs.Leaving.{shows_same, shown_changes, hidden_changes, places_of};
+ghost use Rattle.vx_tick.specs.Leaving.{shows_same, shown_changes, hidden_changes, places_of, StaysDust};
 
 use std::alloc::{AllocError, Global};
 use vx_block::{Cell, Lamp, Level, Repeater};
@@ -21,6 +22,7 @@ pub fn left(
     moved: &[(Pos, Cell)],
     restless: &[Pos],
 ) -> Result<Waking, AllocError>
+    requires { All (StaysDust (cell_on map.now)) changes.now }
     ensures rebuilt { IfOk result (λ waking. waking.rebuilt ≡ places_of moved.now) }
     ensures turned { IfOk result (λ waking.
         waking.turned ≡ shown_changes (cell_on map.now) changes.now) }
@@ -46,6 +48,7 @@ fn left_by_parts(
     map: &Frozen<'_>,
     changes: &[(Pos, Cell)],
 ) -> Result<Waking, AllocError>
+    requires { All (StaysDust (cell_on map.now)) changes.now }
     ensures turned { IfOk result (λ waking.
         waking.turned ≡ shown_changes (cell_on map.now) changes.now) }
     ensures besides { IfOk result (λ waking.
@@ -58,15 +61,16 @@ fn left_by_parts(
     Ok(waking)
 }
 
-// Adds a position at which this cell stands now. Dust in place of dust shows the same, and the cell
-// that was there is not looked up.
+// Adds a position at which this cell stands now. Dust stood there before if it does now, and shows
+// the same, so the cell that was there is not looked up then.
 fn look(waking: &mut Waking, map: &Frozen<'_>, p: Pos, cell: &Cell) -> Result<(), AllocError>
+    requires { is_dust cell.now ≡ is_dust (cell_on map.now p) }
     ensures turned { OnOk result (waking.new.turned ≡ waking.old.turned
         ++ shown_changes (cell_on map.now) ((p, cell.now) ∷ [])) }
     ensures besides { OnOk result (waking.new.besides ≡ waking.old.besides
         ++ hidden_changes (cell_on map.now) ((p, cell.now) ∷ [])) }
 {
-    if cell.is_dust() && map.has_dust(p) {
+    if cell.is_dust() {
         return Ok(());
     }
     add_change(waking, p, cell, map.cell(p))

@@ -4,7 +4,7 @@ use Rattle.vx_power.specs.Levels.{has}
 use Rattle.vx_tick.specs.Fates.{AreFates}
 use Rattle.vx_tick.specs.Leaving.{shown_changes, hidden_changes, places_of}
 use Rattle.vx_tick.proofs.Plans.{all_puts, no_chests}
-use Rattle.vx_tick.proofs.Remaining.{leaves_still}
+use Rattle.vx_tick.proofs.Remaining.{leaves_still, stays_dust}
 use Rattle.vx_tick.proofs.Resting.{all_restless}
 use Rattle.vx_tick.proofs.Told.{fates_length}
 use Rattle.vx_tick.proofs.finishing.finished.Goals as goal
@@ -13,6 +13,15 @@ pub worked-requires-clause-each : goal.worked-requires-clause-each
 worked-requires-clause-each g c =
     fates_length c.args.version.now.policy c.args.found.moves.items c.args.found.moves.items c.args.fates.items c.requires.fates
     ∙ ap length (sym c.as_slice.ensures.value)
+
+pub left-requires : goal.left-requires
+left-requires g c =
+    let m = c.args.map.now in
+    let changes = c.deref.ensures.value in
+    let told = c.requires.fates in
+    let worked = c.in_ok-done.ensures c.args.version.now.policy
+    (subst (λ ms. AreFates c.args.version.now.policy ms ms c.args.fates.items) (sym c.as_slice.ensures.value) told) in
+    stays_dust m c.filling.ensures _ (changes ∙ worked.parts)
 
 pub returns : goal.returns
 returns g c =

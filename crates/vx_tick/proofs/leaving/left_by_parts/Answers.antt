@@ -1,9 +1,16 @@
-use Rattle.std.proofs.Common.{◌+◌, drop, ap, ◌∙◌}
+use Rattle.std.proofs.Common.{◌+◌, drop, sym, ap, subst, ◌∙◌}
+use Rattle.std.proofs.lemmas.List.Elements.{All-get_or}
 use Rattle.std.proofs.Math.ListN.{drop_of_length-le}
 use Rattle.vx_cells.specs.Maps.{cell_on}
-use Rattle.vx_tick.specs.Leaving.{shown_changes, hidden_changes}
+use Rattle.vx_tick.specs.Leaving.{shown_changes, hidden_changes, StaysDust}
 use Rattle.vx_tick.proofs.Turning.{next_left, carried, ended, shown_first, hidden_first}
 use Rattle.vx_tick.proofs.leaving.left_by_parts.Goals as goal
+
+pub look-requires : goal.look-requires
+look-requires c =
+    let w = cell_on c.args.map.now in
+    subst (StaysDust w) (sym c.loop-p-item.is)
+    (All-get_or (StaysDust w) c.args.changes.now c.loop-p.p-index _ c.loop-p-test.true c.requires)
 
 pub loop-p-preserved : goal.loop-p-preserved
 loop-p-preserved c =

@@ -26,12 +26,12 @@ dust_shown cell.Obsidian is = cc
 dust_shown cell.Bedrock is = cc
 dust_shown cell.Chest is = cc
 
-pub returns-then-has_dust-clause-turned : goal.returns-then-has_dust-clause-turned
-returns-then-has_dust-clause-turned c =
+pub returns-then-is_dust-clause-turned : goal.returns-then-is_dust-clause-turned
+returns-then-is_dust-clause-turned c =
     let a = c.args.cell.now in
     let b = cell_on c.args.map.now c.args.p in
     let old = c.args.waking.now.turned in
-    let same = (cell_decided (shown a) (shown b)).1
-    (dust_shown a (sym c.if-is_dust.ensures) ∙ sym (dust_shown b (sym c.if-has_dust.ensures))) in
+    let dust = sym c.if-is_dust.ensures in
+    let same = (cell_decided (shown a) (shown b)).1 (dust_shown a dust ∙ sym (dust_shown b (sym c.requires ∙ dust))) in
     sym (append-nil old)
     ∙ sym (ap (λ s. old ++ (if s then [] else c.args.p ∷ [])) same)

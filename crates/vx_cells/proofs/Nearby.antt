@@ -1,4 +1,4 @@
--- One sector holds all that lies close to a position that has others of its chunk on each side.
+-- One sector holds all that lies close to a position that has others of its sector on each side.
 use Rattle.std.proofs.Common.{◌≡◌, ℕ, ℤ, pos, ◌+◌, ◌-◌, ◌*◌, ◌/◌, ◌%◌, ◌<◌, ◌≤◌, inl, inr, true, Some, slice_get, ap, sym, subst, ◌∙◌, arith}
 use Rattle.std.specs.Int.{w32}
 use Rattle.std.specs.Prelude.{FitsSigned, ◌+ℤ◌, ◌-ℤ◌, ◌≤ℤ◌, ◌<ℤ◌, unsigned_abs}
@@ -18,20 +18,20 @@ use Rattle.vx_cells.proofs.Indices.{numbered, inside_from_holds}
 use Rattle.vx_cells.proofs.MapLemmas.{is_held, cell_found, placed_at, narrow}
 use Rattle.vx_cells.proofs.Sectioned.{side_is}
 
--- the columns beside one that lies between two of its chunk are of its sector
+-- the columns beside one that lies between two others of its sector are of it
 abbrev Between : ℕ → ℕ → Type 0
 Between w n = (w * (n / w) + 1 ≤ n) × (n + 2 ≤ w * (n / w + 1)) × ((n - 1) % w + 3 ≤ w)
 
-between_16 : (n : ℕ) → IsBetween n → Between 16 n
+between_16 : (n : ℕ) → IsBetween 16 n → Between 16 n
 between_16 n is = (omega (arith, is.0), omega (arith, is.1), omega (arith, is.0, is.1))
 
-between_32 : (n : ℕ) → IsBetween n → Between 32 n
+between_32 : (n : ℕ) → IsBetween 32 n → Between 32 n
 between_32 n is = (omega (arith, is.0), omega (arith, is.1), omega (arith, is.0, is.1))
 
-between : (v : Sizes) (n : ℕ) → AreSizes v → IsBetween n → Between (span v) n
+between : (v : Sizes) (n : ℕ) → AreSizes v → IsBetween (span v) n → Between (span v) n
 between v n sizes is = elim (side_is v.s sizes.s_least sizes.s_most) [
-  | inl one ↦ subst (λ s. Between (16 * s) n) (sym one) (between_16 n is)
-  | inr two ↦ subst (λ s. Between (16 * s) n) (sym two) (between_32 n is)
+  | inl one ↦ subst (λ s. IsBetween (16 * s) n → Between (16 * s) n) (sym one) (between_16 n) is
+  | inr two ↦ subst (λ s. IsBetween (16 * s) n → Between (16 * s) n) (sym two) (between_32 n) is
 ]
 
 -- what is one off a number between two others is between these
@@ -42,7 +42,7 @@ high_side : (c d : ℤ) (b n : ℕ) → c ≡ pos n → n + 2 ≤ b → d ≤ℤ
 high_side c d b n is high close = omega (arith, ints, is, high, close)
 
 module _ (m : MapData) (p : Pos) (whole : AreSectors m.sizes m.sectors) (inside : is_inside m.sizes p ≡ true)
-    (amid : IsAmid m.sizes.h p) where
+    (amid : IsAmid m.sizes p) where
   abbrev here : ℕ
   here = sector_number m.sizes p
 

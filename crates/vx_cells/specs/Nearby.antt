@@ -1,8 +1,7 @@
 -- What one sector has of all that lies close to a position.
 use Rattle.std.specs.Prelude.{◌≡◌, ℕ, pos, ◌+◌, ◌-◌, ◌%◌, ◌<◌, ◌≤◌, ◌+ℤ◌, ◌-ℤ◌, ◌≤ℤ◌, true, unsigned_abs}
 use Rattle.vx_geom.specs.declared.pos.Pos.{Pos}
-use Rattle.vx_geom.specs.Sizes.{span}
-use Rattle.vx_cells.specs.declared.frozen.TheConstants.{CHUNK_SIDE}
+use Rattle.vx_geom.specs.Sizes.{Sizes, span}
 use Rattle.vx_cells.specs.Maps.{MapData, cell_on}
 use Rattle.vx_cells.specs.SectorCells.{SectorCells, holds, cell_at}
 
@@ -23,13 +22,13 @@ pub record HasAround (m : MapData) (c : SectorCells) (p : Pos) : Type 0 where
   pub stands : (q : Pos) → IsClose p q → cell_at c q ≡ cell_on m q
   pub columns : (unsigned_abs p.x - 1) % span c.bounds + 3 ≤ span c.bounds
 
--- a column lies between two others of its chunk
-abbrev pub IsBetween : ℕ → Type 0
-IsBetween column = (0 < column % CHUNK_SIDE) × (column % CHUNK_SIDE + 1 < CHUNK_SIDE)
+-- a column lies between two others of its sector, which is so wide
+abbrev pub IsBetween : ℕ → ℕ → Type 0
+IsBetween width column = (0 < column % width) × (column % width + 1 < width)
 
--- so do the columns and the rows of a position, and its layer between two others of so many
-pub record IsAmid (height : ℕ) (p : Pos) : Type 0 where
-  pub column : IsBetween (unsigned_abs p.x)
-  pub row : IsBetween (unsigned_abs p.z)
+-- so do the columns and the rows of a position, and its layer between two others of the world
+pub record IsAmid (v : Sizes) (p : Pos) : Type 0 where
+  pub column : IsBetween (span v) (unsigned_abs p.x)
+  pub row : IsBetween (span v) (unsigned_abs p.z)
   pub least : 0 < unsigned_abs p.y
-  pub most : unsigned_abs p.y + 1 < height
+  pub most : unsigned_abs p.y + 1 < v.h

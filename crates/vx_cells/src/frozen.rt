@@ -1,11 +1,11 @@
 ghost use Rattle.std.specs.Int.{w64};
 ghost use Rattle.std.specs.Option.{option_copied};
-ghost use Rattle.std.specs.Prelude.{◌≡◌, ◌<◌, ◌≤◌, ◌+ℤ◌, ◌-ℤ◌, FitsSigned, pos, nat_lt, length, map, slice_get, true, None, Some, IfOk, IfSome, SomeIff};
+ghost use Rattle.std.specs.Prelude.{◌≡◌, ◌%◌, ◌<◌, ◌≤◌, ◌+ℤ◌, ◌-ℤ◌, FitsSigned, pos, nat_lt, length, map, slice_get, true, None, Some, IfOk, IfSome, SomeIff};
 ghost use Rattle.vx_block.specs.Components.{is_dust};
 ghost use Rattle.vx_block.specs.Conductors.{conducts};
 ghost use Rattle.vx_block.specs.declared.cell.Cell.TheVariants.{Air};
 ghost use Rattle.vx_geom.specs.Neighbor.{neighbor};
-ghost use Rattle.vx_geom.specs.Sizes.{is_inside, sector_count, sector_of};
+ghost use Rattle.vx_geom.specs.Sizes.{is_inside, sector_count, sector_of, span};
 ghost use Rattle.vx_geom.specs.declared.dir.Dir.TheVariants.{Up, Down};
 ghost use Rattle.vx_geom.specs.declared.pos.Pos.{Pos};
 ghost use Rattle.vx_cells.specs.Listed.{components_on, devices_on};
@@ -18,9 +18,6 @@ use std::alloc::{AllocError, Global};
 use std::marker::Model;
 use vx_block::Cell;
 use vx_geom::{Bounds, Dir, Pos};
-
-// A side of a chunk has so many columns, and a sector has whole chunks.
-const CHUNK_SIDE: u32 = 16;
 
 /// The map as a tick begins: what stands at each position of the world, and air outside. The
 /// sectors are lent to it, and nothing is copied.
@@ -195,14 +192,14 @@ impl<'a> Frozen<'a> {
     }
 
     /// The sector that holds a position and all that lies close to it, at most one column, one
-    /// layer and one row off. `None` at the end of a chunk or of the world; no clause says so, since
-    /// only costs rest on it.
+    /// layer and one row off. `None` at the end of a sector or of the world; no clause says so,
+    /// since only costs rest on it.
     #[inline(always)]
     pub fn around(&self, p: Pos) -> Option<&Cells>
         ensures { IfSome result (λ c. HasAround self.now c.now p) }
     {
         self.soundness();
-        if !self.bounds.inside(p) || !is_amid(p, self.bounds.height()) {
+        if !self.bounds.inside(p) || !is_amid(self.bounds, p) {
             return None;
         }
         Some(self.sector_at(self.bounds.sector_holding(p)))
@@ -311,24 +308,38 @@ fn coordinates_beside(p: Pos, dir: Dir) -> (i64, i64, i64)
     }
 }
 
-// Whether a position has others of its chunk beside it on each side, and others of a world that is
-// so high over it and under it.
+// Whether a position has others of its sector beside it on each side, and others of the world over
+// it and under it.
 #[inline(always)]
-fn is_amid(p: Pos, height: u32) -> bool
-    ensures { result ≡ true → IsAmid height p }
+fn is_amid(bounds: Bounds, p: Pos) -> bool
+    ensures { result ≡ true → IsAmid bounds p }
 {
     let layer = p.y.unsigned_abs();
-    has_beside(p.x.unsigned_abs())
-        && has_beside(p.z.unsigned_abs())
+    has_beside(bounds, p.x.unsigned_abs())
+        && has_beside(bounds, p.z.unsigned_abs())
         && 0 < layer
-        && layer + 1 < height
+        && layer + 1 < bounds.height()
 }
 
-// Whether a column has others of its chunk on both sides.
+// Whether a column has others of its sector on both sides.
 #[inline(always)]
-fn has_beside(column: u32) -> bool
-    ensures { result ≡ true → IsBetween column }
+fn has_beside(bounds: Bounds, column: u32) -> bool
+    ensures { result ≡ true → IsBetween (span bounds) column }
 {
-    let past = column % CHUNK_SIDE;
-    0 < past && past + 1 < CHUNK_SIDE
+    let past = past_sides(bounds, column);
+    0 < past && past + 1 < bounds.span()
+}
+
+// How many columns are left over past whole sides of sectors.
+// Each width stands as a number, so that the machine need not divide.
+#[inline(always)]
+fn past_sides(bounds: Bounds, columns: u32) -> u32
+    ensures { result ≡ columns % span bounds }
+{
+    bounds.soundness();
+    if bounds.span() > 16 {
+        columns % 32
+    } else {
+        columns % 16
+    }
 }

@@ -22,7 +22,7 @@ returns c =
     let size = ap (λ (m : MapData). m.sizes) c.self.view_is in
     let inside = sym (c.inside.ensures ∙ ap (λ u. is_inside u p) size) ∙ c.if-not-inside.false in
     has_around m p c.soundness.ensures inside
-    (subst (λ n. IsAmid n p) (c.height.ensures ∙ ap (λ u. u.h) size) (c.is_amid.ensures c.if-not-is_amid.false))
+    (subst (λ u. IsAmid u p) size (c.is_amid.ensures c.if-not-is_amid.false))
     c.sector_at.result.now
     (subst (λ n. slice_get m.sectors n ≡ Some c.sector_at.result.now) (c.sector_holding.ensures ∙ ap (λ u. sector_number u p) size)
     c.sector_at.ensures)

@@ -13,7 +13,7 @@ use Rattle.vx_power.specs.Levels.{LevelTable, has, sheet_of, level_in, level_of,
 use Rattle.vx_power.proofs.Having.{place_is, has_joined}
 
 -- the position added last, or one of those before
-last_or : (done : List Pos) (p q : Pos) → has (done ++ p ∷ []) q ≡ true → same_place q p ≡ false → has done q ≡ true
+pub last_or : (done : List Pos) (p q : Pos) → has (done ++ p ∷ []) q ≡ true → same_place q p ≡ false → has done q ≡ true
 last_or done p q there off = elim (or_cases (has done q) (same_place q p || false) (sym (has_joined done (p ∷ []) q) ∙ there)) [
   | inl before ↦ before
   | inr last ↦ absurd (false≢true (sym (ap (λ b. b || false) off) ∙ last))

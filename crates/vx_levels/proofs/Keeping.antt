@@ -1,7 +1,7 @@
 -- Levels made right again in place: what another level at one position leaves of what agrees.
 use Rattle.std.proofs.Common.{◌≡◌, ◌≢◌, OnOk, Result, Ok, Err, ℕ, ◌+◌, ◌-◌, ◌<◌, ◌≤◌, ◌==◌, max, inl, inr, Bool, true, false, ◌||◌, if◌then◌else◌, List, [], ◌∷◌, ◌++◌, nat_lt, nat_le, refl, sym, ap, ◌∙◌, subst, arith}
 use Rattle.std.proofs.Math.Nat.{le-max_left, le-max_right, max-le, zero-max}
-use Rattle.std.proofs.lemmas.Bool.{cases_Bool, false≢true, ltb-true, ltb-false, le-leb, eqb-true, or_parts, and_from}
+use Rattle.std.proofs.lemmas.Bool.{cases_Bool, false≢true, ltb-true, ltb-false, le-leb, eqb-true, or_parts, or_left, and_from}
 use Rattle.std.proofs.lemmas.Int.{ints}
 use Rattle.vx_geom.specs.declared.pos.Pos.{Pos}
 use Rattle.vx_block.specs.declared.cell.Cell.{Cell}
@@ -14,6 +14,7 @@ use Rattle.vx_power.specs.Levels.{has, same_place}
 use Rattle.vx_levels.specs.Pending.{PendingData, is_pending, AreKept, is_between, linked_below, IsPut}
 use Rattle.vx_power.specs.Signals.{is_fed}
 use Rattle.vx_power.specs.Walks.{IsAmong}
+use Rattle.vx_levels.proofs.Adding.{last_or}
 use Rattle.vx_levels.proofs.Agreeing.{greatest_least, greatest_at, greatest_same, told_fed, told_unfed, consistent_is_exact}
 use Rattle.vx_power.proofs.Having.{place_is, own_place, has_from, has_joined, has_filter}
 use Rattle.vx_power.proofs.Linking.{Linked, links_at, links_lead_back}
@@ -208,15 +209,19 @@ of_parts pending q a b c =
     ap (λ x. x || (has pending.falling q || has pending.rising q)) a
     ∙ ap (λ x. x || has pending.rising q) b ∙ c
 
--- what was pending is so still, but for p
+-- what was pending is so still, but for p, and nothing else is
 pub record IsTaken (before pending : PendingData) (p : Pos) : Type 0 where
   pub unsure : (q : Pos) → same_place q p ≡ false → has pending.unsure q ≡ false → has before.unsure q ≡ false
   pub all : (q : Pos) → same_place q p ≡ false → is_pending pending q ≡ false → is_pending before q ≡ false
+  pub falling : (q : Pos) → has pending.falling q ≡ true → has before.falling q ≡ true
+  pub rising : (q : Pos) → has pending.rising q ≡ true → has before.rising q ≡ true
 
--- what was pending is so still, and p is now
+-- what was pending is so still, and p is now, and nothing else falls or rises
 pub record IsMoved (pending final : PendingData) (p : Pos) : Type 0 where
   pub unsure : (q : Pos) → has final.unsure q ≡ false → has pending.unsure q ≡ false
   pub all : (q : Pos) → is_pending final q ≡ false → (same_place q p ≡ false) × (is_pending pending q ≡ false)
+  pub falling : (q : Pos) → same_place q p ≡ false → has final.falling q ≡ true → has pending.falling q ≡ true
+  pub rising : (q : Pos) → same_place q p ≡ false → has final.rising q ≡ true → has pending.rising q ≡ true
 
 module _ (pending : PendingData) (p : Pos) where
   pub taken_unsure : IsTaken (record pending { unsure = pending.unsure ++ p ∷ [] }) pending p
@@ -225,6 +230,8 @@ module _ (pending : PendingData) (p : Pos) where
     all = λ q off none. let parts = parts_of pending q none in
         of_parts (record pending { unsure = pending.unsure ++ p ∷ [] }) q
         (both_none pending.unsure (p ∷ []) q parts.0 (just p q off)) parts.1 parts.2;
+    falling = λ q there. there;
+    rising = λ q there. there;
   }
 
   pub taken_falling : IsTaken (record pending { falling = pending.falling ++ p ∷ [] }) pending p
@@ -233,6 +240,8 @@ module _ (pending : PendingData) (p : Pos) where
     all = λ q off none. let parts = parts_of pending q none in
         of_parts (record pending { falling = pending.falling ++ p ∷ [] }) q
         parts.0 (both_none pending.falling (p ∷ []) q parts.1 (just p q off)) parts.2;
+    falling = λ q there. has_joined pending.falling (p ∷ []) q ∙ or_left (has pending.falling q) (has (p ∷ []) q) there;
+    rising = λ q there. there;
   }
 
   pub taken_rising : IsTaken (record pending { rising = pending.rising ++ p ∷ [] }) pending p
@@ -241,6 +250,8 @@ module _ (pending : PendingData) (p : Pos) where
     all = λ q off none. let parts = parts_of pending q none in
         of_parts (record pending { rising = pending.rising ++ p ∷ [] }) q
         parts.0 parts.1 (both_none pending.rising (p ∷ []) q parts.2 (just p q off));
+    falling = λ q there. there;
+    rising = λ q there. has_joined pending.rising (p ∷ []) q ∙ or_left (has pending.rising q) (has (p ∷ []) q) there;
   }
 
 module _ (w : Pos → Cell) (level : Pos → ℕ) (before pending : PendingData) (p : Pos)
@@ -335,6 +346,8 @@ module _ (pending : PendingData) (p : Pos) where
         let parts = parts_of (record pending { falling = pending.falling ++ p ∷ [] }) q (sym (ap (λ d. is_pending d q) is) ∙ none) in
         let falling = none_in pending.falling (p ∷ []) q parts.1 in
         ((or_parts (same_place q p) false falling.1).0, of_parts pending q parts.0 falling.0 parts.2);
+    falling = λ q off there. last_or pending.falling p q (sym (ap (λ d. has d.falling q) is) ∙ there) off;
+    rising = λ q off there. sym (ap (λ d. has d.rising q) is) ∙ there;
   }
 
   pub now_rising : (final : PendingData) → final ≡ record pending { rising = pending.rising ++ p ∷ [] }
@@ -345,6 +358,8 @@ module _ (pending : PendingData) (p : Pos) where
         let parts = parts_of (record pending { rising = pending.rising ++ p ∷ [] }) q (sym (ap (λ d. is_pending d q) is) ∙ none) in
         let rising = none_in pending.rising (p ∷ []) q parts.2 in
         ((or_parts (same_place q p) false rising.1).0, of_parts pending q parts.0 parts.1 rising.0);
+    falling = λ q off there. sym (ap (λ d. has d.falling q) is) ∙ there;
+    rising = λ q off there. last_or pending.rising p q (sym (ap (λ d. has d.rising q) is) ∙ there) off;
   }
 
 pub under_15 : (n : ℕ) → n < 15 → (n == 15) ≡ false

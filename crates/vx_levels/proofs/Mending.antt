@@ -1,20 +1,54 @@
 -- One position looked at while levels are made right, over a table that keeps links too.
-use Rattle.std.proofs.Common.{◌≡◌, ℕ, ◌+◌, ◌-◌, ◌<◌, ◌≤◌, ◌==◌, ◌≢◌, inl, inr, true, false, if◌then◌else◌, List, [], ◌∷◌, ◌++◌, refl, sym, ap, ◌∙◌, subst, arith}
+use Rattle.std.proofs.Common.{◌≡◌, ℕ, ◌+◌, ◌-◌, ◌<◌, ◌≤◌, ◌==◌, ◌≢◌, inl, inr, Bool, true, false, if◌then◌else◌, List, [], ◌∷◌, ◌++◌, refl, sym, ap, ◌∙◌, subst, arith}
 use Rattle.std.specs.List.{filter}
-use Rattle.std.proofs.lemmas.Bool.{cases_Bool, or_parts, eqb-true, false≢true}
+use Rattle.std.proofs.lemmas.Bool.{cases_Bool, and_parts, or_cases, or_parts, or_right, eqb-true, false≢true}
 use Rattle.vx_geom.specs.declared.pos.Pos.{Pos}
 use Rattle.vx_block.specs.declared.cell.Cell.{Cell}
 use Rattle.vx_block.specs.Components.{is_dust}
 use Rattle.vx_levels.specs.Consistency.{greatest, pulled, IsConsistent}
 use Rattle.vx_levels.specs.Linked.{level_at, links_at, linked, KnowsLinks}
 use Rattle.vx_levels.specs.Pending.{PendingData, AreKept, is_between, IsPut}
-use Rattle.vx_levels.specs.Repairs.{Follows, IsRight, IsRightBut, IsUnderRepair}
+use Rattle.vx_levels.specs.Repairs.{AreDust, Follows, IsRight, IsRightBut, IsUnderRepair}
 use Rattle.vx_levels.proofs.Agreeing.{greatest_same, links_to_dust, told_fed, told_unfed}
 use Rattle.vx_levels.proofs.Keeping.{IsMoved, IsTaken, none_in, left_out, moved_to, after_fall, after_rise, begun_at, all_exact, greatest_most, own_right, not_15, under_15}
 use Rattle.vx_power.specs.Dust.{links}
 use Rattle.vx_power.specs.Levels.{LevelTable, has, same_place}
 use Rattle.vx_power.specs.Signals.{is_fed}
-use Rattle.vx_power.proofs.Having.{place_is}
+use Rattle.vx_power.proofs.Having.{place_is, has_at, has_from, has_joined, has_filter}
+
+-- two lists of dust are one of dust, joined
+both_dust : (w : Pos → Cell) (ps qs : List Pos) → AreDust w ps → AreDust w qs → AreDust w (ps ++ qs)
+both_dust w ps qs first rest q there = elim (or_cases (has ps q) (has qs q) (sym (has_joined ps qs q) ∙ there)) [
+  | inl before ↦ first q before
+  | inr after ↦ rest q after
+]
+
+-- and so is dust alone
+one_dust : (w : Pos → Cell) (p : Pos) → is_dust (w p) ≡ true → AreDust w (p ∷ [])
+one_dust w p dust q there = elim (or_cases (same_place q p) false there) [
+  | inl same ↦ ap (λ r. is_dust (w r)) (place_is q p same) ∙ dust
+  | inr none ↦ absurd (false≢true none)
+]
+
+-- and what dust links to, of whatever level
+links_dust : (w : Pos → Cell) (test : Pos → Bool) (p : Pos) → AreDust w (filter test (links w p))
+links_dust w test p q there =
+    let kept = and_parts (test q) (has (links w p) q) (sym (has_filter test (links w p) q) ∙ there) in
+    links_to_dust w p q (has_at (links w p) q kept.1)
+
+-- what is listed last is dust where all are
+last_dust : (w : Pos → Cell) (ps : List Pos) (p : Pos) → AreDust w (ps ++ p ∷ []) → is_dust (w p) ≡ true
+last_dust w ps p all =
+    all p (has_joined ps (p ∷ []) p ∙ or_right (has ps p) (has (p ∷ []) p) (has_from (p ∷ []) p (inl refl)))
+
+-- so what is taken to fall or rise is
+pub falling_dust : (w : Pos → Cell) (table : LevelTable) (pending : PendingData) (p : Pos)
+    → IsUnderRepair w table (record pending { falling = pending.falling ++ p ∷ [] }) → is_dust (w p) ≡ true
+falling_dust w table pending p right = last_dust w pending.falling p right.falling
+
+pub rising_dust : (w : Pos → Cell) (table : LevelTable) (pending : PendingData) (p : Pos)
+    → IsUnderRepair w table (record pending { rising = pending.rising ++ p ∷ [] }) → is_dust (w p) ≡ true
+rising_dust w table pending p right = last_dust w pending.rising p right.rising
 
 -- one position more is listed, where the level is another
 pub follows_put : {more : List Pos} {p : Pos} {level : ℕ} (put : List Pos) (old new : LevelTable) → more ≡ put ++ p ∷ []
@@ -36,6 +70,8 @@ begun_right w table unsure right = record {
   kept = begun_at w (level_at table) unsure (λ p. omega arith) right.consistent;
   linked = right.linked;
   empty = right.empty;
+  falling = λ p there. absurd (false≢true there);
+  rising = λ p there. absurd (false≢true there);
 }
 
 -- where nothing is pending all is right
@@ -48,7 +84,7 @@ all_right w table right = record {
 
 module _ (w : Pos → Cell) (old : LevelTable) (before pending : PendingData) (p : Pos)
     (taken : IsTaken before pending p) (right : IsUnderRepair w old before)
-    (known : KnowsLinks w old p) (bare_here : is_dust (w p) ≡ false → level_at old p ≡ 0) where
+    (known : KnowsLinks w old p) (dust : is_dust (w p) ≡ true) where
   -- the links of all that is sure are known, where no links have changed
   links_known : (new : LevelTable) → ((q : Pos) → links_at new q ≡ links_at old q)
       → (q : Pos) → has pending.unsure q ≡ false → KnowsLinks w new q
@@ -67,39 +103,43 @@ module _ (w : Pos → Cell) (old : LevelTable) (before pending : PendingData) (p
     where
       at : (q : Pos) → is_dust (w q) ≡ false → has pending.unsure q ≡ false → level_at old q ≡ 0
       at q bare none = elim (cases_Bool (same_place q p)) [
-        | inl same ↦
-            let one = place_is q p same in
-            ap (level_at old) one ∙ bare_here (sym (ap (λ r. is_dust (w r)) one) ∙ bare)
+        | inl same ↦ absurd (false≢true (sym bare ∙ ap (λ r. is_dust (w r)) (place_is q p same) ∙ dust))
         | inr off ↦ right.empty q bare (taken.unsure q off none)
       ]
 
+  -- what may fall or rise is dust still
+  still_falling : AreDust w pending.falling
+  still_falling q there = right.falling q (taken.falling q there)
+
+  still_rising : AreDust w pending.rising
+  still_rising q there = right.rising q (taken.rising q there)
+
   -- it was looked at and left
-  pub left_right : (is_dust (w p) ≡ true → ((level_at old p == 15) ≡ is_fed w p) × IsConsistent w (level_at old) p)
-      → IsUnderRepair w old pending
-  left_right agrees = record {
-    kept = left_out w (level_at old) before pending p taken right.kept agrees;
+  pub left_right : (level_at old p == 15) ≡ is_fed w p → IsConsistent w (level_at old) p → IsUnderRepair w old pending
+  left_right fed agrees = record {
+    kept = left_out w (level_at old) before pending p taken right.kept (λ _. (fed, agrees));
     linked = links_known old (λ q. refl);
     empty = still_empty old (λ q bare. refl);
+    falling = still_falling;
+    rising = still_rising;
   }
 
   -- it is fed, and has the level of fed dust
   pub fed_right : is_fed w p ≡ true → level_at old p ≡ 15 → IsUnderRepair w old pending
-  fed_right fed level = left_right (λ dust. (
-    ap (λ n. n == 15) level ∙ sym fed,
-    level ∙ sym (told_fed (is_fed w) (links w) (level_at old) p fed),
-  ))
+  fed_right fed level = left_right
+      (ap (λ n. n == 15) level ∙ sym fed)
+      (level ∙ sym (told_fed (is_fed w) (links w) (level_at old) p fed))
 
   -- it is not, and has what its links tell
   pub told_right : is_fed w p ≡ false → (was told : ℕ) → was ≡ level_at old p → was ≢ 15
       → told ≡ (if was == 15 then 15 else greatest (level_at old) (linked (links_at old p) p) - 1) → told ≡ was
       → IsUnderRepair w old pending
-  told_right unfed was told level other is same = left_right (λ dust. (
-    not_15 was (level_at old p) level other ∙ sym unfed,
-    sym level ∙ sym same ∙ is
-        ∙ ap (λ b. if b then 15 else greatest (level_at old) (linked (links_at old p) p) - 1) (not_15 was was refl other)
-        ∙ ap (λ qs. greatest (level_at old) qs - 1) (known dust)
-        ∙ sym (told_unfed (is_fed w) (links w) (level_at old) p unfed),
-  ))
+  told_right unfed was told level other is same = left_right
+      (not_15 was (level_at old p) level other ∙ sym unfed)
+      (sym level ∙ sym same ∙ is
+      ∙ ap (λ b. if b then 15 else greatest (level_at old) (linked (links_at old p) p) - 1) (not_15 was was refl other)
+      ∙ ap (λ qs. greatest (level_at old) qs - 1) (known dust)
+      ∙ sym (told_unfed (is_fed w) (links w) (level_at old) p unfed))
 
   -- it was put into another list
   pub moved_right : (final : PendingData) → ((level_at old p == 15) ≡ is_fed w p) → IsMoved pending final p
@@ -108,9 +148,27 @@ module _ (w : Pos → Cell) (old : LevelTable) (before pending : PendingData) (p
     kept = moved_to w (level_at old) before pending p taken right.kept final fed moved;
     linked = λ q none. links_known old (λ q. refl) q (moved.unsure q none);
     empty = λ q bare none. still_empty old (λ q bare. refl) q bare (moved.unsure q none);
+    falling = λ q there. elim (cases_Bool (same_place q p)) [
+      | inl same ↦ ap (λ r. is_dust (w r)) (place_is q p same) ∙ dust
+      | inr off ↦ still_falling q (moved.falling q off there)
+    ];
+    rising = λ q there. elim (cases_Bool (same_place q p)) [
+      | inl same ↦ ap (λ r. is_dust (w r)) (place_is q p same) ∙ dust
+      | inr off ↦ still_rising q (moved.rising q off there)
+    ];
   }
 
-  module _ (new : LevelTable) (final : PendingData) (stay : (q : Pos) → links_at new q ≡ links_at old q) (dust : is_dust (w p) ≡ true) where
+  -- what it links to, of such a level that one more lies from `least` up to below `bound`
+  abbrev links_between : ℕ → ℕ → List Pos
+  links_between least bound = filter (is_between (level_at old) least bound) (linked (links_at old p) p)
+
+  -- is dust, too
+  links_lie : (least bound : ℕ) → AreDust w (links_between least bound)
+  links_lie least bound =
+      subst (λ qs. AreDust w (filter (is_between (level_at old) least bound) qs)) (sym (known dust))
+      (links_dust w (is_between (level_at old) least bound) p)
+
+  module _ (new : LevelTable) (final : PendingData) (stay : (q : Pos) → links_at new q ≡ links_at old q) where
     -- another level of dust leaves those of all that is no dust
     dust_put : (to : ℕ) → IsPut (level_at old) (level_at new) p to → (q : Pos) → is_dust (w q) ≡ false → level_at new q ≡ level_at old q
     dust_put to put q bare = elim (cases_Bool (same_place q p)) [
@@ -133,6 +191,10 @@ module _ (w : Pos → Cell) (old : LevelTable) (before pending : PendingData) (p
           }));
       linked = λ q none. links_known new stay q (sym (ap (λ d. has d.unsure q) is) ∙ none);
       empty = λ q bare none. still_empty new (dust_put 0 put) q bare (sym (ap (λ d. has d.unsure q) is) ∙ none);
+      falling = subst (λ d. AreDust w d.falling) (sym is)
+          (both_dust w pending.falling (links_between was (was + 1)) still_falling (links_lie was (was + 1)));
+      rising = subst (λ d. AreDust w d.rising) (sym is)
+          (both_dust w pending.rising (p ∷ []) still_rising (one_dust w p dust));
     }
 
     -- it got a higher level
@@ -147,28 +209,23 @@ module _ (w : Pos → Cell) (old : LevelTable) (before pending : PendingData) (p
           (is ∙ (λ i. record pending { rising = pending.rising ++ filter (is_between (level_at old) 0 to) (known dust i) }));
       linked = λ q none. links_known new stay q (sym (ap (λ d. has d.unsure q) is) ∙ none);
       empty = λ q bare none. still_empty new (dust_put to put) q bare (sym (ap (λ d. has d.unsure q) is) ∙ none);
+      falling = subst (λ d. AreDust w d.falling) (sym is) still_falling;
+      rising = subst (λ d. AreDust w d.rising) (sym is)
+          (both_dust w pending.rising (links_between 0 to) still_rising (links_lie 0 to));
     }
 
--- a position of which it is known what dust there links to, and whether it is fed
+-- dust of which it is known what it links to, and whether it is fed
 module _ {w : Pos → Cell} {old : LevelTable} {before pending : PendingData} {p : Pos}
     (taken : IsTaken before pending p) (right : IsUnderRepair w old before)
-    (none : before.unsure ≡ []) where
+    (none : before.unsure ≡ []) (dust : is_dust (w p) ≡ true) where
   known : has before.unsure p ≡ false
   known = ap (λ ps. has ps p) none
 
   links_here : KnowsLinks w old p
   links_here = right.linked p known
 
-  bare_here : is_dust (w p) ≡ false → level_at old p ≡ 0
-  bare_here bare = right.empty p bare known
-
-  -- no dust lies there
-  pub bare_right : is_dust (w p) ≡ false → IsUnderRepair w old pending
-  bare_right bare = left_right w old before pending p taken right links_here bare_here
-      (λ dust. absurd (false≢true (sym bare ∙ dust)))
-
-  -- dust lies there that has one level and is told one
-  module _ {was told : ℕ} (dust : is_dust (w p) ≡ true) (level : was ≡ level_at old p)
+  -- it has one level and is told one
+  module _ {was told : ℕ} (level : was ≡ level_at old p)
       (is : told ≡ (if was == 15 then 15 else greatest (level_at old) (linked (links_at old p) p) - 1)) where
     fed_here : (level_at old p == 15) ≡ is_fed w p
     fed_here = right.kept.fed p dust known
@@ -190,12 +247,12 @@ module _ {w : Pos → Cell} {old : LevelTable} {before pending : PendingData} {p
 
     -- it has what it is told
     pub agreed_right : was ≡ told → IsUnderRepair w old pending
-    agreed_right same = left_right w old before pending p taken right links_here bare_here
-        (λ _. (fed_here, sym level ∙ same ∙ told_here))
+    agreed_right same = left_right w old before pending p taken right links_here dust
+        fed_here (sym level ∙ same ∙ told_here)
 
     -- it has to be looked at again
     pub waits_right : (final : PendingData) → IsMoved pending final p → IsUnderRepair w old final
-    waits_right final = moved_right w old before pending p taken right links_here bare_here final fed_here
+    waits_right final = moved_right w old before pending p taken right links_here dust final fed_here
 
     module _ (new : LevelTable) (final : PendingData) (stay : (q : Pos) → links_at new q ≡ links_at old q) where
       -- its level was too high, and is gone
@@ -205,7 +262,7 @@ module _ {w : Pos → Cell} {old : LevelTable} {before pending : PendingData} {p
             rising = pending.rising ++ p ∷ [];
           }
           → IsUnderRepair w new final
-      lowered_right less = fallen_right w old before pending p taken right links_here bare_here new final stay dust
+      lowered_right less = fallen_right w old before pending p taken right links_here dust new final stay
           was level (not_fed (λ same. omega (arith, less, same)))
 
       -- its level was too low, and is what it is told
@@ -219,7 +276,7 @@ module _ {w : Pos → Cell} {old : LevelTable} {before pending : PendingData} {p
           let one_less = told_here ∙ told_unfed (is_fed w) (links w) (level_at old) p unfed in
           let most = greatest_most (level_at old) (links w p) 15 (λ q among. right.kept.low q) in
           let below : told < 15 = omega (arith, one_less, most) in
-          risen_right w old before pending p taken right links_here bare_here new final stay dust told put
+          risen_right w old before pending p taken right links_here dust new final stay told put
           (omega (arith, level, more)) (omega (arith, below)) (under_15 told below ∙ sym unfed)
           (own_right w (level_at old) (level_at new) p told put unfed one_less)
 
@@ -235,6 +292,8 @@ module _ (w : Pos → Cell) (old new : LevelTable) (pending : PendingData) (p : 
         let off = (or_parts (same_place q p) false (none_in pending.unsure (p ∷ []) q none).1).0 in
         ap (λ n. linked n q) (relinked q ∙ ap (λ b. if b then bits else links_at old q) off) ∙ right.linked q none dust;
     empty = λ q bare none. stay q ∙ right.empty q bare none;
+    falling = right.falling;
+    rising = right.rising;
   }
 
 -- no dust lies at a position any more: its level is gone, and no other changes
@@ -275,4 +334,6 @@ module _ (w : Pos → Cell) (old new : LevelTable) (before pending : PendingData
       | inl same ↦ put q ∙ ap (λ b. if b then 0 else level_at old q) same
       | inr off ↦ kept_off q off ∙ right.empty q none_here (taken.unsure q off none)
     ];
+    falling = λ q there. right.falling q (taken.falling q there);
+    rising = λ q there. right.rising q (taken.rising q there);
   }

@@ -33,13 +33,19 @@ pub record IsRightAt (w : Pos → Cell) (table : LevelTable) (done : List Pos) :
 abbrev pub ChangesAt : List Pos → LevelTable → LevelTable → Type 0
 ChangesAt put old new = (p : Pos) → has put p ≡ false → level_at new p ≡ level_at old p
 
--- while levels are made right: what is not pending is right, and what is not unsure has its links,
--- and no level where no dust is
+-- dust lies at each of these positions
+abbrev pub AreDust : (Pos → Cell) → List Pos → Type 0
+AreDust w ps = (p : Pos) → has ps p ≡ true → is_dust (w p) ≡ true
+
+-- while levels are made right: what is not pending is right, what is not unsure has its links, and
+-- no level where no dust is, and what may fall or rise is dust
 pub record IsUnderRepair (w : Pos → Cell) (table : LevelTable) (pending : PendingData) : Type 0 where
   pub kept : AreKept w (level_at table) pending
   pub linked : (p : Pos) → has pending.unsure p ≡ false → KnowsLinks w table p
   pub empty : (p : Pos) → is_dust (w p) ≡ false → has pending.unsure p ≡ false
       → level_at table p ≡ 0
+  pub falling : AreDust w pending.falling
+  pub rising : AreDust w pending.rising
 
 -- more positions are listed, and at all others levels stayed
 abbrev pub Follows : List Pos → LevelTable → List Pos → LevelTable → Type 0

@@ -47,6 +47,7 @@ pub fn repair(
 }
 
 // Looks at one position.
+#[tactic(auto, using(crate::proofs::Mending::falling_dust, crate::proofs::Mending::rising_dust))]
 fn turn(
     map: &Frozen<'_>,
     levels: &mut LinkedLevels,
@@ -138,6 +139,7 @@ fn feed(
 }
 
 // Lets the level of dust at a position fall that nothing supports.
+#[tactic(auto, using(vx_power::proofs::Stepping::dust_place))]
 fn lower(
     map: &Frozen<'_>,
     levels: &mut LinkedLevels,
@@ -145,15 +147,14 @@ fn lower(
     put: &mut Vec<Pos>,
     p: Pos,
 ) -> Result<(), AllocError>
+    requires dust { is_dust (cell_on map.now p) ≡ true }
     requires fed { pending.old.unsure ≡ [] }
     requires right { IsUnderRepair (cell_on map.now) levels.old
         (record pending.old { falling = pending.old.falling ++ p ∷ [] }) }
     ensures right { OnOk result (IsUnderRepair (cell_on map.now) levels.new pending.new) }
     ensures follows { OnOk result (Follows put.old.items levels.old put.new.items levels.new) }
 {
-    if !lies(map, p) {
-        return Ok(());
-    }
+    map.soundness();
     let was = levels.at(p);
     let told = told_level(levels, p, was);
     if told < was {
@@ -166,6 +167,7 @@ fn lower(
 }
 
 // Lets the level of dust at a position rise to what it is told.
+#[tactic(auto, using(vx_power::proofs::Stepping::dust_place))]
 fn lift(
     map: &Frozen<'_>,
     levels: &mut LinkedLevels,
@@ -173,15 +175,14 @@ fn lift(
     put: &mut Vec<Pos>,
     p: Pos,
 ) -> Result<(), AllocError>
+    requires dust { is_dust (cell_on map.now p) ≡ true }
     requires fed { pending.old.unsure ≡ [] }
     requires right { IsUnderRepair (cell_on map.now) levels.old
         (record pending.old { rising = pending.old.rising ++ p ∷ [] }) }
     ensures right { OnOk result (IsUnderRepair (cell_on map.now) levels.new pending.new) }
     ensures follows { OnOk result (Follows put.old.items levels.old put.new.items levels.new) }
 {
-    if !lies(map, p) {
-        return Ok(());
-    }
+    map.soundness();
     let was = levels.at(p);
     let told = told_level(levels, p, was);
     if was < told {

@@ -1,5 +1,4 @@
 use Rattle.std.proofs.Common.{◌≡◌, ◌++◌, ◌∷◌, [], ◌==◌, true, false, refl, sym, ◌∙◌, arith}
-use Rattle.std.proofs.lemmas.Bool.{false≢true}
 use Rattle.std.proofs.lemmas.Result.{on_ok_weaker}
 use Rattle.vx_cells.specs.Maps.{cell_on}
 use Rattle.vx_levels.specs.Linked.{level_at}
@@ -19,8 +18,8 @@ returns-then-fed-clause-right c =
     let fed : is_fed w p ≡ true = cc in
     let new = c.rise.new.levels in
     on_ok_three c.rise.result
-    (λ stay put is. risen_right w old before pending p (taken_unsure pending p) c.requires.right c.requires.linked (λ bare. absurd (false≢true (sym bare ∙ c.requires.dust)))
-    new c.rise.new.pending stay c.requires.dust 15 put (c.requires.right.kept.low p) (omega arith)
+    (λ stay put is. risen_right w old before pending p (taken_unsure pending p) c.requires.right c.requires.linked c.requires.dust
+    new c.rise.new.pending stay 15 put (c.requires.right.kept.low p) (omega arith)
     (sym fed) (own_fed w (level_at old) (level_at new) p 15 put fed refl) is)
     c.rise.ensures.links c.rise.ensures.levels c.rise.ensures.pending
 
@@ -38,8 +37,8 @@ returns-then-was-eq-FED-2-clause-right c =
     let before : PendingData = record pending { unsure = pending.unsure ++ p ∷ [] } in
     let unfed : is_fed w p ≡ false = cc in
     on_ok_three c.fall.result
-    (λ stay put is. fallen_right w old before pending p (taken_unsure pending p) c.requires.right c.requires.linked (λ bare. absurd (false≢true (sym bare ∙ c.requires.dust)))
-    c.fall.new.levels c.fall.new.pending stay c.requires.dust c.at-was.result c.at-was.ensures.value unfed put is)
+    (λ stay put is. fallen_right w old before pending p (taken_unsure pending p) c.requires.right c.requires.linked c.requires.dust
+    c.fall.new.levels c.fall.new.pending stay c.at-was.result c.at-was.ensures.value unfed put is)
     c.fall.ensures.links c.fall.ensures.levels c.fall.ensures.pending
 
 pub returns-then-was-eq-FED-2-clause-follows : goal.returns-then-was-eq-FED-2-clause-follows
@@ -55,7 +54,7 @@ returns-then-was-eq-FED-clause-right c =
     let before : PendingData = record pending { unsure = pending.unsure ++ p ∷ [] } in
     let fed : is_fed w p ≡ true = cc in
     fed_right w c.args.levels.now before pending p (taken_unsure pending p) c.requires.right c.requires.linked
-    (λ bare. absurd (false≢true (sym bare ∙ c.requires.dust))) fed (sym c.at-was.ensures.value ∙ c.if-was-eq-FED.true)
+    c.requires.dust fed (sym c.at-was.ensures.value ∙ c.if-was-eq-FED.true)
 
 pub returns-then-told_level-was-clause-right : goal.returns-then-told_level-was-clause-right
 returns-then-told_level-was-clause-right c =
@@ -65,7 +64,7 @@ returns-then-told_level-was-clause-right c =
     let before : PendingData = record pending { unsure = pending.unsure ++ p ∷ [] } in
     let unfed : is_fed w p ≡ false = cc in
     told_right w c.args.levels.now before pending p (taken_unsure pending p) c.requires.right c.requires.linked
-    (λ bare. absurd (false≢true (sym bare ∙ c.requires.dust))) unfed c.at-was.result c.told_level.result
+    c.requires.dust unfed c.at-was.result c.told_level.result
     c.at-was.ensures.value c.if-was-eq-FED-2.false c.told_level.ensures.value c.if-told_level-was.true
 
 pub returns-clause-right : goal.returns-clause-right
@@ -78,6 +77,6 @@ returns-clause-right c =
     let unfed : is_fed w p ≡ false = cc in
     let other : (level_at old p == 15) ≡ false = not_15 _ (level_at old p) c.at-was.ensures.value c.if-was-eq-FED-2.false in
     on_ok_weaker c.add_falling.result
-    (λ is. moved_right w old before pending p (taken_unsure pending p) c.requires.right c.requires.linked (λ bare. absurd (false≢true (sym bare ∙ c.requires.dust)))
+    (λ is. moved_right w old before pending p (taken_unsure pending p) c.requires.right c.requires.linked c.requires.dust
     c.add_falling.new.self (other ∙ sym unfed) (now_falling pending p c.add_falling.new.self is))
     c.add_falling.ensures

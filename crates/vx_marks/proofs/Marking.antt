@@ -1,9 +1,9 @@
 -- Marks and the words that have any.
-use Rattle.std.proofs.Common.{◌≡◌, ℕ, zero, suc, ◌+◌, ◌-◌, ◌*◌, ◌/◌, ◌%◌, ◌^◌, ◌<◌, ◌≤◌, ◌&&◌, true, false, List, length, get_or, replicate, Some, None, nat_lt, inl, inr, refl, ap, sym, ◌∙◌, arith}
+use Rattle.std.proofs.Common.{◌≡◌, ℕ, zero, suc, ◌+◌, ◌-◌, ◌*◌, ◌/◌, ◌%◌, ◌^◌, ◌<◌, ◌≤◌, ◌&&◌, if◌then◌else◌, Bool, true, false, List, length, get_or, replicate, Some, None, nat_eq, nat_lt, inl, inr, refl, ap, sym, ◌∙◌, arith}
 use Rattle.std.specs.Int.{trailing_zeros, w64}
 use Rattle.std.proofs.lemmas.Bool.{cases_lt, and_parts, ltb-true, ltb-false, lt-ltb}
 use Rattle.std.proofs.lemmas.List.{length-replicate, get_or_past}
-use Rattle.vx_marks.specs.Marks.{is_set, is_marked, IsFirst, IsFirstMarked, AreBits, AreBlank, AreFilled}
+use Rattle.vx_marks.specs.Marks.{is_set, is_marked, IsFirst, IsFirstMarked, AreBits, AreBlank, AreFilled, IsMarkSet}
 use Rattle.vx_marks.proofs.WordBits.{unset, lowest_is_first}
 
 -- what a list of one number has at an index
@@ -27,6 +27,17 @@ none_filled n m room = record {
   room = omega (arith, length-replicate {A = ℕ} n 0, length-replicate {A = ℕ} m 0);
   each = λ k. none_marked m k ∙ ap (λ w. nat_lt 0 w) (sym (zero_at n k 0));
 }
+
+-- to clear a mark where there is none changes nothing
+pub none_cleared : (n index : ℕ) → IsMarkSet (replicate n 0) (replicate n 0) index false
+none_cleared n index = record {
+  long = refl;
+  each = λ i. none_marked n i ∙ sym (ap (λ b. if nat_eq i index then false else b) (none_marked n i) ∙ either (nat_eq i index));
+}
+  where
+    either : (b : Bool) → (if b then false else false) ≡ false
+    either true = refl
+    either false = refl
 
 -- a word that is marked as filled is there, and is not 0
 word_filled : (words filled : List ℕ) (k : ℕ) → AreFilled words filled → is_marked filled k ≡ true

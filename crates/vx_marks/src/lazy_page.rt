@@ -1,6 +1,6 @@
 ghost use Rattle.std.specs.Option.{option_map_or};
-ghost use Rattle.std.specs.Prelude.{◌≡◌, ◌<◌, ℕ, List, replicate, box_value, IfOk, OnOk, OnErr};
-ghost use Rattle.vx_marks.specs.Marks.{is_marked, IsFirstMarked, IsRunMarked};
+ghost use Rattle.std.specs.Prelude.{◌≡◌, ◌<◌, ℕ, false, List, replicate, box_value, IfOk, OnOk, OnErr};
+ghost use Rattle.vx_marks.specs.Marks.{is_marked, IsFirstMarked, IsMarkSet, IsRunMarked};
 ghost use Rattle.vx_marks.specs.declared.page.TheConstants.{PAGE};
 
 use crate::page::{PAGE, Page};
@@ -52,6 +52,18 @@ impl LazyPage {
             None => self.page = first_run(alloc, first, bits)?,
         }
         Ok(())
+    }
+
+    /// Takes the mark of an index away, if it has one. It takes no memory.
+    #[inline(always)]
+    pub fn clear(&mut self, index: u32)
+        requires { index < PAGE }
+        ensures { IsMarkSet self.old self.new index false }
+    {
+        let Some(page) = &mut self.page else {
+            return;
+        };
+        page.set(index, false);
     }
 
     /// The first marked index from this one on.

@@ -1,5 +1,5 @@
 ghost use Rattle.std.specs.Prelude.{◌≡◌, ◌*◌, ◌%◌, ◌<◌, ℕ, false, length, IfOk, OnOk, OnErr};
-ghost use Rattle.vx_marks.specs.Marks.{is_marked, IsFirstMarked, IsRunMarked};
+ghost use Rattle.vx_marks.specs.Marks.{is_marked, IsFirstMarked, IsMarkSet, IsRunMarked};
 ghost use Rattle.vx_marks.specs.declared.page.TheConstants.{PAGE};
 
 use crate::lazy_page::LazyPage;
@@ -49,6 +49,15 @@ impl Marks {
         ensures err { OnErr result (self.new ≡ self.old) }
     {
         self.pages[(first / PAGE) as usize].mark_run(alloc, first % PAGE, bits)
+    }
+
+    /// Takes the mark of an index away, if it has one. It takes no memory.
+    #[inline(always)]
+    pub fn clear(&mut self, index: u32)
+        requires { index < 64 * length self.old }
+        ensures { IsMarkSet self.old self.new index false }
+    {
+        self.pages[(index / PAGE) as usize].clear(index % PAGE);
     }
 
     /// Whether an index is marked. It takes no memory.

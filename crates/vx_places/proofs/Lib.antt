@@ -1,6 +1,7 @@
 pub mod Adding
 pub mod Areas
 pub mod Finding
+pub mod Forgetting
 pub mod Marked
 pub mod Near
 pub mod Runs

@@ -1,18 +1,16 @@
 -- Columns of a row of a layer that lie in one sector: what passes a test there, and the indices of
 -- these positions.
-use Rattle.std.proofs.Common.{◌≡◌, ℕ, ◌+◌, ◌-◌, ◌%◌, ◌/◌, ◌<◌, ◌≤◌, Bool, true, false, ◌&&◌, nat_eq, nat_lt, nat_le, List, Some, inl, inr, pos, refl, ap, sym, ◌∙◌, arith}
-use Rattle.std.proofs.lemmas.Bool.{cases_Bool, cases_lt, and_parts, and_left, and_from, le-ltb, leb-true, ltb-true, eqb-true, le-leb, lt-ltb, eq-eqb, false_from_ne_true, true≢false}
+use Rattle.std.proofs.Common.{◌≡◌, ℕ, ◌+◌, ◌-◌, ◌%◌, ◌/◌, ◌<◌, ◌≤◌, Bool, true, false, ◌&&◌, nat_eq, nat_lt, nat_le, Some, inl, inr, pos, refl, ap, sym, ◌∙◌, arith}
+use Rattle.std.proofs.lemmas.Bool.{cases_Bool, and_parts, and_from, leb-true, ltb-true, eqb-true, le-leb, lt-ltb, eq-eqb, false_from_ne_true, true≢false}
 use Rattle.vx_geom.specs.declared.pos.Pos.{Pos}
 use Rattle.vx_geom.specs.Sizes.{Sizes, AreSizes, span, is_inside, sector_number, sector_of, index_in_sector}
 use Rattle.vx_geom.proofs.Positions.{same_pos}
 use Rattle.vx_geom.proofs.SectorLemmas.{inside_at, held_at, same_index}
-use Rattle.vx_marks.specs.Marks.{is_set, is_marked, AreBits}
-use Rattle.vx_marks.specs.declared.page.TheConstants.{PAGE}
+use Rattle.vx_marks.specs.Marks.{is_set}
 use Rattle.vx_marks.proofs.WordBits.{unset}
 use Rattle.vx_cells.specs.Listed.{place, AreInRow}
 use Rattle.vx_cells.proofs.Indices.{numbered}
 use Rattle.vx_cells.proofs.Rows.{index_later, in_word, column_held}
-use Rattle.vx_places.specs.Areas.{marked_by}
 use Rattle.vx_places.specs.Around.{layer_of, row_of, column_of, is_in_run}
 use Rattle.vx_places.specs.Places.{in_run_from}
 use Rattle.vx_places.proofs.Marked.{number_of}

@@ -1,4 +1,4 @@
-ghost use Rattle.std.specs.Prelude.{◌≡◌, ◌+◌, ◌-◌, ◌*◌, ◌%◌, ◌<◌, ◌≤◌, ◌&&◌, ◌||◌, ℕ, pos, ◌-ℤ◌, unsigned_abs, false, true, nat_eq, nat_le, length, replicate, slice_index_or, if◌then◌else◌, None, Some, IfOk, OnOk, IfSome};
+ghost use Rattle.std.specs.Prelude.{◌≡◌, ◌+◌, ◌-◌, ◌*◌, ◌%◌, ◌<◌, ◌≤◌, ◌&&◌, ◌||◌, ℕ, pos, ◌-ℤ◌, unsigned_abs, false, true, not, nat_eq, nat_le, length, replicate, slice_index_or, if◌then◌else◌, None, Some, IfOk, OnOk, IfSome};
 ghost use Rattle.std.specs.List.{All, filter, list_any};
 ghost use Rattle.vx_geom.specs.declared.pos.Pos.{Pos};
 ghost use Rattle.vx_geom.specs.Places.{positions};
@@ -115,6 +115,31 @@ impl Places {
             self.mark(alloc, *p)?;
         }
         Ok(())
+    }
+
+    /// Takes a position away, if it is among them. It takes no memory.
+    pub fn forget(&mut self, p: Pos)
+        ensures sizes { self.new.sizes ≡ self.old.sizes }
+        ensures forgotten { (q : Pos) → is_at self.new q
+            ≡ (is_at self.old q && not (nat_eq (steps_between p q) 0)) }
+    {
+        let bounds = self.bounds;
+        if !bounds.inside(p) {
+            return;
+        }
+        let number = bounds.sector_holding(p) as usize;
+        clear_in(&mut self.sectors[number], bounds.index_in_sector(p));
+    }
+
+    /// Takes away each position of a list that is among them. It takes no memory.
+    pub fn forget_all(&mut self, places: &[Pos])
+        ensures sizes { self.new.sizes ≡ self.old.sizes }
+        ensures forgotten { (q : Pos) → is_at self.new q ≡ (is_at self.old q
+            && not (list_any (λ p. nat_eq (steps_between p q) 0) places.now)) }
+    {
+        for p in places {
+            self.forget(*p);
+        }
     }
 
     /// Adds each position of a map to which at most so many steps lead from this one, which may lie
@@ -469,5 +494,18 @@ fn mark_in(
             *sector = Some(marks);
             Ok(())
         }
+    }
+}
+
+// Takes away the mark of an index of a sector, if it has one.
+#[inline(always)]
+fn clear_in(sector: &mut Option<Marks>, index: u32)
+    requires { IfSome sector.old (λ marks. index < 64 * length marks) }
+    ensures room { (count : ℕ) → HasRoom count sector.old → HasRoom count sector.new }
+    ensures cleared { (i : ℕ) → marked_in sector.new i
+        ≡ (marked_in sector.old i && not (nat_eq i index)) }
+{
+    if let Some(marks) = sector {
+        marks.clear(index);
     }
 }

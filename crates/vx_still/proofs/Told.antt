@@ -18,9 +18,9 @@ use Rattle.vx_still.proofs.Heeding.{no_store}
 use Rattle.vx_still.proofs.Unsettling.{still_told}
 
 -- only dust has another level than what is stored
-unlike_is_dust : (m : MapData) (table : LevelTable) (p : Pos) (level stored : ℕ) → IsRight (cell_on m) table
+pub dust_there : (m : MapData) (table : LevelTable) (p : Pos) (level stored : ℕ) → IsRight (cell_on m) table
     → level ≡ level_at table p → stored ≡ stored_on m p → (level ≡ stored → ⊥) → is_dust (cell_on m p) ≡ true
-unlike_is_dust m table p level stored right level_is stored_is unlike = elim (cases_Bool (is_dust (cell_on m p))) [
+dust_there m table p level stored right level_is stored_is unlike = elim (cases_Bool (is_dust (cell_on m p))) [
   | inl dust ↦ dust
   | inr bare ↦ absurd (unlike (level_is ∙ right.empty p bare ∙ sym (no_store (cell_on m p) bare) ∙ sym stored_is))
 ]
@@ -34,7 +34,7 @@ module _ (m : MapData) (table : LevelTable) (p : Pos) (level stored : ℕ) (righ
       mark p
       ∙ or_right (is_at old p) (is_inside old.sizes p && nat_eq (steps_between p p) 0)
       (and_from (is_inside old.sizes p) (nat_eq (steps_between p p) 0)
-      (ap (λ v. is_inside v p) sizes ∙ dust_inside m p (unlike_is_dust m table p level stored right level_is stored_is unlike))
+      (ap (λ v. is_inside v p) sizes ∙ dust_inside m p (dust_there m table p level stored right level_is stored_is unlike))
       (is_place p p refl))
 
   -- marked alone, where it gained and lost no power
@@ -67,3 +67,10 @@ told_more m level old new done p kept told here q there =
     just : (b : Bool) → (b || false) ≡ true → b ≡ true
     just true is = refl
     just false is = is
+
+-- and by levels that are those at first
+pub told_more_by : (m : MapData) (table now : LevelTable) (old new : PlacesData) (done : List Pos) (p : Pos) → now ≡ table
+    → KeepsMarks old new → AreTold m (level_at table) old done → IsTold m (level_at now) new p
+    → AreTold m (level_at table) new (done ++ p ∷ [])
+told_more_by m table now old new done p same kept told here =
+    told_more m (level_at table) old new done p kept told (subst (λ t. IsTold m (level_at t) new p) same here)

@@ -26,7 +26,8 @@ use Rattle.vx_store.specs.declared.mark_kind.MarkKind.{MarkKind}
 use Rattle.vx_store.specs.declared.mark_kind.MarkKind.TheVariants.{Component, Device}
 use Rattle.vx_still.specs.Mirrored.{IsMirror}
 use Rattle.vx_still.specs.Stillness.{IsStill, stored_on}
-use Rattle.vx_still.specs.Unheeded.{AreUnheeded, DustData}
+use Rattle.vx_still.specs.declared.kept_dust.KeptDust.{KeptDust}
+use Rattle.vx_still.specs.Unheeded.{AreUnheeded}
 use Rattle.vx_still.specs.Telling.{AreMarkedFrom, AreTold, IsMarked, IsTold, KeepsMarks}
 use Rattle.vx_still.proofs.Heeding.{no_store, no_dust_level, others_rest}
 use Rattle.vx_still.proofs.Sensing.{dust_rests_by_level, others_rest_by_power}
@@ -62,7 +63,7 @@ either ps qs p none = or_parts (has ps p) (has qs p) (sym (has_joined ps qs p) �
 
 -- levels that mirror what dust stores are right but where something was rebuilt, or dust sees that it
 -- was, or a part that was turned would feed it
-pub mirror_right : (m : MapData) (waking : WakingData) (seen : List Pos) (kept : DustData)
+pub mirror_right : (m : MapData) (waking : WakingData) (seen : List Pos) (kept : KeptDust)
     → IsStill m waking → IsMirror m waking.rebuilt kept
     → ((p : Pos) → has seen p ≡ (is_inside m.sizes p && list_any (λ c. is_kind_around Component (cell_on m) c 2 p) waking.rebuilt))
     → IsRightBut (cell_on m) kept.levels ((seen ++ waking.rebuilt) ++ fed_by (all_on (cell_on m)) waking.turned)
@@ -142,7 +143,7 @@ still_told m level old new p kept told = record {
   near = elim told.near [ inl same ↦ inl same | inr marked ↦ inr (heeders_still m old new p kept marked) ];
 }
 
-module _ (m : MapData) (waking : WakingData) (put : List Pos) (old : DustData) (new : LevelTable) (places : PlacesData)
+module _ (m : MapData) (waking : WakingData) (put : List Pos) (old : KeptDust) (new : LevelTable) (places : PlacesData)
     (still : IsStill m waking) (mirror : IsMirror m waking.rebuilt old) (right : IsRight (cell_on m) new)
     (changes : ChangesAt put old.levels new) (told_rebuilt : AreTold m (level_at new) places waking.rebuilt)
     (told_put : AreTold m (level_at new) places put) (heeders : AreMarkedFrom m places waking.turned) where

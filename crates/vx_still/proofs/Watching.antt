@@ -18,7 +18,8 @@ use Rattle.vx_still.specs.Mirrored.{IsMirror}
 use Rattle.vx_still.specs.Stillness.{stored_on}
 use Rattle.vx_still.specs.Watching.{IsWatch, WritesKeepWatch, TicksLeaveWatch}
 use Rattle.vx_still.proofs.Heeding.{no_store, no_dust_level}
-use Rattle.vx_still.specs.Unheeded.{DustData, IsKept}
+use Rattle.vx_still.specs.declared.kept_dust.KeptDust.{KeptDust}
+use Rattle.vx_still.specs.Unheeded.{IsKept}
 use Rattle.vx_still.proofs.Mirroring.{none_of_none, writes_keep_mirror, ticks_leave_mirror}
 use Rattle.vx_still.proofs.Stilling.{mirrors_agree, still_rests, ticks_leave_still, writes_keep_still}
 use Rattle.vx_still.specs.Waking.{nowhere, Rests}
@@ -50,7 +51,7 @@ low : (n : ℕ) → n % 16 ≤ 15
 low n = omega arith
 
 -- where a watch tells of nothing all rests
-module _ (m : MapData) (kept : DustData) (is : IsWatch m (record { waking = nowhere; dust = Some kept })) where
+module _ (m : MapData) (kept : KeptDust) (is : IsWatch m (record { waking = nowhere; dust = Some kept })) where
   abbrev table : LevelTable
   table = kept.levels
 

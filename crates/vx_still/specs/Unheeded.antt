@@ -8,9 +8,10 @@ use Rattle.vx_block.specs.Conductors.{conducts}
 use Rattle.vx_cells.specs.Maps.{MapData, cell_on}
 use Rattle.vx_levels.specs.Repairs.{IsRight}
 use Rattle.vx_places.specs.Places.{PlacesData, is_at}
-use Rattle.vx_power.specs.Levels.{LevelTable, has}
+use Rattle.vx_power.specs.Levels.{has}
 use Rattle.vx_power.specs.Local.{is_touched}
 use Rattle.vx_power.specs.Turning.{EachHeeded}
+use Rattle.vx_still.specs.declared.kept_dust.KeptDust.{KeptDust}
 
 -- no device heeds what stands at p
 abbrev pub IsUnheeded : MapData → Pos → Type 0
@@ -30,12 +31,7 @@ pub record AreUnheeded (m : MapData) (rebuilt : List Pos) (places : PlacesData) 
   pub each : (p : Pos) → is_at places p ≡ true → is_touched (has rebuilt) p ≡ false
       → IsUnheeded m p
 
--- levels with their links, and positions of dust that no device heeds
-pub record DustData : Type 0 where
-  pub levels : LevelTable
-  pub unheeded : PlacesData
-
--- they are those of a map
-pub record IsKept (m : MapData) (dust : DustData) : Type 0 where
+-- levels with their links, and dust that no device heeds, are those of a map
+pub record IsKept (m : MapData) (dust : KeptDust) : Type 0 where
   pub right : IsRight (cell_on m) dust.levels
   pub unheeded : AreUnheeded m [] dust.unheeded

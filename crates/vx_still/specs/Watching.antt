@@ -7,13 +7,14 @@ use Rattle.vx_power.specs.Levels.{has}
 use Rattle.vx_still.specs.declared.look.Look.{Look}
 use Rattle.vx_still.specs.Mirrored.{IsMirror}
 use Rattle.vx_still.specs.Stillness.{IsStill, LeavesStill}
-use Rattle.vx_still.specs.Unheeded.{DustData, IsKept}
+use Rattle.vx_still.specs.declared.kept_dust.KeptDust.{KeptDust}
+use Rattle.vx_still.specs.Unheeded.{IsKept}
 use Rattle.vx_still.specs.Waking.{with_rebuilt}
 use Rattle.vx_still.specs.Waking.{IsSettled, WakingData}
 
 pub record WatchData : Type 0 where
   pub waking : WakingData
-  pub dust : Option DustData
+  pub dust : Option KeptDust
 
 -- the map is still but where that tells, and what is kept of its dust mirrors it
 pub record IsWatch (m : MapData) (watch : WatchData) : Type 0 where

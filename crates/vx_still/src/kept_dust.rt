@@ -1,4 +1,3 @@
-use std::marker::Model;
 use vx_levels::LinkedLevels;
 use vx_places::Places;
 
@@ -8,12 +7,4 @@ use vx_places::Places;
 pub struct KeptDust {
     pub levels: LinkedLevels,
     pub unheeded: Places,
-}
-
-impl Model for KeptDust {
-    ghost use Rattle.vx_still.specs.Unheeded.{DustData};
-
-    ghost Value = { DustData };
-
-    ghost view = { λ a. record { levels = a.levels; unheeded = a.unheeded } };
 }

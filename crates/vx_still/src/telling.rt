@@ -62,7 +62,10 @@ fn tell(
         return Ok(());
     }
     places.mark(alloc, p)?;
-    if have_same_power(level, stored) || dust.unheeded.has(p) {
+    if have_same_power(level, stored) {
+        return Ok(());
+    }
+    if dust.unheeded.has(p) {
         return Ok(());
     }
     if !mark_heeders(alloc, map, places, p)? {

@@ -18,12 +18,12 @@ use Rattle.vx_tick.specs.Leaving.{IsPlanned, IsWorked}
 use Rattle.vx_tick.specs.Ticks.{asked, asked_up_to, changed_up_to, stepped, AreMoves}
 use Rattle.vx_tick.proofs.Asking.{kept_ask}
 use Rattle.vx_tick.proofs.Plans.{all_puts, is_worked, no_chests}
-use Rattle.vx_power.specs.Levels.{LevelTable}
+use Rattle.vx_still.specs.declared.kept_dust.KeptDust.{KeptDust}
 use Rattle.vx_still.specs.Mirrored.{IsMirror}
 use Rattle.vx_still.specs.Stillness.{IsStill}
 use Rattle.vx_still.specs.Waking.{nowhere, with_rebuilt, Rests, WakingData}
 use Rattle.vx_still.specs.Watching.{IsWatch, WatchData}
-use Rattle.vx_levels.specs.Repairs.{IsRight}
+use Rattle.vx_still.specs.Unheeded.{IsKept}
 use Rattle.vx_still.proofs.Watching.{all_rests, ticks_leave_watch}
 
 none_kept : (ps : List Pos) → filter (λ p. false) ps ≡ []
@@ -71,23 +71,23 @@ none_listed [] none = refl
 none_listed (p ∷ ps) none = absurd (omega (arith, none))
 
 -- where nothing is told and nothing was written, the table is kept as it is
-pub unwritten : (m : MapData) (waking : WakingData) (written : List Pos) (table : LevelTable)
+pub unwritten : (m : MapData) (waking : WakingData) (written : List Pos) (kept : KeptDust)
     → waking ≡ nowhere → length written ≡ 0
-    → IsStill m (with_rebuilt waking written) → IsMirror m (with_rebuilt waking written).rebuilt table
-    → IsWatch m (record { waking = nowhere; levels = Some table })
-unwritten m waking written table none empty still mirror =
+    → IsStill m (with_rebuilt waking written) → IsMirror m (with_rebuilt waking written).rebuilt kept
+    → IsWatch m (record { waking = nowhere; dust = Some kept })
+unwritten m waking written kept none empty still mirror =
     record {
       still = subst (IsStill m) (λ i. with_rebuilt (none i) (none_listed written empty i)) still;
       mirror =
-          subst (λ (w : WakingData). IsMirror m w.rebuilt table) (λ i. with_rebuilt (none i) (none_listed written empty i)) mirror;
+          subst (λ (w : WakingData). IsMirror m w.rebuilt kept) (λ i. with_rebuilt (none i) (none_listed written empty i)) mirror;
     }
 
 -- where all rests a tick leaves the map as it is, and so nothing is told, and levels and links that
 -- are those of the map are kept
-pub at_rest : (m : MapData) (table : LevelTable) → ((p : Pos) → Rests m p) → IsRight (cell_on m) table
-    → IsWatch m (record { waking = nowhere; levels = Some table })
-at_rest m table rests right =
-    ticks_leave_watch m m (record { waking = nowhere; levels = Some table }) (record {
+pub at_rest : (m : MapData) (kept : KeptDust) → ((p : Pos) → Rests m p) → IsKept m kept
+    → IsWatch m (record { waking = nowhere; dust = Some kept })
+at_rest m kept rests right =
+    ticks_leave_watch m m (record { waking = nowhere; dust = Some kept }) (record {
       builds = λ p unbuilt. refl;
       parts = λ p unbuilt. sym (rests p).part;
       shows = λ p unbuilt unturned. refl;
@@ -96,18 +96,18 @@ at_rest m table rests right =
     }) right
 
 -- so a plan of nothing, after which it is still kept, tells the tick
-pub nothing_planned : (m : MapData) (table : LevelTable)
-    → IsWatch m (record { waking = nowhere; levels = Some table }) → (rs : Regions) → IsFilled m
+pub nothing_planned : (m : MapData) (kept : KeptDust)
+    → IsWatch m (record { waking = nowhere; dust = Some kept }) → (rs : Regions) → IsFilled m
     → (done : Plan × WatchData) → done.0.puts.items ≡ [] → done.0.fates.items ≡ []
-    → done.1 ≡ record { waking = nowhere; levels = Some table } → IsPlanned rs m done
-nothing_planned m table is rs filled done puts fates kept =
-    let rests = all_rests m table is in
+    → done.1 ≡ record { waking = nowhere; dust = Some kept } → IsPlanned rs m done
+nothing_planned m kept is rs filled done puts fates same =
+    let rests = all_rests m kept is in
     record {
       puts = all_puts rs m [] [] done.0.puts.items [] (nothing_worked m rests rs filled) puts;
       fates = fates ∙ (nothing_worked m rests rs filled).told;
       chests = no_chests rs m [] [] done.0.puts.items [] (nothing_worked m rests rs filled) puts;
       watch =
-          subst (IsWatch (stepped rs m)) (sym kept)
-          (subst (λ n. IsWatch n (record { waking = nowhere; levels = Some table }))
+          subst (IsWatch (stepped rs m)) (sym same)
+          (subst (λ n. IsWatch n (record { waking = nowhere; dust = Some kept }))
           (sym (nothing_stepped m rests rs filled)) is);
     }

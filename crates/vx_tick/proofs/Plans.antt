@@ -25,7 +25,7 @@ use Rattle.vx_tick.proofs.NoChests.{no_chest_changed, no_chest_put}
 use Rattle.vx_tick.proofs.OneTick.{tick_is_stepped}
 
 -- what holds of each that is among them holds of all
-all_among : {X : Type 0} (P : X → Type 0) (xs : List X) → ((x : X) → IsAmong xs x → P x) → All P xs
+pub all_among : {X : Type 0} (P : X → Type 0) (xs : List X) → ((x : X) → IsAmong xs x → P x) → All P xs
 all_among P xs each = λ i d low. each _ (element xs i d low)
 
 module _ (m : MapData) (level : Pos → ℕ) (filled : IsFilled m) (exact : AreAllLevels m level) where

@@ -27,6 +27,7 @@ use Rattle.vx_tick.specs.declared.fate.Fate.{Fate}
 use Rattle.vx_tick.specs.Leaving.{IsWorked, StaysDust, shows_same, shown_changes, hidden_changes, places_of}
 use Rattle.vx_tick.specs.Ticks.{advanced, changed_up_to, stepped}
 use Rattle.vx_tick.proofs.Advancing.{no_change, a_change, is_among, is_one, parts_become_next}
+use Rattle.vx_tick.proofs.Plans.{all_among}
 use Rattle.vx_tick.proofs.Puts.{none_put, puts_filled}
 use Rattle.vx_still.specs.Stillness.{LeavesStill}
 use Rattle.vx_still.specs.Waking.{WakingData}
@@ -35,18 +36,15 @@ use Rattle.vx_still.specs.Waking.{WakingData}
 pub stays_dust : (m : MapData) → IsFilled m → (puts : List (Pos × Cell)) → puts ≡ changed_up_to m (sector_count m.sizes)
     → All (StaysDust (cell_on m)) puts
 stays_dust m filled puts is =
-    all_from puts (λ p cell among.
+    all_among (StaysDust (cell_on m)) puts (λ (put : Pos × Cell) among.
+    let p = put.0 in
+    let cell = put.1 in
     let n = sector_count m.sizes in
     let change = a_change (cell_on m) (dust_level (cell_on m)) p cell
     (is_one m filled n p cell (subst (λ xs. IsAmong xs (p, cell)) is among)) in
     ap is_dust change.0
     ∙ built_dust (next_part (cell_on m) (dust_level (cell_on m)) p) (cell_on m p)
     (parts_keep_their_build (cell_on m) (dust_level (cell_on m)) p))
-  where
-    all_from : (ps : List (Pos × Cell)) → ((p : Pos) (cell : Cell) → IsAmong ps (p, cell) → StaysDust (cell_on m) (p, cell))
-        → All (StaysDust (cell_on m)) ps
-    all_from [] each = tt
-    all_from (put ∷ ps) each = (each put.0 put.1 (inl refl), all_from ps (λ p cell among. each p cell (inr among)))
 
 module _ (w : Pos → Cell) where
   in_rest : (b : Bool) (p q : Pos) (ps : List Pos) → has ps p ≡ true

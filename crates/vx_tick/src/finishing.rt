@@ -2,9 +2,9 @@
 ghost use Rattle.std.specs.Prelude.{◌≡◌, ◌++◌, [], Some, length, IfOk, IfSome};
 ghost use Rattle.vx_cells.specs.Maps.{cell_on};
 ghost use Rattle.vx_geom.specs.Sizes.{sector_count};
-ghost use Rattle.vx_levels.specs.Repairs.{IsRight};
 ghost use Rattle.vx_power.specs.Levels.{AreAllLevels};
 ghost use Rattle.vx_region.specs.Regions.{Regions};
+ghost use Rattle.vx_still.specs.Unheeded.{IsKept};
 ghost use Rattle.vx_still.specs.Waking.{nowhere};
 ghost use Rattle.vx_still.specs.Watching.{IsWatch};
 ghost use Rattle.vx_tick.specs.Fates.{AreFates};
@@ -23,11 +23,10 @@ use std::alloc::{AllocError, Global};
 use vx_block::Cell;
 use vx_cells::Frozen;
 use vx_geom::Pos;
-use vx_levels::LinkedLevels;
 use vx_piston::Move;
 use vx_policy::Version;
 use vx_power::Leveled;
-use vx_still::{Waking, Watch};
+use vx_still::{KeptDust, Waking, Watch};
 
 /// What a tick does that this version judges, of a map of which nothing is told: nothing. These
 /// levels are kept.
@@ -35,17 +34,17 @@ pub fn undisturbed(
     alloc: Global,
     map: &Frozen<'_>,
     version: &Version,
-    levels: LinkedLevels,
+    dust: KeptDust,
 ) -> Result<(Plan, Watch), AllocError>
     requires { IsWatch map.now
-        (record { waking = nowhere; levels = Some levels }) }
+        (record { waking = nowhere; dust = Some dust }) }
     ensures { IfOk result (λ done. IsPlanned version.now.policy map.now done) }
 {
     map.filling();
     let _by_any = version;
     let watch = Watch {
         waking: Waking::nothing(alloc),
-        levels: Some(levels),
+        dust: Some(dust),
         calm: 0,
     };
     Ok((Plan::nothing(alloc), watch))
@@ -57,11 +56,11 @@ pub fn kept(
     map: &Frozen<'_>,
     version: &Version,
     done: (Plan, Waking),
-    levels: Option<LinkedLevels>,
+    dust: Option<KeptDust>,
     calm: u32,
 ) -> (Plan, Watch)
     requires ended { IsEnded version.now.policy map.now done }
-    requires right { IfSome levels (IsRight (cell_on map.now)) }
+    requires dust { IfSome dust (IsKept map.now) }
     ensures { IsPlanned version.now.policy map.now result }
 {
     map.soundness();
@@ -71,7 +70,7 @@ pub fn kept(
         plan,
         Watch {
             waking,
-            levels,
+            dust,
             calm,
         },
     )

@@ -74,10 +74,10 @@ fn started(
     ensures { IfOk result (λ done. IsPlanned version.now.policy map.now done) }
 {
     match start {
-        Start::AtRest(levels) => undisturbed(alloc, map, version, levels),
-        Start::Awake(levels, places) => {
-            let done = by_levels(alloc, map, version, &levels, places.as_ref())?;
-            Ok(kept(map, version, done, Some(levels), 0))
+        Start::AtRest(dust) => undisturbed(alloc, map, version, dust),
+        Start::Awake(dust, places) => {
+            let done = by_levels(alloc, map, version, &dust.levels, places.as_ref())?;
+            Ok(kept(map, version, done, Some(dust), 0))
         }
         Start::Anew(levels, calm) => {
             let done = by_levels(alloc, map, version, &levels, None)?;

@@ -8,10 +8,9 @@ ghost use Rattle.vx_tick.specs.Starting.{IsStart};
 use std::alloc::{AllocError, Global};
 use vx_cells::Frozen;
 use vx_geom::Pos;
-use vx_levels::LinkedLevels;
 use vx_places::Places;
 use vx_power::{Levels, all_levels};
-use vx_still::{Waking, Watch, linked_anew, unsettled};
+use vx_still::{KeptDust, Waking, Watch, linked_anew, unsettled};
 
 // To make levels right again where a cell changed, and to look around it, costs about as much as to
 // tell the levels of so many components anew and to look at them.
@@ -26,11 +25,11 @@ const CALM: u32 = 8;
 /// How a tick of a map begins.
 #[derive(Drop)]
 pub enum Start {
-    /// All rests, and these levels are kept.
-    AtRest(LinkedLevels),
-    /// By levels and links that are kept: at the places outside which the map rests, where these
-    /// are told, and else at all components.
-    Awake(LinkedLevels, Option<Places>),
+    /// All rests, and this is kept of the dust.
+    AtRest(KeptDust),
+    /// By what is kept of the dust: at the places outside which the map rests, where these are told,
+    /// and else at all components.
+    Awake(KeptDust, Option<Places>),
     /// By levels that are told anew, at all components. For so many ticks on end little has
     /// changed.
     Anew(Levels, u32),
@@ -67,14 +66,14 @@ impl Start {
     {
         let Watch {
             waking,
-            levels,
+            dust,
             calm,
         } = watch;
         if has_much_changed(map, waking.count().saturating_add(written.len())) {
             return Start::anew(alloc, map, 0);
         }
-        if let Some(levels) = levels {
-            return Start::repaired(alloc, map, &waking, written, levels);
+        if let Some(dust) = dust {
+            return Start::repaired(alloc, map, &waking, written, dust);
         }
         if calm < CALM {
             return Start::anew(alloc, map, calm + 1);
@@ -88,26 +87,26 @@ impl Start {
         map: &Frozen<'_>,
         waking: &Waking,
         written: &[Pos],
-        levels: LinkedLevels,
+        dust: KeptDust,
     ) -> Result<Start, AllocError>
         requires still { IsStill map.now (with_rebuilt waking.now written.now) }
-        requires mirror { IsMirror map.now (with_rebuilt waking.now written.now).rebuilt levels }
+        requires mirror { IsMirror map.now (with_rebuilt waking.now written.now).rebuilt dust }
         ensures { IfOk result (IsStart map.now) }
     {
         if waking.is_nothing() && written.is_empty() {
-            return Ok(Start::AtRest(levels));
+            return Ok(Start::AtRest(dust));
         }
-        let mut levels = levels;
-        let Some(look) = unsettled(alloc, map, waking, written, &mut levels)? else {
+        let mut dust = dust;
+        let Some(look) = unsettled(alloc, map, waking, written, &mut dust)? else {
             return Start::linked(alloc, map);
         };
         let Some(places) = look.places else {
-            return Ok(Start::Awake(levels, None));
+            return Ok(Start::Awake(dust, None));
         };
         if places.is_empty() {
-            return Ok(Start::AtRest(levels));
+            return Ok(Start::AtRest(dust));
         }
-        Ok(Start::Awake(levels, Some(places)))
+        Ok(Start::Awake(dust, Some(places)))
     }
 
     // How it begins by levels and links that are told anew, to be kept.

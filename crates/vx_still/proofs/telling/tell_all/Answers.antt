@@ -2,8 +2,8 @@ use Rattle.std.proofs.Common.{◌≡◌, suc, ◌+◌, take, length, refl, sym, 
 use Rattle.std.proofs.Math.Seq.{take-suc, take-length}
 use Rattle.std.proofs.lemmas.Bool.{false≢true}
 use Rattle.vx_levels.specs.Linked.{level_at}
-use Rattle.vx_still.specs.Telling.{AreTold, IsTold}
-use Rattle.vx_still.proofs.Told.{told_more}
+use Rattle.vx_still.specs.Telling.{AreTold}
+use Rattle.vx_still.proofs.Told.{told_more_by}
 use Rattle.vx_still.proofs.telling.tell_all.Goals as goal
 
 pub loop-p-init : goal.loop-p-init
@@ -32,8 +32,8 @@ loop-p-preserved c =
       kept = λ q is. c.in_ok-tell.ensures.kept q (c.loop-p.invariant.kept q is);
       told = subst (AreTold m level new)
           (sym (take-suc positions k _ (omega (arith, within))) ∙ ap (λ n. take n positions) next)
-          (told_more m level c.loop-p.places new (take k positions) _ c.in_ok-tell.ensures.kept c.loop-p.invariant.told
-          (subst (λ t. IsTold m (level_at t) new _) c.loop-p.invariant.levels c.in_ok-tell.ensures.told));
+          (told_more_by m c.args.dust.now.levels c.loop-p.dust.levels c.loop-p.places new (take k positions) _ c.loop-p.invariant.levels
+          c.in_ok-tell.ensures.kept c.loop-p.invariant.told c.in_ok-tell.ensures.told);
       levels = c.in_ok-tell.ensures.levels ∙ c.loop-p.invariant.levels;
       dust = c.in_ok-tell.ensures.dust;
     }

@@ -9,5 +9,5 @@ returns c = record {
   chests = c.requires.ended.chests;
   watch =
       ticks_leave_watch c.args.map.now (stepped c.args.version.now.policy c.args.map.now)
-      (record { waking = c.args.done.1; levels = c.args.levels }) c.requires.ended.left c.requires.right;
+      (record { waking = c.args.done.1; dust = c.args.dust }) c.requires.ended.left c.requires.dust;
 }

@@ -1,4 +1,4 @@
-use Rattle.std.specs.Prelude.{◌≡◌, ℕ, ◌≤◌, Bool, false, nat_eq, List, length, replicate, slice_index_or, slice_set, if◌then◌else◌, Option, Some, None}
+use Rattle.std.specs.Prelude.{◌≡◌, ℕ, ◌≤◌, Bool, false, nat_eq, List, [], ◌∷◌, length, replicate, slice_index_or, slice_set, if◌then◌else◌, Option, Some, None}
 use Rattle.std.specs.List.{All}
 use Rattle.std.specs.Option.{option_map_or}
 use Rattle.vx_store.specs.declared.stack.TheConstants.{SLOTS, MAX_COUNT}
@@ -78,6 +78,11 @@ with_block c p block = record c { blocks = slice_set c.blocks (index_in_sector c
 -- a cell put down at one position
 abbrev pub with_cell : SectorCells → Pos → Cell → SectorCells
 with_cell c p cell = with_block c p (placed cell)
+
+-- these cells put down one after another
+abbrev pub with_cells : SectorCells → List (Pos × Cell) → SectorCells
+with_cells c [] = c
+with_cells c (put ∷ puts) = with_cells (with_cell c put.0 put.1) puts
 
 -- something else in one slot, and the cell and the other slots as they are
 abbrev pub with_content : Block → ℕ → Option Stack → Block

@@ -42,7 +42,7 @@ impl Drop for Cells {
 
 impl Cells {
     ghost use Rattle.vx_store.specs.Codes.{is_chest};
-    ghost use Rattle.vx_cells.specs.SectorCells.{holds, only_air, cell_at, chest_at, with_cell, with_slot, IsWhole, IsSlot};
+    ghost use Rattle.vx_cells.specs.SectorCells.{holds, only_air, cell_at, chest_at, with_cell, with_cells, with_slot, IsWhole, IsSlot};
 
     /// The sector of that number, with nothing but air. It takes some hundred bytes.
     pub fn new(alloc: Global, bounds: Bounds, sector: u32) -> Result<Cells, AllocError>
@@ -128,6 +128,16 @@ impl Cells {
         ensures err { OnErr result (self.new ≡ self.old) }
     {
         Arc::make_mut(&mut self.stored)?.set(p, cell)
+    }
+
+    /// Puts these cells down one after another at positions of this sector, as `set` does each, but
+    /// sees only once whether a copy shares the sector. Where memory is wanted, the first of them
+    /// may be put down.
+    pub fn set_all(&mut self, puts: &[(Pos, Cell)]) -> Result<(), AllocError>
+        requires { All (λ put. holds self.old put.0 ≡ true) puts.now }
+        ensures { OnOk result (self.new ≡ with_cells self.old puts.now) }
+    {
+        Arc::make_mut(&mut self.stored)?.set_all(puts)
     }
 
     /// The slots of the chest at a position of this sector, if there is one.

@@ -52,7 +52,7 @@ impl Model for Stored {
 
 impl Stored {
     ghost use Rattle.vx_store.specs.Codes.{is_chest};
-    ghost use Rattle.vx_cells.specs.SectorCells.{holds, only_air, cell_at, chest_at, with_cell, with_slot, IsWhole, IsSlot};
+    ghost use Rattle.vx_cells.specs.SectorCells.{holds, only_air, cell_at, chest_at, with_cell, with_cells, with_slot, IsWhole, IsSlot};
 
     /// The sector of that number, with nothing but air.
     pub fn new(alloc: Global, bounds: Bounds, sector: u32) -> Result<Stored, AllocError>
@@ -176,6 +176,18 @@ impl Stored {
             index,
             code,
         )
+    }
+
+    /// Puts these cells down one after another, as `set` does each. Where memory is wanted, the
+    /// first of them may be put down.
+    pub fn set_all(&mut self, puts: &[(Pos, Cell)]) -> Result<(), AllocError>
+        requires { All (λ put. holds self.old put.0 ≡ true) puts.now }
+        ensures { OnOk result (self.new ≡ with_cells self.old puts.now) }
+    {
+        for (p, cell) in puts {
+            self.set(*p, *cell)?;
+        }
+        Ok(())
     }
 
     /// The slots of the chest at a position of this sector, if there is one.

@@ -1,9 +1,12 @@
 -- The sectors of a world, from one window to the next.
 use Rattle.std.specs.Prelude.{◌≡◌, ℕ, List, [], ◌∷◌, Vec, map, Option, Some, None}
 use Rattle.std.specs.Bool.{⊤}
+use Rattle.std.specs.List.{All}
 use Rattle.std.specs.Option.{unwrap_or}
 use Rattle.std.specs.declared.alloc.Global.{Global}
-use Rattle.vx_geom.specs.Sizes.{Sizes}
+use Rattle.vx_block.specs.declared.cell.Cell.{Cell}
+use Rattle.vx_geom.specs.declared.pos.Pos.{Pos}
+use Rattle.vx_geom.specs.Sizes.{Sizes, sector_of}
 use Rattle.vx_cells.specs.Maps.{MapData}
 use Rattle.vx_cells.specs.SectorCells.{SectorCells}
 use Rattle.vx_region.specs.Regions.{Regions}
@@ -69,6 +72,11 @@ with_changes (c ∷ cells) (change ∷ changes) = unwrap_or change c ∷ with_ch
 abbrev pub map_changed : Sizes → List SectorData → List (Option SectorCells) → MapData
 map_changed sizes sectors changes =
     record { sizes = sizes; sectors = with_changes (map cells_of sectors) changes }
+
+-- these cells all lie in one sector of a world of this size, or all outside it
+abbrev pub AreTogether : Sizes → List (Pos × Cell) → Type 0
+AreTogether sizes puts =
+    All (λ put. All (λ other. sector_of sizes put.0 ≡ sector_of sizes other.0) puts) puts
 
 -- there is something or nothing for each sector, and nothing only where nothing was recorded in the
 -- window

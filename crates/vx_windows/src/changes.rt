@@ -1,10 +1,10 @@
 //! What the next windows of sectors begin with: the cells that changed, and what is made over them.
 ghost use Rattle.std.specs.List.{All};
 ghost use Rattle.std.specs.Option.{unwrap_or};
-ghost use Rattle.std.specs.Prelude.{◌≡◌, ◌≤◌, [], true, None, length, map, IfOk, OnOk};
+ghost use Rattle.std.specs.Prelude.{◌≡◌, ◌<◌, ◌≤◌, [], true, None, length, map, take, IfOk, OnOk};
 ghost use Rattle.vx_cells.specs.Maps.{AreSectors};
-ghost use Rattle.vx_cells.specs.Wholes.{with_cell_on, with_cells_on};
-ghost use Rattle.vx_windows.specs.Sectors.{AreQuiet, cells_of, map_changed, next_of, nexts, window_over, with_changes};
+ghost use Rattle.vx_cells.specs.Wholes.{with_cells_on};
+ghost use Rattle.vx_windows.specs.Sectors.{AreQuiet, AreTogether, cells_of, map_changed, next_of, nexts, window_over, with_changes};
 
 use std::alloc::{AllocError, Global};
 use vx_block::Cell;
@@ -30,8 +30,11 @@ pub fn cells_after(
     ensures quiet { IfOk result (λ changes. AreQuiet sectors.now changes.items) }
 {
     let mut changes = written_cells(alloc, sectors)?;
-    for (p, cell) in puts {
-        put(bounds, sectors, &mut changes, *p, *cell)?;
+    let mut left = puts;
+    while !left.is_empty() {
+        let (together, others) = left.split_at(count_together(bounds, left));
+        put_all(bounds, sectors, &mut changes, together)?;
+        left = others;
     }
     Ok(changes)
 }
@@ -60,29 +63,44 @@ fn written_in(sector: &Sector) -> Result<Option<Cells>, AllocError>
     Ok(Some(sector.cells().try_clone()?))
 }
 
-// Puts a cell down in what changes in its sector, if it lies in one.
-fn put(
+// How many of these, from the first on, lie in one sector, or outside the world.
+fn count_together(bounds: Bounds, puts: &[(Pos, Cell)]) -> usize
+    requires { 0 < length puts.now }
+    ensures some { 0 < result }
+    ensures within { result ≤ length puts.now }
+    ensures together { AreTogether bounds (take result puts.now) }
+{
+    let sector = bounds.sector_of(puts[0].0);
+    let mut count = 1;
+    while count < puts.len() && bounds.sector_of(puts[count].0) == sector {
+        count += 1;
+    }
+    count
+}
+
+// Puts these cells down one after another in what changes in their sector, if they lie in one.
+fn put_all(
     bounds: Bounds,
     sectors: &[Sector],
     changes: &mut [Option<Cells>],
-    p: Pos,
-    cell: Cell,
+    puts: &[(Pos, Cell)],
 ) -> Result<(), AllocError>
+    requires some { 0 < length puts.now }
+    requires together { AreTogether bounds puts.now }
     requires placed { AreSectors bounds (with_changes (map cells_of sectors.now) changes.old) }
     requires quiet { AreQuiet sectors.now changes.old }
     ensures put { OnOk result (map_changed bounds sectors.now changes.new
-        ≡ unwrap_or (with_cell_on (map_changed bounds sectors.now changes.old) p cell)
-        (map_changed bounds sectors.now changes.old)) }
+        ≡ with_cells_on (map_changed bounds sectors.now changes.old) puts.now) }
     ensures placed { OnOk result
         (AreSectors bounds (with_changes (map cells_of sectors.now) changes.new)) }
     ensures quiet { OnOk result (AreQuiet sectors.now changes.new) }
 {
-    let Some(number) = bounds.sector_of(p) else {
+    let Some(number) = bounds.sector_of(puts[0].0) else {
         return Ok(());
     };
     let at = number as usize;
     let mut cells = taken(&mut changes[at], &sectors[at])?;
-    cells.set(p, cell)?;
+    cells.set_all(puts)?;
     changes[at] = Some(cells);
     Ok(())
 }

@@ -1,6 +1,5 @@
 -- What a watch tells: that it stays one, and that all rests where it tells of nothing.
-use Rattle.std.proofs.Common.{◌≡◌, ℕ, ◌≤◌, ◌%◌, true, false, inl, inr, List, [], ◌∷◌, ◌++◌, Some, refl, sym, ◌∙◌, arith}
-use Rattle.std.specs.List.{list_any}
+use Rattle.std.proofs.Common.{◌≡◌, ℕ, ◌≤◌, ◌%◌, true, inl, inr, ◌++◌, Some, refl, sym, ◌∙◌, arith}
 use Rattle.std.proofs.lemmas.Bool.{cases_Bool}
 use Rattle.std.proofs.lemmas.Option.{IfSome_then}
 use Rattle.vx_geom.specs.declared.pos.Pos.{Pos}
@@ -12,7 +11,7 @@ use Rattle.vx_levels.specs.Repairs.{IsRight}
 use Rattle.vx_levels.proofs.Agreeing.{consistent_is_exact}
 use Rattle.vx_part.specs.Laws.{reads}
 use Rattle.vx_power.specs.Laws.{dust_level}
-use Rattle.vx_power.specs.Levels.{AreAllLevels, LevelTable, has, level_in}
+use Rattle.vx_power.specs.Levels.{AreAllLevels, LevelTable, level_in}
 use Rattle.vx_power.specs.Local.{sees}
 use Rattle.vx_still.specs.Mirrored.{IsMirror}
 use Rattle.vx_still.specs.Stillness.{stored_on}

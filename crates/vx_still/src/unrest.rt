@@ -55,13 +55,7 @@ pub fn unsettled(
     dust.unheeded.forget_all(unsure.as_slice());
     add_all_fed(&mut unsure, map, waking.turned.as_slice())?;
     let components = map.component_count() as usize;
-    let Some(put) = repair(
-        alloc,
-        map,
-        &mut dust.levels,
-        unsure,
-        turns_for(components),
-    )? else {
+    let Some(put) = repair(alloc, map, &mut dust.levels, unsure, turns_for(components))? else {
         return Ok(None);
     };
     if components < put.len().saturating_mul(PER_LEVEL) {

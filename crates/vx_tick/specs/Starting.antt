@@ -1,6 +1,6 @@
 -- How a tick begins, by what was kept of a map.
 use Rattle.std.specs.Prelude.{Some, IfSome}
-use Rattle.vx_cells.specs.Maps.{MapData, cell_on}
+use Rattle.vx_cells.specs.Maps.{MapData}
 use Rattle.vx_power.specs.Levels.{level_in, AreAllLevels}
 use Rattle.vx_still.specs.Unheeded.{IsKept}
 use Rattle.vx_still.specs.Waking.{nowhere}

@@ -66,14 +66,7 @@ pub fn kept(
     map.soundness();
     let _judge = version;
     let (plan, waking) = done;
-    (
-        plan,
-        Watch {
-            waking,
-            dust,
-            calm,
-        },
-    )
+    (plan, Watch { waking, dust, calm })
 }
 
 /// What a tick does that this version judges and that found this by the levels of all dust, with

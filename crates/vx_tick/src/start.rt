@@ -64,11 +64,7 @@ impl Start {
         requires { IsWatch map.now (with_written watch written.now) }
         ensures { IfOk result (IsStart map.now) }
     {
-        let Watch {
-            waking,
-            dust,
-            calm,
-        } = watch;
+        let Watch { waking, dust, calm } = watch;
         if has_much_changed(map, waking.count().saturating_add(written.len())) {
             return Start::anew(alloc, map, 0);
         }

@@ -13,7 +13,7 @@ use Rattle.vx_power.specs.Spreading.{fed_by}
 use Rattle.vx_power.specs.Turning.{all_on}
 use Rattle.vx_store.specs.declared.mark_kind.MarkKind.TheVariants.{Component, Device}
 use Rattle.vx_still.specs.Telling.{AreMarkedFrom, AreTold}
-use Rattle.vx_still.specs.Unheeded.{AreUnheeded, IsKept}
+use Rattle.vx_still.specs.Unheeded.{AreUnheeded}
 use Rattle.vx_still.specs.Waking.{WakingData, with_rebuilt}
 use Rattle.vx_still.proofs.Marking.{heeders_still}
 use Rattle.vx_still.proofs.Unsettling.{around_marked, besides_marked, forgotten, mirror_right, rests_unmarked, still_told}

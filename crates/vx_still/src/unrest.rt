@@ -24,7 +24,7 @@ use vx_store::MarkKind;
 const CELLS_OFF: u8 = 4;
 
 // What heeds dust that got another level costs as much to find as a look at so many components.
-const PER_LEVEL: usize = 4;
+const PER_LEVEL: usize = 2;
 
 // A repair may take so many turns for each component, and for a map at least so many; one that
 // takes more is given up.

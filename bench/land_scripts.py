@@ -256,6 +256,19 @@ def dust(r):
     return world(8) + list(rings_of_five(tiles[:9600], 9600)) + ["tick"], ticks(200)
 
 
+def clocks(r):
+    """25 clocks in 16 sectors, each of which drives 128 dust, lamps and repeaters, and 1,000 ticks. From each a trunk of 15 dust
+    leads south, and from every other dust of it a repeater, a row of dust and lamps lead east."""
+    head = world(4)
+    for x, z in [(25 * k, 25 * j) for j in range(5) for k in range(5)]:
+        head += list(clock(x, z, 1 + (x + z) // 25 % 4))
+        head += [f"set {x + 2} 1 {z + 1 + k} dust" for k in range(15)]
+        for row in range(z + 1, z + 16, 2):
+            head += [f"set {x + 3} 1 {row} repeater:east:1"] + [f"set {x + 4 + k} 1 {row} dust" for k in range(8)]
+            head += [f"set {x + 5 + 2 * k} 1 {row + 1} lamp" for k in range(4)] + [f"set {x + 12} 1 {row} lamp"]
+    return head + ["tick"], ticks(1000)
+
+
 def no_region(r):
     return world(8), list(commands(r, 400_000, 256))
 
@@ -326,6 +339,13 @@ def sweep_awake(r, share):
     return world(8) + list(rings_of_five(tiles, running)) + ["tick"], ticks(1000)
 
 
+def sweep_awake_of_many(r, share):
+    """9,600 rings of five dust on three layers, of which so many of a hundred run, and 200 ticks."""
+    tiles = [(4 * k, y, 4 * j) for y in (1, 5, 9) for j in range(64) for k in range(64)]
+    r.shuffle(tiles)
+    return world(8) + list(rings_of_five(tiles[:9600], max(1, round(9600 * share / 100)))) + ["tick"], ticks(200)
+
+
 def sweep_loops(r, count):
     """961 rings of 24 dust, each beside a clock that feeds it and goes out, of which so many run, and 200 ticks."""
     tiles = [(12 * k, y, 8 * j) for y in (0, 4, 8) for j in range(32) for k in range(21)]
@@ -367,6 +387,7 @@ SCRIPTS = {
     "building": building,
     "placed": placed,
     "dust": dust,
+    "clocks": clocks,
     "no_region": no_region,
     "50_regions": fifty_regions,
     "500_regions": five_hundred_regions,
@@ -378,6 +399,7 @@ SCRIPTS = {
     "sweep_names": sweep_names,
     "sweep_sectors": sweep_sectors,
     "sweep_awake": sweep_awake,
+    "sweep_awake_of_many": sweep_awake_of_many,
     "sweep_loops": sweep_loops,
     "sweep_machines": sweep_machines,
     "sweep_storage": sweep_storage,
@@ -387,7 +409,7 @@ SCRIPTS = {
 def main():
     name, *point, directory = sys.argv[1:]
     r = random.Random(" ".join([name] + point))
-    head, body = SCRIPTS[name](r, *map(float if name == "sweep_awake" else int, point))
+    head, body = SCRIPTS[name](r, *map(float if name.startswith("sweep_awake") else int, point))
     for file, lines in (("head.vx", head), ("whole.vx", head + body)):
         with open(f"{directory}/{file}", "w") as out:
             out.write("\n".join(lines) + "\n")

@@ -12,9 +12,12 @@ use vx_places::Places;
 use vx_power::{Levels, all_levels};
 use vx_still::{KeptDust, Waking, Watch, linked_anew, unsettled};
 
-// To make levels right again where a cell changed, and to look around it, costs about as much as to
-// tell the levels of so many components anew and to look at them.
-const COMPONENTS_EACH: usize = 32;
+// To make levels right again where a part was turned, and to look at what heeds it, costs about as
+// much as to tell the levels of so many components anew and to look at them.
+const COMPONENTS_EACH: usize = 4;
+
+// Where a cell was rebuilt it costs as much as for so many parts that were turned.
+const TURNED_EACH: usize = 8;
 
 // For so few cells it costs less at any size.
 const FEW: usize = 16;
@@ -65,7 +68,7 @@ impl Start {
         ensures { IfOk result (IsStart map.now) }
     {
         let Watch { waking, dust, calm } = watch;
-        if has_much_changed(map, waking.count().saturating_add(written.len())) {
+        if has_much_changed(map, &waking, written.len()) {
             return Start::anew(alloc, map, 0);
         }
         if let Some(dust) = dust {
@@ -120,7 +123,13 @@ impl Start {
     }
 }
 
-// Whether so many changed cells are so many that to look everywhere costs less.
-fn has_much_changed(map: &Frozen<'_>, changed: usize) -> bool {
-    FEW < changed && map.component_count() as usize / COMPONENTS_EACH < changed
+// Whether so much was rebuilt or turned, with so many cells that were written since, that to look
+// everywhere costs less.
+fn has_much_changed(map: &Frozen<'_>, waking: &Waking, written: usize) -> bool {
+    let rebuilt = waking.rebuilt.len().saturating_add(written);
+    let as_turned = rebuilt
+        .saturating_mul(TURNED_EACH)
+        .saturating_add(waking.turned.len());
+    FEW < waking.count().saturating_add(written)
+        && map.component_count() as usize / COMPONENTS_EACH < as_turned
 }

@@ -1,15 +1,17 @@
 //! Positions close to one, where one sector has all around it.
 ghost use Rattle.std.specs.Prelude.{◌≡◌, ◌≤◌, pos, unsigned_abs, true, false, None, IfSome};
 ghost use Rattle.vx_block.specs.declared.cell.Cell.TheVariants.{Air};
-ghost use Rattle.vx_block.specs.Components.{is_component, is_device};
+ghost use Rattle.vx_block.specs.Components.{is_component, is_device, is_dust};
 ghost use Rattle.vx_block.specs.Conductors.{conducts};
 ghost use Rattle.vx_cells.specs.Maps.{cell_on};
 ghost use Rattle.vx_cells.specs.Nearby.{HasAround, IsClose};
 ghost use Rattle.vx_cells.specs.SectorCells.{holds, cell_at};
 ghost use Rattle.vx_geom.specs.declared.pos.Pos.{Pos};
 ghost use Rattle.vx_geom.specs.Neighbor.{neighbor};
+ghost use Rattle.vx_power.specs.Dust.{beside, over, under};
 
-use vx_block::Cell;
+use crate::places::{place_beside, place_over, place_under};
+use vx_block::{Cell, Side};
 use vx_cells::{Cells, Frozen};
 use vx_geom::{Dir, Pos};
 
@@ -41,6 +43,67 @@ pub fn next_cell(map: &Frozen<'_>, around: Option<&Cells>, p: Pos, dir: Dir) -> 
     }
     let next = map.next(p, dir)?;
     Some((next, map.cell(next)))
+}
+
+/// What stands beside a position on that side; air outside the world. `around` is the sector that
+/// has all around the position, if there is one: then it is read from that. So it is below.
+#[inline(always)]
+#[tactic(auto, using(crate::proofs::Stepping::around_place, vx_cells::proofs::Nearby::close_beside))]
+pub fn beside(map: &Frozen<'_>, around: Option<&Cells>, p: Pos, side: Side) -> Cell
+    requires { IfSome around (λ cells. HasAround map.now cells.now p) }
+    ensures { result ≡ cell_on map.now (beside p side) }
+{
+    map.soundness();
+    match around {
+        Some(cells) => cells.get(place_beside(p, side)),
+        None => map.beside(p, side.dir()),
+    }
+}
+
+/// Whether dust lies over what is beside a position on that side.
+#[inline(always)]
+#[tactic(auto, using(crate::proofs::Stepping::around_place, crate::proofs::Close::close_over))]
+pub fn has_dust_over(map: &Frozen<'_>, around: Option<&Cells>, p: Pos, side: Side) -> bool
+    requires { IfSome around (λ cells. HasAround map.now cells.now p) }
+    ensures { result ≡ is_dust (cell_on map.now (over (beside p side))) }
+{
+    map.soundness();
+    if let Some(cells) = around {
+        return cells.has_dust(place_over(p, side));
+    }
+    match map.next_above(p, side.dir()) {
+        Some(over) => map.has_dust(over),
+        None => false,
+    }
+}
+
+/// Whether dust lies under what is beside a position on that side.
+#[inline(always)]
+#[tactic(auto, using(crate::proofs::Stepping::around_place, crate::proofs::Close::close_under))]
+pub fn has_dust_under(map: &Frozen<'_>, around: Option<&Cells>, p: Pos, side: Side) -> bool
+    requires { IfSome around (λ cells. HasAround map.now cells.now p) }
+    ensures { result ≡ is_dust (cell_on map.now (under (beside p side))) }
+{
+    map.soundness();
+    if let Some(cells) = around {
+        return cells.has_dust(place_under(p, side));
+    }
+    match map.next_below(p, side.dir()) {
+        Some(under) => map.has_dust(under),
+        None => false,
+    }
+}
+
+/// Whether a conductor stands over a position.
+#[inline(always)]
+pub fn has_conductor_over(map: &Frozen<'_>, around: Option<&Cells>, p: Pos) -> bool
+    requires { IfSome around (λ cells. HasAround map.now cells.now p) }
+    ensures { result ≡ conducts (cell_on map.now (over p)) }
+{
+    match around {
+        Some(cells) => cells.has_conductor(next_nearby(map, cells, p, Dir::Up)),
+        None => map.beside(p, Dir::Up).conducts(),
+    }
 }
 
 /// Whether neither a device nor a conductor stands at the next position in that direction, as the

@@ -1,5 +1,5 @@
 -- Sectors of which some go on over their cells as they are.
-use Rattle.std.proofs.Common.{◌≡◌, ℕ, zero, suc, ◌+◌, ◌<◌, ◌≤◌, List, [], ◌∷◌, ◌++◌, length, map, get_or, set, Option, unwrap_or, refl, sym, ap, subst, ◌∙◌, arith}
+use Rattle.std.proofs.Common.{◌≡◌, ℕ, zero, suc, ◌<◌, ◌≤◌, Bool, true, List, [], ◌∷◌, ◌++◌, length, map, get_or, set, Option, None, Some, MatchOption, unwrap_or, refl, sym, ap, subst, ◌∙◌, arith}
 use Rattle.vx_cells.specs.SectorCells.{SectorCells}
 use Rattle.vx_policy.specs.declared.version.Version.{Version}
 use Rattle.vx_sector.specs.SectorData.{SectorData, FreshData}
@@ -68,3 +68,17 @@ over_at v [] ys k s y f within near = absurd (omega (arith, within))
 over_at v (t ∷ ss) [] k s y f within near = absurd (omega (arith, near))
 over_at v (t ∷ ss) (x ∷ ys) zero s y f within near = refl
 over_at v (t ∷ ss) (x ∷ ys) (suc k) s y f within near = over_at v ss ys k s y f (omega (arith, within)) (omega (arith, near))
+
+-- what is given for a sector is what its next window begins with
+pub begins_over : (v : Version) (same : Bool) (s : SectorData) (y : Option SectorCells) (f : Option FreshData)
+    → (same ≡ true → record s.version { tick = v.tick } ≡ v)
+    → MatchOption f ((y ≡ None) × (same ≡ true)) (λ fresh. fresh ≡ window_over v (unwrap_or y s.cells))
+    → next_of v.tick s f ≡ window_over v (unwrap_or y s.cells)
+begins_over v same s y None policy given = λ i. window_over (policy given.1 i) (unwrap_or (sym given.0 i) s.cells)
+begins_over v same s y (Some fresh) policy given = given
+
+-- there is nothing only where nothing changed
+pub none_changed : (same : Bool) (y : Option SectorCells) (f : Option FreshData) (w : FreshData)
+    → MatchOption f ((y ≡ None) × (same ≡ true)) (λ fresh. fresh ≡ w) → f ≡ None → y ≡ None
+none_changed same y None w given none = given.0
+none_changed same y (Some fresh) w given none = cc

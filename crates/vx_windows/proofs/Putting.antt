@@ -1,8 +1,7 @@
 -- Cells put down in what changes in their sector.
-use Rattle.std.proofs.Common.{◌≡◌, ℕ, zero, suc, ◌<◌, true, List, [], ◌∷◌, ◌++◌, length, map, get_or, set, slice_get, Option, Some, None, unwrap_or, refl, sym, ap, ◌∙◌, arith}
+use Rattle.std.proofs.Common.{◌≡◌, ℕ, zero, suc, ◌<◌, true, List, [], ◌∷◌, ◌++◌, length, get_or, set, slice_get, Option, Some, None, unwrap_or, refl, sym, ap, ◌∙◌, arith}
 use Rattle.std.specs.List.{All}
 use Rattle.std.specs.Option.{option_and_then}
-use Rattle.std.proofs.lemmas.List.{length-map}
 use Rattle.std.proofs.lemmas.Option.{slice_get-get_or, get_or_from_slice_get}
 use Rattle.vx_base.proofs.Lists.{set_back, set_found}
 use Rattle.vx_block.specs.declared.cell.Cell.{Cell}
@@ -13,9 +12,8 @@ use Rattle.vx_cells.specs.SectorCells.{SectorCells, holds, with_cell, with_cells
 use Rattle.vx_cells.specs.Wholes.{IsMap, set_in, with_cell_on, with_cells_on}
 use Rattle.vx_cells.proofs.MapLemmas.{is_there, is_held}
 use Rattle.vx_cells.proofs.Setting.{cell_is_set, cell_keeps_map}
-use Rattle.vx_sector.specs.SectorData.{SectorData}
-use Rattle.vx_windows.specs.Sectors.{AreQuiet, AreTogether, cells_of, map_changed, with_changes}
-use Rattle.vx_windows.proofs.Changing.{as_many_changed, as_many_quiet, changed_at, changed_set}
+use Rattle.vx_windows.specs.Sectors.{AreTogether, map_with_changes, with_changes}
+use Rattle.vx_windows.proofs.Changing.{as_many_changed, changed_at, changed_set}
 
 -- cells that lie together lie where the first does
 pub where_first : (sizes : Sizes) (o : Option ℕ) (puts : List (Pos × Cell)) (put : Pos × Cell) → 0 < length puts
@@ -38,11 +36,6 @@ all_outside m (put ∷ puts) none =
     ap (λ o. with_cells_on (unwrap_or o m) puts) (outside m put.0 put.1 (none 0 put (omega arith)))
     ∙ all_outside m puts (λ j d near. none (suc j) d (omega (arith, near)))
 
-cells_at : (ss : List SectorData) (k : ℕ) (s : SectorData) (c : SectorCells) → k < length ss → get_or (map cells_of ss) k c ≡ (get_or ss k s).cells
-cells_at [] k s c within = absurd (omega (arith, within))
-cells_at (t ∷ ss) zero s c within = refl
-cells_at (t ∷ ss) (suc k) s c within = cells_at ss k s c (omega (arith, within))
-
 -- what is written over twice
 pub set_again : {X : Type 0} (xs : List X) (k : ℕ) (x y : X) → set (set xs k x) k y ≡ set xs k y
 set_again [] k x y = refl
@@ -64,37 +57,34 @@ in_sector m (put ∷ puts) k c whole found are =
     (λ j e near. are (suc j) e (omega (arith, near)))
     ∙ ap (λ cs. record m { sectors = cs }) (set_again m.sectors k d (with_cells d puts))
 
-module _ (sizes : Sizes) (ss : List SectorData) (ys : List (Option SectorCells))
-    (placed : AreSectors sizes (with_changes (map cells_of ss) ys)) (quiet : AreQuiet ss ys)
+module _ (sizes : Sizes) (cs : List SectorCells) (ys : List (Option SectorCells))
+    (placed : AreSectors sizes (with_changes cs ys)) (each : length ys ≡ length cs)
     (p : Pos) (k : ℕ) (found : sector_of sizes p ≡ Some k) where
   -- there is a sector of that number, and something or nothing for it
-  pub there : k < length ss
-  there =
-      let changed = is_there sizes (with_changes (map cells_of ss) ys) p k found placed in
-      omega (arith, changed, as_many_changed (map cells_of ss) ys, length-map ss cells_of)
+  pub there : k < length cs
+  there = omega (arith, is_there sizes (with_changes cs ys) p k found placed, as_many_changed cs ys)
 
   pub given : k < length ys
-  given = omega (arith, there, as_many_quiet ss ys quiet)
+  given = omega (arith, there, each)
 
   -- its cells as they are so far
-  module _ (y : Option SectorCells) (s : SectorData) where
+  module _ (y : Option SectorCells) (c : SectorCells) where
     abbrev so_far : SectorCells
-    so_far = unwrap_or (get_or ys k y) (get_or ss k s).cells
+    so_far = unwrap_or (get_or ys k y) (get_or cs k c)
 
-    stands : slice_get (with_changes (map cells_of ss) ys) k ≡ Some so_far
+    stands : slice_get (with_changes cs ys) k ≡ Some so_far
     stands =
-        slice_get-get_or (with_changes (map cells_of ss) ys) k s.cells (is_there sizes (with_changes (map cells_of ss) ys) p k found placed)
-        ∙ ap Some (changed_at (map cells_of ss) ys k y s.cells given (omega (arith, there, length-map ss cells_of))
-        ∙ ap (unwrap_or (get_or ys k y)) (cells_at ss k s s.cells there))
+        slice_get-get_or (with_changes cs ys) k c (is_there sizes (with_changes cs ys) p k found placed)
+        ∙ ap Some (changed_at cs ys k y c given there)
 
     module _ (puts : List (Pos × Cell)) (are : All (λ put. sector_of sizes put.0 ≡ Some k) puts) where
       pub held : All (λ put. holds so_far put.0 ≡ true) puts
-      held j put near = is_held (map_changed sizes ss ys) (get_or puts j put).0 k (are j put near) so_far placed stands
+      held j put near = is_held (map_with_changes sizes cs ys) (get_or puts j put).0 k (are j put near) so_far placed stands
 
       -- the map with these cells put down
       pub put_down : (d : SectorCells) → d ≡ with_cells so_far puts
-          → with_cells_on (map_changed sizes ss ys) puts ≡ map_changed sizes ss (set ys k (Some d))
+          → with_cells_on (map_with_changes sizes cs ys) puts ≡ map_with_changes sizes cs (set ys k (Some d))
       put_down d made =
-          in_sector (map_changed sizes ss ys) puts k so_far placed stands are
-          ∙ ap (λ c. record { sizes = sizes; sectors = set (with_changes (map cells_of ss) ys) k c }) (sym made)
-          ∙ ap (λ cs. record { sizes = sizes; sectors = cs }) (sym (changed_set (map cells_of ss) ys k d given))
+          in_sector (map_with_changes sizes cs ys) puts k so_far placed stands are
+          ∙ ap (λ c. record { sizes = sizes; sectors = set (with_changes cs ys) k c }) (sym made)
+          ∙ ap (λ cs. record { sizes = sizes; sectors = cs }) (sym (changed_set cs ys k d given))

@@ -68,10 +68,14 @@ with_changes [] changes = []
 with_changes (c ∷ cells) [] = c ∷ cells
 with_changes (c ∷ cells) (change ∷ changes) = unwrap_or change c ∷ with_changes cells changes
 
+-- the map of a world of this size with these cells, of which some have others in their place
+abbrev pub map_with_changes : Sizes → List SectorCells → List (Option SectorCells) → MapData
+map_with_changes sizes cells changes =
+    record { sizes = sizes; sectors = with_changes cells changes }
+
 -- the map of a world of this size with the cells of these sectors, but for those that changed
 abbrev pub map_changed : Sizes → List SectorData → List (Option SectorCells) → MapData
-map_changed sizes sectors changes =
-    record { sizes = sizes; sectors = with_changes (map cells_of sectors) changes }
+map_changed sizes sectors changes = map_with_changes sizes (map cells_of sectors) changes
 
 -- these cells all lie in one sector of a world of this size, or all outside it
 abbrev pub AreTogether : Sizes → List (Pos × Cell) → Type 0

@@ -1,11 +1,13 @@
 //! What the next windows of sectors begin with: the cells that changed, and what is made over them.
 ghost use Rattle.std.specs.List.{All};
 ghost use Rattle.std.specs.Option.{unwrap_or};
-ghost use Rattle.std.specs.Prelude.{◌≡◌, ◌<◌, ◌≤◌, [], true, None, length, map, take, IfOk, OnOk};
+ghost use Rattle.std.specs.Prelude.{◌≡◌, ◌<◌, ◌≤◌, List, [], true, None, length, map, take, IfOk, MatchOption, OnOk};
 ghost use Rattle.vx_cells.specs.Maps.{AreSectors};
 ghost use Rattle.vx_cells.specs.Wholes.{with_cells_on};
-ghost use Rattle.vx_windows.specs.Sectors.{AreQuiet, AreTogether, cells_of, map_changed, next_of, nexts, window_over, with_changes};
+ghost use Rattle.vx_sector.specs.SectorData.{SectorData};
+ghost use Rattle.vx_windows.specs.Sectors.{AreQuiet, AreTogether, cells_of, map_changed, map_with_changes, nexts, window_over, with_changes};
 
+use crate::windows::cells_of;
 use std::alloc::{AllocError, Global};
 use vx_block::Cell;
 use vx_cells::Cells;
@@ -30,12 +32,8 @@ pub fn cells_after(
     ensures quiet { IfOk result (λ changes. AreQuiet sectors.now changes.items) }
 {
     let mut changes = written_cells(alloc, sectors)?;
-    let mut left = puts;
-    while !left.is_empty() {
-        let (together, others) = left.split_at(count_together(bounds, left));
-        put_all(bounds, sectors, &mut changes, together)?;
-        left = others;
-    }
+    let cells = cells_of(alloc, sectors)?;
+    put_in_changes(bounds, &cells, &mut changes, puts)?;
     Ok(changes)
 }
 
@@ -63,6 +61,33 @@ fn written_in(sector: &Sector) -> Result<Option<Cells>, AllocError>
     Ok(Some(sector.cells().try_clone()?))
 }
 
+/// Puts these cells down one after another, in order, in what changes of the sectors of a world of
+/// this size, whose cells are these, in order of their numbers. What is not there of a sector in
+/// which one is put down is made by a copy of its cells, which shares what is the same. Positions
+/// outside the world are left out. Where memory is wanting, what changes is of no use any more.
+pub fn put_in_changes(
+    bounds: Bounds,
+    cells: &[&Cells],
+    changes: &mut [Option<Cells>],
+    puts: &[(Pos, Cell)],
+) -> Result<(), AllocError>
+    requires each { length changes.old ≡ length cells.now }
+    requires placed { AreSectors bounds (with_changes (map (λ c. c.now) cells.now) changes.old) }
+    ensures put { OnOk result (map_with_changes bounds (map (λ c. c.now) cells.now) changes.new
+        ≡ with_cells_on (map_with_changes bounds (map (λ c. c.now) cells.now) changes.old)
+        puts.now) }
+    ensures quiet { OnOk result ((ss : List SectorData)
+        → AreQuiet ss changes.old → AreQuiet ss changes.new) }
+{
+    let mut left = puts;
+    while !left.is_empty() {
+        let (together, others) = left.split_at(count_together(bounds, left));
+        put_all(bounds, cells, changes, together)?;
+        left = others;
+    }
+    Ok(())
+}
+
 // How many of these, from the first on, lie in one sector, or outside the world.
 fn count_together(bounds: Bounds, puts: &[(Pos, Cell)]) -> usize
     requires { 0 < length puts.now }
@@ -81,37 +106,39 @@ fn count_together(bounds: Bounds, puts: &[(Pos, Cell)]) -> usize
 // Puts these cells down one after another in what changes in their sector, if they lie in one.
 fn put_all(
     bounds: Bounds,
-    sectors: &[Sector],
+    cells: &[&Cells],
     changes: &mut [Option<Cells>],
     puts: &[(Pos, Cell)],
 ) -> Result<(), AllocError>
     requires some { 0 < length puts.now }
     requires together { AreTogether bounds puts.now }
-    requires placed { AreSectors bounds (with_changes (map cells_of sectors.now) changes.old) }
-    requires quiet { AreQuiet sectors.now changes.old }
-    ensures put { OnOk result (map_changed bounds sectors.now changes.new
-        ≡ with_cells_on (map_changed bounds sectors.now changes.old) puts.now) }
+    requires each { length changes.old ≡ length cells.now }
+    requires placed { AreSectors bounds (with_changes (map (λ c. c.now) cells.now) changes.old) }
+    ensures put { OnOk result (map_with_changes bounds (map (λ c. c.now) cells.now) changes.new
+        ≡ with_cells_on (map_with_changes bounds (map (λ c. c.now) cells.now) changes.old)
+        puts.now) }
     ensures placed { OnOk result
-        (AreSectors bounds (with_changes (map cells_of sectors.now) changes.new)) }
-    ensures quiet { OnOk result (AreQuiet sectors.now changes.new) }
+        (AreSectors bounds (with_changes (map (λ c. c.now) cells.now) changes.new)) }
+    ensures quiet { OnOk result ((ss : List SectorData)
+        → AreQuiet ss changes.old → AreQuiet ss changes.new) }
 {
     let Some(number) = bounds.sector_of(puts[0].0) else {
         return Ok(());
     };
     let at = number as usize;
-    let mut cells = taken(&mut changes[at], &sectors[at])?;
-    cells.set_all(puts)?;
-    changes[at] = Some(cells);
+    let mut changed = taken(&mut changes[at], cells[at])?;
+    changed.set_all(puts)?;
+    changes[at] = Some(changed);
     Ok(())
 }
 
 // Takes what changed of a sector, or else a copy of its cells.
-fn taken(change: &mut Option<Cells>, sector: &Sector) -> Result<Cells, AllocError>
-    ensures { IfOk result (λ cells. cells ≡ unwrap_or change.old sector.now.cells) }
+fn taken(change: &mut Option<Cells>, cells: &Cells) -> Result<Cells, AllocError>
+    ensures { IfOk result (λ taken. taken ≡ unwrap_or change.old cells.now) }
 {
     match change.take() {
-        Some(cells) => Ok(cells),
-        None => sector.cells().try_clone(),
+        Some(changed) => Ok(changed),
+        None => cells.try_clone(),
     }
 }
 
@@ -134,30 +161,29 @@ pub fn all_fresh(
 {
     let mut all = Vec::with_capacity(alloc, sectors.len())?;
     for (at, sector) in sectors.iter().enumerate() {
-        all.push(fresh(alloc, sector, &changes[at], version, is_same_policy)?)?;
+        all.push(fresh_over(alloc, sector.cells(), &changes[at], version, is_same_policy)?)?;
     }
     Ok(all)
 }
 
-// What the next window of one sector begins with.
-fn fresh(
+/// What a sector whose cells are these begins its next window with, judged by a copy of this
+/// version: copies of what changed of them, or of all of them where another policy judges it;
+/// nothing where it goes on as it is.
+pub fn fresh_over(
     alloc: Global,
-    sector: &Sector,
+    cells: &Cells,
     change: &Option<Cells>,
     version: &Version,
     is_same_policy: bool,
 ) -> Result<Option<Fresh>, AllocError>
-    requires quiet { change.now ≡ None → sector.now.entries ≡ [] }
-    requires same { is_same_policy ≡ true
-        → record sector.now.version { tick = version.now.tick } ≡ version.now }
-    ensures fresh { IfOk result (λ next. next_of version.now.tick sector.now next
-        ≡ window_over version.now (unwrap_or change.now sector.now.cells)) }
-    ensures quiet { IfOk result (λ next. next ≡ None → sector.now.entries ≡ []) }
+    ensures { IfOk result (λ next. MatchOption next
+        ((change.now ≡ None) × (is_same_policy ≡ true))
+        (λ fresh. fresh ≡ window_over version.now (unwrap_or change.now cells.now))) }
 {
     let cells = match change {
-        Some(cells) => cells,
+        Some(changed) => changed,
         None if is_same_policy => return Ok(None),
-        None => sector.cells(),
+        None => cells,
     };
     let fresh = Fresh::new(alloc, cells.bounds(), cells.sector(), cells, version)?;
     Ok(Some(fresh))

@@ -52,4 +52,6 @@ opened_keeps first many o a world seen accepted whole named all chronicle counts
         within = omega arith;
       };
       most = search (rules, arith);
+      few = λ k d within.
+          omega (arith, get_or-replicate (length o.terrain.sectors) k 0 d (omega (arith, within, length-replicate {A = ℕ} (length o.terrain.sectors) 0)));
     })

@@ -1,5 +1,5 @@
 -- The tick that closes the windows of sectors, on record.
-use Rattle.std.proofs.Common.{◌≡◌, ℕ, ◌+◌, ◌<◌, Bool, List, [], ◌∷◌, ◌++◌, length, map, refl, sym, ap, ◌∙◌, subst, arith}
+use Rattle.std.proofs.Common.{◌≡◌, ℕ, ◌+◌, ◌<◌, ◌≤◌, Bool, List, [], ◌∷◌, ◌++◌, length, map, refl, sym, ap, ◌∙◌, subst, arith}
 use Rattle.std.proofs.lemmas.List.{length_push}
 use Rattle.std.specs.List.{All}
 use Rattle.std.proofs.lemmas.List.Elements.{All-from_recursion}
@@ -11,7 +11,7 @@ use Rattle.vx_policy.specs.Edits.{AreAccepted}
 use Rattle.vx_policy.specs.declared.version.Version.{Version}
 use Rattle.vx_region.specs.Regions.{Regions}
 use Rattle.vx_sector.specs.SectorData.{SectorData}
-use Rattle.vx_sector.specs.Windows.{IsSector}
+use Rattle.vx_sector.specs.Windows.{IsSector, most_entries}
 use Rattle.vx_tick.specs.Ticks.{fates_on, stepped}
 use Rattle.vx_windows.specs.Sectors.{entries_of, first_version}
 use Rattle.vx_windows.specs.Limits.{most_ticks}
@@ -71,7 +71,7 @@ module _ (first : Regions) (all : ℕ) (k : KeeperData) (keeper : IsKeeper first
   pub keeps : (counts : List ℕ) (v : Version) (b : Bool)
       → IsArchive (chronicle_next k ss) counts → length counts ≡ all → v ≡ version_next first k
       → length k.chronicle.ticks < most_ticks
-      → IsMap (map_next k ss) → length (map_next k ss).sectors ≡ all
+      → IsMap (map_next k ss) → length (map_next k ss).sectors ≡ all → All (λ n. n ≤ most_entries) counts
       → IsKeeper first all (record {
         chronicle = chronicle_next k ss;
         counts = counts;
@@ -79,7 +79,7 @@ module _ (first : Regions) (all : ℕ) (k : KeeperData) (keeper : IsKeeper first
         seen = k.seen;
         is_roomy = b;
       })
-  keeps counts v b archive many version more whole each =
+  keeps counts v b archive many version more whole each few =
       let longer : length (k.chronicle.ticks ++ tick ∷ []) ≡ length k.chronicle.ticks + 1 = length_push k.chronicle.ticks tick in
       record {
         archive = archive;
@@ -92,6 +92,7 @@ module _ (first : Regions) (all : ℕ) (k : KeeperData) (keeper : IsKeeper first
             subst (AreByEdits first k.seen (k.chronicle.ticks ++ tick ∷ [])) (sym version)
             (one_tick_more first k.seen k.chronicle.ticks tick keeper.edits refl);
         most = omega (arith, longer, more);
+        few = few;
       }
 
 -- with more or less room it is the same keeper
@@ -109,6 +110,7 @@ still_keeps first all a b world seen chronicle counts h =
       map = h.map;
       edits = h.edits;
       most = h.most;
+      few = h.few;
     } in
     subst (IsKeeper first all)
     (λ i. record {
@@ -133,4 +135,5 @@ sees_more first all a world seen later more accepted h = record {
   map = h.map;
   edits = edits_more first seen later a.chronicle.ticks world.version more accepted h.edits;
   most = h.most;
+  few = h.few;
 }

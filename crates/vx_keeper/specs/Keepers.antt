@@ -1,5 +1,7 @@
 -- A keeper: what it knows of its world, and the ticks that it makes.
+use mathlib.Core.List.{IsPrefix}
 use Rattle.std.specs.Prelude.{◌≡◌, ℕ, ◌+◌, ◌≤◌, Bool, List, [], ◌∷◌, ◌++◌, length, map, slice_index, slice_index_or}
+use Rattle.std.specs.List.{All}
 use Rattle.vx_cells.specs.Maps.{MapData}
 use Rattle.vx_cells.specs.SectorCells.{SectorCells, only_air}
 use Rattle.vx_cells.specs.Wholes.{IsMap}
@@ -10,9 +12,10 @@ use Rattle.vx_policy.specs.Edits.{AreAccepted}
 use Rattle.vx_policy.specs.declared.version.Version.{Version}
 use Rattle.vx_region.specs.Regions.{Regions}
 use Rattle.vx_sector.specs.SectorData.{SectorData}
+use Rattle.vx_sector.specs.Windows.{most_entries}
 use Rattle.vx_tick.specs.Ticks.{fates_on, stepped}
 use Rattle.vx_tick.specs.declared.fate.Fate.{Fate}
-use Rattle.vx_windows.specs.Sectors.{cells_of, entries_of, first_version}
+use Rattle.vx_windows.specs.Sectors.{cells_of, entries_of, first_version, opened_by}
 use Rattle.vx_windows.specs.Limits.{most_ticks}
 use Rattle.vx_record.specs.Chronicles.{TickData, ChronicleData, AreGrown, map_after, version_by}
 use Rattle.vx_record.specs.Archives.{ArchiveData, IsArchive}
@@ -47,9 +50,14 @@ pub record AreByEdits (first : Regions) (edits : List Asked) (ticks : List TickD
   pub last : next ≡ version_by first edits next.edits (length ticks + 1)
   pub within : next.edits ≤ length edits
 
+-- no sector has more entries than it may
+abbrev pub AreFew : List ℕ → Type 0
+AreFew counts = All (λ n. n ≤ most_entries) counts
+
 -- what holds of every keeper of a world with so many sectors, whose desk was opened with this
 -- policy: its chronicle is what the one-threaded rules give, the world is the map after its ticks,
--- judged by the version of the next, and all versions are by edits that it has seen
+-- judged by the version of the next, all versions are by edits that it has seen, and no sector has
+-- more entries than it may
 pub record IsKeeper (first : Regions) (sectors : ℕ) (k : KeeperData) : Type 0 where
   pub archive : IsArchive k.chronicle k.counts
   pub opening : k.chronicle.opening.policy ≡ first
@@ -59,6 +67,7 @@ pub record IsKeeper (first : Regions) (sectors : ℕ) (k : KeeperData) : Type 0 
   pub map : k.world.map ≡ map_after k.chronicle.opening.terrain k.chronicle.ticks
   pub edits : AreByEdits first k.seen k.chronicle.ticks k.world.version
   pub most : length k.chronicle.ticks ≤ most_ticks
+  pub few : AreFew k.counts
 
 -- what it has of the sector of number n
 abbrev pub known : KeeperData → ℕ → KnownData
@@ -99,3 +108,25 @@ chronicle_next k sectors = record k.chronicle {
     fates = fates_next k sectors;
   } ∷ [];
 }
+
+-- the keeper knows what it knew, though it may have seen more edits
+pub record KnowsAsBefore (before after : KeeperData) : Type 0 where
+  pub chronicle : after.chronicle ≡ before.chronicle
+  pub counts : after.counts ≡ before.counts
+  pub world : after.world ≡ before.world
+  pub seen : IsPrefix before.seen after.seen
+
+-- a sector that rests: its window began with these cells, nothing is recorded in it, and so many
+-- entries are closed
+abbrev pub at_rest : Version → SectorCells → ℕ → SectorData
+at_rest version cells closed = record (opened_by version cells) { closed = closed }
+
+-- so is each sector, of which these are the cells and the counts of closed entries
+abbrev pub all_at_rest : Version → List SectorCells → List ℕ → List SectorData
+all_at_rest version (c ∷ cells) (n ∷ counts) =
+    at_rest version c n ∷ all_at_rest version cells counts
+all_at_rest version cells counts = []
+
+-- the sectors of a world in which nothing is recorded since the last tick
+abbrev pub resting : KeeperData → List SectorData
+resting k = all_at_rest k.world.version k.world.map.sectors k.counts

@@ -1,16 +1,21 @@
 -- What is made before the windows of sectors are closed.
-use Rattle.std.specs.Prelude.{◌≡◌, ◌≤◌, List, [], length, map, vec_capacity}
+use Rattle.std.specs.Bool.{⊤}
+use Rattle.std.specs.Option.{unwrap_or}
+use Rattle.std.specs.Prelude.{◌≡◌, ℕ, ◌≤◌, Bool, true, List, [], ◌∷◌, length, map, vec_capacity, Option, None, MatchOption}
+use Rattle.vx_cells.specs.SectorCells.{SectorCells}
 use Rattle.vx_cells.specs.Maps.{AreSectors}
 use Rattle.vx_cells.specs.Wholes.{with_cells_on}
 use Rattle.vx_geom.specs.Sizes.{Sizes}
 use Rattle.vx_policy.specs.declared.version.Version.{Version}
 use Rattle.vx_region.specs.Regions.{Regions}
-use Rattle.vx_sector.specs.SectorData.{SectorData}
+use Rattle.vx_sector.specs.SectorData.{FreshData, SectorData}
 use Rattle.vx_still.specs.Watching.{IsWatch}
 use Rattle.vx_record.specs.Kept.{busy_count}
 use Rattle.vx_windows.specs.Sectors.{AreQuiet, cells_of, entries_of, map_changed, nexts, window_over, with_changes}
-use Rattle.vx_keeper.specs.Keepers.{KeeperData, map_by, map_next, fates_next, version_next}
+use Rattle.vx_keeper.specs.Keepers.{KeeperData, map_by, map_next, fates_next, resting, version_next}
+use Rattle.vx_keeper.specs.Marks.{AreLed, WorldData}
 use Rattle.vx_keeper.specs.declared.ready.Ready.{Ready}
+use Rattle.vx_keeper.specs.declared.ready_at_rest.ReadyAtRest.{ReadyAtRest}
 use Rattle.vx_keeper.specs.declared.work.Work.{Work}
 
 -- what is given for the next windows of these sectors: nothing only where nothing was recorded, and
@@ -48,3 +53,47 @@ pub record CanClose (first : Regions) (k : KeeperData) (sectors : List SectorDat
   pub watch : IsWatch (map_next k sectors) ready.watch
   pub version : ready.version ≡ version_next first k
   pub begun : AreBegun sectors ready
+
+-- what a sector with these cells begins its next window with: a window over what changed of them,
+-- or over all where another policy judges it; nothing where it goes on as it is
+abbrev pub IsNext : Version → Bool → SectorCells → Option SectorCells → Option FreshData → Type 0
+IsNext version same cells change fresh =
+    MatchOption fresh ((change ≡ None) × (same ≡ true))
+    (λ f. f ≡ window_over version (unwrap_or change cells))
+
+-- so for each
+abbrev pub AreNext : Version → Bool → List SectorCells → List (Option SectorCells)
+    → List (Option FreshData) → Type 0
+AreNext version same [] [] [] = ⊤
+AreNext version same (c ∷ cells) (change ∷ changes) (fresh ∷ all) =
+    IsNext version same c change fresh × AreNext version same cells changes all
+AreNext version same cells changes all = ⊥
+
+-- it is of this work on a world whose sectors all rest, and whose next windows this version judges
+pub record IsReadyAtRest (world : WorldData) (work : Work) (next : Version) (ready : ReadyAtRest)
+    : Type 0 where
+  pub version : ready.version ≡ next
+  pub fates : ready.fates.items ≡ work.plan.fates.items
+  pub told : ready.told.items ≡ work.plan.fates.items
+  pub watch : ready.watch ≡ work.watch
+  pub few : length ready.changes.items ≤ length world.map.sectors
+  pub after : map_by world.map.sizes (with_changes world.map.sectors ready.changes.items)
+      ≡ with_cells_on world.map work.plan.puts.items
+  pub led : AreLed (length world.map.sectors) world
+      (record { map = with_cells_on world.map work.plan.puts.items; version = next })
+      ready.fresh.items
+
+-- what was made suits the tick of a world whose sectors all rest: it has the map after the tick, and
+-- the version that the tick fixes
+pub record CanCloseAtRest (first : Regions) (k : KeeperData) (ready : ReadyAtRest) : Type 0 where
+  pub few : length ready.changes.items ≤ length k.world.map.sectors
+  pub after : map_by k.world.map.sizes (with_changes k.world.map.sectors ready.changes.items)
+      ≡ map_next k (resting k)
+  pub placed : AreSectors k.world.map.sizes
+      (with_changes k.world.map.sectors ready.changes.items)
+  pub fates : ready.fates.items ≡ fates_next k (resting k)
+  pub told : ready.told.items ≡ fates_next k (resting k)
+  pub watch : IsWatch (map_next k (resting k)) ready.watch
+  pub version : ready.version ≡ version_next first k
+  pub led : AreLed (length k.world.map.sectors) k.world
+      (record { map = map_next k (resting k); version = version_next first k }) ready.fresh.items

@@ -1,7 +1,7 @@
 ghost use Rattle.std.specs.Bool.{Decides};
 ghost use Rattle.std.specs.List.{All};
 ghost use mathlib.Core.List.{IsPrefix};
-ghost use Rattle.std.specs.Prelude.{◌≡◌, ℕ, ◌<◌, ◌≤◌, ◌+◌, ◌↔◌, ◌⊎◌, true, [], length, map, Some, Err, IfOk, IfErr, IfSome, MatchOption, OnOk};
+ghost use Rattle.std.specs.Prelude.{◌≡◌, ℕ, ◌<◌, ◌≤◌, ◌+◌, ◌↔◌, ◌⊎◌, true, [], length, map, None, Some, Ok, Err, IfOk, IfErr, IfSome, MatchOption, OnErr, OnOk};
 ghost use Rattle.vx_step.specs.declared.workers.TheConstants.{MAX_WORKERS};
 ghost use Rattle.vx_windows.specs.Sectors.{cells_of, all_renewed, opened_by, opened_with, first_version};
 ghost use Rattle.vx_windows.specs.Limits.{most_ticks};
@@ -10,9 +10,9 @@ ghost use Rattle.vx_tick.specs.Leaving.{IsPlanned};
 ghost use Rattle.vx_sector.specs.Windows.{count_of};
 ghost use Rattle.vx_record.specs.Records.{chronicle_in};
 ghost use Rattle.vx_record.specs.Settling.{AreKnown, BeganWith, IsKnown, IsTorn};
-ghost use Rattle.vx_keeper.specs.Keepers.{IsKeeper, keeper_data, known, version_next, map_now, map_next, fates_next, chronicle_next};
-ghost use Rattle.vx_keeper.specs.Marks.{IsPartOf, AreParts};
-ghost use Rattle.vx_keeper.specs.Readiness.{CanClose};
+ghost use Rattle.vx_keeper.specs.Keepers.{IsKeeper, KnowsAsBefore, keeper_data, known, version_next, map_now, map_next, fates_next, chronicle_next, resting};
+ghost use Rattle.vx_keeper.specs.Marks.{AreLed, AreParts, IsBegun, IsLed, IsPartOf, IsQuietAt, WorldData};
+ghost use Rattle.vx_keeper.specs.Readiness.{CanClose, CanCloseAtRest};
 ghost use Rattle.vx_keeper.specs.Torn.{IsNoWork};
 ghost use Rattle.vx_keeper.specs.declared.tick_error.TickError.TheVariants.{HistoryFull, NoMemory, NoView, Torn};
 
@@ -20,7 +20,8 @@ use crate::known::Known;
 use crate::marked::Marked;
 use crate::places::Places;
 use crate::ready::Ready;
-use crate::sound::are_sectors;
+use crate::ready_at_rest::ReadyAtRest;
+use crate::sound::{are_sectors, is_sector};
 use crate::tick_error::TickError;
 use crate::work::Work;
 use std::alloc::{AllocError, Global};
@@ -28,14 +29,14 @@ use std::marker::Model;
 use std::thread::Threads;
 use vx_board::{Listed, View};
 use vx_cells::Frozen;
-use vx_geom::Pos;
+use vx_geom::{Bounds, Pos};
 use vx_policy::Version;
 use vx_record::{Archive, Chronicle, ClosedWindows, Opening, Tick, follows};
-use vx_sector::Sector;
+use vx_sector::{Fresh, Sector};
 use vx_stamp::{Mark, Stamper};
 use vx_step::{Gate, plan_parts};
 use vx_still::Watch;
-use vx_tick::Fate;
+use vx_tick::{Fate, Plan};
 use vx_windows::{MAX_TICKS, cells_of, open_sectors, renew_sectors, written};
 
 /// The keeper of a world: its chronicle, and what it knows of the world between two ticks. One who
@@ -152,6 +153,30 @@ impl<A: Places> Keeper<A> {
         match &self.mark {
             Some(mark) => Some(mark.again()),
             None => None,
+        }
+    }
+
+    /// Has the sector of that number begin its next window, with what is given for it or else over
+    /// its cells, and with the mark of what the keeper knows, where it rested by this mark: nothing
+    /// is recorded in its window, which had that mark. Else it stays as it is. No clause tells which
+    /// of the two: one that stays is not known to the next tick.
+    pub fn lead_on(
+        &self,
+        at: usize,
+        marked: &mut Marked<A>,
+        was: &Mark<Known, A>,
+        next: Option<Fresh>,
+    )
+        requires { (before : WorldData) × (was.now ≡ Some before)
+            × IsLed before self.now.world at next }
+        ensures { count_of marked.new ≡ count_of marked.old }
+    {
+        if !is_quiet(marked.sector(), at) || !marked.has(was) {
+            return;
+        }
+        match next {
+            Some(fresh) => self.renew(at, marked, fresh),
+            None => marked.go_on(self.version().tick, self.mark()),
         }
     }
 
@@ -313,6 +338,83 @@ impl<A: Places> Keeper<A> {
         told
     }
 
+    /// Makes all that the tick takes of a world in which nothing is recorded since the last one, so
+    /// that each sector rests as the keeper has it. It costs what the machines change, and where
+    /// that is nothing it looks at no sector. The sectors are worked by 1 to 8 threads.
+    pub fn ready_at_rest<R: Threads + Sync, G: Gate + Sync>(
+        &mut self,
+        rt: &R,
+        alloc: Global,
+        workers: usize,
+        gate: &G,
+    ) -> Result<ReadyAtRest, TickError>
+        requires workers { (0 < workers) × (workers ≤ MAX_WORKERS) }
+        ensures ready { IfOk result (CanCloseAtRest A.first self.new) }
+        ensures room { OnOk result (self.new.is_roomy ≡ true) }
+        ensures kept { KnowsAsBefore self.old self.new }
+        ensures refused { IfErr result (λ error. (error ≡ NoView) ⊎ (error ≡ NoMemory)) }
+    {
+        let version = self.fix()?;
+        let archive = &mut self.archive;
+        archive.reserve()?;
+        let (plan, watch) = self.planned(rt, alloc, workers, gate)?;
+        self.soundness();
+        let is_same_policy = self.known.version().edits == version.edits;
+        Ok(ReadyAtRest::new(
+            alloc,
+            &self.known,
+            version,
+            is_same_policy,
+            Work { plan, watch },
+        )?)
+    }
+
+    /// Makes the tick of a world in which nothing is recorded since the last one: adds it to the
+    /// chronicle, with a window without entries for each sector, and goes on to the map after it. It
+    /// hands out what becomes of the moves, and what the next window of each sector begins with;
+    /// nothing for one that goes on over its cells. It takes no memory.
+    pub fn close_at_rest(
+        &mut self,
+        alloc: Global,
+        ready: ReadyAtRest,
+    ) -> (Vec<(Pos, Fate)>, Vec<Option<Fresh>>)
+        requires more { length self.old.chronicle.ticks < most_ticks }
+        requires room { self.old.is_roomy ≡ true }
+        requires ready { CanCloseAtRest A.first self.old ready }
+        ensures chronicle { self.new.chronicle ≡ chronicle_next self.old (resting self.old) }
+        ensures counts { self.new.counts ≡ self.old.counts }
+        ensures world { self.new.world ≡ record {
+          map = map_next self.old (resting self.old);
+          version = version_next A.first self.old;
+        } }
+        ensures seen { self.new.seen ≡ self.old.seen }
+        ensures fates { result.0.items ≡ fates_next self.old (resting self.old) }
+        ensures led { AreLed A.all self.old.world self.new.world result.1.items }
+    {
+        self.soundness();
+        let ReadyAtRest {
+            version,
+            fates,
+            told,
+            watch,
+            changes,
+            fresh,
+        } = ready;
+        let before = self.archive.ticks().len() as u64;
+        let sectors = self.archive.counts().len();
+        let was = self.known.go_on(changes, version);
+        self.archive.add(Tick {
+            number: before + 1,
+            version: was,
+            windows: ClosedWindows::none(alloc, sectors),
+            fates,
+        });
+        let mark = self.stamper.mark(&self.known);
+        self.watch = Some(watch);
+        self.mark = mark;
+        (told, fresh)
+    }
+
     /// What holds of every keeper.
     pub fn soundness(&self)
         ensures { IsKeeper A.first A.all self.now }
@@ -411,12 +513,52 @@ impl<A: Places> Keeper<A> {
         None
     }
 
+    // Has the sector of that number, which rested by this mark, begin its next window with this, if
+    // it is of the size of the world.
+    fn renew(&self, at: usize, marked: &mut Marked<A>, fresh: Fresh)
+        requires quiet { IsQuietAt marked.old at }
+        requires begun { IsBegun self.now.world at fresh }
+        ensures { count_of marked.new ≡ count_of marked.old }
+    {
+        self.soundness();
+        if has_size(marked.sector(), self.known.bounds()) {
+            marked.renew(fresh, self.mark());
+        }
+    }
+
     // What is kept of the map as the windows began. It is kept no more then.
     fn take_watch(&mut self) -> Option<Watch>
         ensures same { self.new ≡ self.old }
         ensures watch { IfSome result (IsWatch self.old.world.map) }
     {
         self.watch.take()
+    }
+
+    // What the next tick does where nothing is recorded since the last one. What was kept of the
+    // map is kept no more then.
+    fn planned<R: Threads + Sync, G: Gate + Sync>(
+        &mut self,
+        rt: &R,
+        alloc: Global,
+        workers: usize,
+        gate: &G,
+    ) -> Result<(Plan, Watch), AllocError>
+        requires workers { (0 < workers) × (workers ≤ MAX_WORKERS) }
+        ensures same { self.new ≡ self.old }
+        ensures planned { IfOk result (IsPlanned self.old.world.version.policy self.old.world.map) }
+    {
+        let watch = self.take_watch();
+        let map = self.known.frozen();
+        plan_parts(
+            rt,
+            alloc,
+            &map,
+            self.known.version(),
+            watch,
+            &[],
+            workers,
+            gate,
+        )
     }
 
     // What the next tick does by what was kept of the map, where all sectors are what the keeper
@@ -454,6 +596,21 @@ impl<A: Places> Keeper<A> {
         )?;
         Ok(Work { plan, watch })
     }
+}
+
+// Whether the sector has this number, and nothing is recorded in its window.
+fn is_quiet(sector: &Sector, at: usize) -> bool
+    ensures { result ≡ true → IsQuietAt sector.now at }
+{
+    is_sector(sector);
+    sector.entries().is_empty() && is_at(sector, at)
+}
+
+// Whether the sector is one of a world of this size.
+fn has_size(sector: &Sector, bounds: Bounds) -> bool
+    ensures { result ≡ true → sector.now.cells.bounds ≡ bounds }
+{
+    sector.cells().bounds() == bounds
 }
 
 // Whether the sector has this number.

@@ -1,10 +1,11 @@
 ghost use Rattle.std.specs.Bool.{Decides};
-ghost use Rattle.std.specs.Prelude.{◌≡◌, ◌<◌, ◌≤◌, length, slice_index_or};
+ghost use Rattle.std.specs.Prelude.{◌≡◌, ◌<◌, ◌≤◌, length, map, slice_index_or, IfOk};
 ghost use Rattle.vx_cells.specs.Maps.{AreSectors};
 ghost use Rattle.vx_cells.specs.SectorCells.{only_air};
 ghost use Rattle.vx_windows.specs.Sectors.{with_changes};
 ghost use Rattle.vx_record.specs.Settling.{BeganWith};
 
+use std::alloc::{AllocError, Global};
 use std::marker::Model;
 use std::mem;
 use vx_cells::{Cells, Frozen};
@@ -70,6 +71,17 @@ impl Known {
         ensures { result ≡ self.now.map }
     {
         Frozen::new(self.bounds, &self.cells)
+    }
+
+    /// The cells of each sector as its window began, in order, where they stand: none are copied.
+    pub fn cells(&self, alloc: Global) -> Result<Vec<&Cells>, AllocError>
+        ensures { IfOk result (λ cells. map (λ c. c.now) cells.items ≡ self.now.map.sectors) }
+    {
+        let mut cells = Vec::with_capacity(alloc, self.cells.len())?;
+        for sector in &self.cells {
+            cells.push(sector)?;
+        }
+        Ok(cells)
     }
 
     /// The version that judges the windows.

@@ -1,11 +1,12 @@
-ghost use Rattle.std.specs.Prelude.{◌≡◌, ◌≢◌, ◌⊎◌, ◌↔◌, ◌+◌, ◌<◌, length, true, if◌then◌else◌, Ok, Err, Some, IfOk};
+ghost use Rattle.std.specs.Prelude.{◌≡◌, ◌≢◌, ◌⊎◌, ◌↔◌, ◌+◌, ◌<◌, length, [], true, if◌then◌else◌, Ok, Err, Some, IfOk};
 ghost use Rattle.vx_block.specs.Part.{part_cell};
 ghost use Rattle.vx_cells.specs.SectorCells.{holds};
 ghost use Rattle.vx_sector.specs.Commands.{place_of};
 ghost use Rattle.vx_sector.specs.SectorData.{seat_of};
-ghost use Rattle.vx_sector.specs.Windows.{answer_of, is_full, is_recorded, sector_after, put_in, CanTamper};
+ghost use Rattle.vx_sector.specs.Windows.{answer_of, is_full, is_recorded, renewed, sector_after, put_in, CanTamper};
+ghost use Rattle.vx_windows.specs.Sectors.{IsOf};
 ghost use Rattle.vx_record.specs.Calls.{calls_in, lists_after};
-ghost use Rattle.vx_keeper.specs.Marks.{WorldData, IsMarkOf, IsPartOf};
+ghost use Rattle.vx_keeper.specs.Marks.{WorldData, IsMarkOf, IsPartOf, gone_on};
 
 use crate::known::Known;
 use crate::places::Places;
@@ -14,7 +15,7 @@ use std::marker::Model;
 use vx_block::Part;
 use vx_geom::Pos;
 use vx_record::Lists;
-use vx_sector::{Cmd, Refusal, Reply, Seat, Sector};
+use vx_sector::{Cmd, Fresh, Refusal, Reply, Seat, Sector};
 use vx_stamp::Mark;
 
 /// A sector with the mark of a world of which its window began with its part.
@@ -94,6 +95,28 @@ impl<A: Places> Marked<A> {
         ensures full { (result ≡ Err Refusal.HistoryFull) ↔ (is_full self.old ≡ true) }
     {
         lists.carry_out(at, &mut self.sector, seat, cmd)
+    }
+
+    /// Begins the next window of a sector in which nothing was recorded, as `Sector::go_on` does,
+    /// with another mark, if there is one.
+    pub fn go_on(&mut self, tick: u64, mark: Option<Mark<Known, A>>)
+        requires quiet { self.old.entries ≡ [] }
+        requires mark { IsMarkOf mark (gone_on self.old tick) }
+        ensures { self.new ≡ gone_on self.old tick }
+    {
+        self.sector.go_on(tick);
+        self.mark = mark;
+    }
+
+    /// Begins the next window of a sector in which nothing was recorded, as `Sector::renew` does,
+    /// with another mark, if there is one.
+    pub fn renew(&mut self, fresh: Fresh, mark: Option<Mark<Known, A>>)
+        requires of { IsOf self.old fresh }
+        requires mark { IsMarkOf mark (renewed self.old fresh) }
+        ensures { self.new ≡ renewed self.old fresh }
+    {
+        let _none = self.sector.renew(fresh);
+        self.mark = mark;
     }
 
     /// Puts a part down in base and cells, as `Sector::tamper` does. The mark goes.

@@ -13,7 +13,8 @@ pub fn are_sectors(sectors: &[Sector])
     }
 }
 
-fn is_sector(sector: &Sector)
+/// What holds of one sector.
+pub fn is_sector(sector: &Sector)
     ensures { IsSector sector.now }
 {
     let _cells = sector.cells();

@@ -1,5 +1,5 @@
 -- Counts of the entries of each sector, with one tick more.
-use Rattle.std.proofs.Common.{◌≡◌, ℕ, zero, suc, ◌+◌, ◌≤◌, ◌<◌, List, [], ◌∷◌, ◌++◌, length, map, get_or, replicate, refl, sym, ap, ◌∙◌, arith, length-append, add_comm, subst, take}
+use Rattle.std.proofs.Common.{◌≡◌, ℕ, zero, suc, ◌+◌, ◌≤◌, ◌<◌, List, [], ◌∷◌, ◌++◌, length, map, get_or, replicate, refl, sym, ap, ◌∙◌, arith, length-append, add_comm, subst}
 use Rattle.std.proofs.Math.ListN.{set}
 use Rattle.std.specs.List.{All, sum, sum_by}
 use Rattle.std.proofs.lemmas.List.Sums.{sum_by-cons}
@@ -14,9 +14,26 @@ use Rattle.vx_record.specs.Said.{window_at, closed_at}
 use Rattle.vx_record.specs.Archives.{closed_of, IsCounted, IsArchive, IsNextTick, calls_on, next_counts, CountsGoOn, CountsAgreeAgain}
 use Rattle.vx_record.proofs.Fronts.{closed_more}
 
-pub next_none : (counts : List ℕ) → next_counts counts [] ≡ counts
-next_none [] = refl
-next_none (n ∷ counts) = refl
+-- windows without entries leave the counts as they were
+pub next_empty : (counts : List ℕ) → next_counts counts (replicate (length counts) []) ≡ counts
+next_empty [] = refl
+next_empty (n ∷ counts) = λ i. n_more i ∷ next_empty counts i
+  where
+    n_more : n + 0 ≡ n
+    n_more = omega arith
+
+-- the entries of one window in the place of none
+pub next_set : (counts : List ℕ) (windows : List (List EntryData)) (k : ℕ) (window : List EntryData)
+    → k < length counts → k < length windows → get_or windows k [] ≡ []
+    → next_counts counts (set windows k window)
+    ≡ set (next_counts counts windows) k (get_or (next_counts counts windows) k 0 + length window)
+next_set [] windows k window within near empty = absurd (omega (arith, within))
+next_set (n ∷ counts) [] k window within near empty = absurd (omega (arith, near))
+next_set (n ∷ counts) (first ∷ windows) zero window within near empty =
+    ap (λ m. m ∷ next_counts counts windows) (omega (arith, ap length empty))
+next_set (n ∷ counts) (first ∷ windows) (suc k) window within near empty =
+    ap (λ rest. (n + length first) ∷ rest)
+    (next_set counts windows k window (omega (arith, within)) (omega (arith, near)) empty)
 
 -- there are as many counts as before
 pub length_next : (counts : List ℕ) (windows : List (List EntryData))
@@ -32,43 +49,6 @@ next_at [] windows k within = absurd (omega arith)
 next_at (n ∷ counts) [] k within = omega arith
 next_at (n ∷ counts) (window ∷ windows) zero within = refl
 next_at (n ∷ counts) (window ∷ windows) (suc k) within = next_at counts windows k (omega arith)
-
--- the entries of one window more
-pub next_more : (counts : List ℕ) (windows : List (List EntryData)) (window : List EntryData)
-    → next_counts counts (windows ++ window ∷ [])
-    ≡ set (next_counts counts windows) (length windows)
-    (get_or (next_counts counts windows) (length windows) 0 + length window)
-next_more [] windows window = refl
-next_more (n ∷ counts) [] window = ap (λ rest. (n + length window) ∷ rest) (next_none counts)
-next_more (n ∷ counts) (first ∷ windows) window =
-    ap (λ rest. (n + length first) ∷ rest) (next_more counts windows window)
-
--- the same where the number of the window is told
-pub next_more_at : (counts : List ℕ) (windows : List (List EntryData)) (window : List EntryData)
-    (k : ℕ) → length windows ≡ k
-    → next_counts counts (windows ++ window ∷ [])
-    ≡ set (next_counts counts windows) k (get_or (next_counts counts windows) k 0 + length window)
-next_more_at counts windows window k long =
-    subst (λ n. next_counts counts (windows ++ window ∷ [])
-    ≡ set (next_counts counts windows) n (get_or (next_counts counts windows) n 0 + length window))
-    long (next_more counts windows window)
-
--- no window so far has changed the count at hand
-pub not_yet : (counts : List ℕ) (windows : List (List EntryData)) (k : ℕ)
-    → get_or (next_counts counts (take k windows)) k 0 ≡ get_or counts k 0
-not_yet [] windows k = refl
-not_yet (n ∷ counts) windows zero = refl
-not_yet (n ∷ counts) [] (suc k) = refl
-not_yet (n ∷ counts) (window ∷ windows) (suc k) = not_yet counts windows k
-
--- so its entries have room where each count has in the end
-pub fits_at : (counts : List ℕ) (windows : List (List EntryData)) (k : ℕ) → k < length counts
-    → All (λ n. n ≤ most_entries) (next_counts counts windows)
-    → get_or (next_counts counts (take k windows)) k 0 + length (get_or windows k []) ≤ most_entries
-fits_at counts windows k within most =
-    let here : k < length (next_counts counts windows) =
-    omega (arith, length_next counts windows) in
-    omega (arith, most k 0 here, next_at counts windows k within, not_yet counts windows k)
 
 -- with one tick more, each count is still the number of that sector's entries
 pub counted_more : (counts : List ℕ) (ticks : List TickData) (tick : TickData)

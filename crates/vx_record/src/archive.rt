@@ -7,7 +7,6 @@ ghost use Rattle.vx_record.specs.Archives.{next_counts};
 
 use crate::call::Call;
 use crate::chronicle::Chronicle;
-use crate::closed_windows::ClosedWindows;
 use crate::opening::Opening;
 use crate::saying::says;
 use crate::tick::Tick;
@@ -83,7 +82,7 @@ impl Archive {
         } }
         ensures counts { self.new.counts ≡ next_counts self.old.counts (tick_in tick).windows }
     {
-        add_counts(&mut self.counts, &tick.windows);
+        tick.windows.count_into(&mut self.counts);
         self.chronicle.ticks.push_reserved(tick);
     }
 
@@ -160,15 +159,4 @@ fn zeros(alloc: Global, count: usize) -> Result<Vec<u64>, AllocError>
     let mut counts = Vec::with_capacity(alloc, count)?;
     counts.resize(count, 0)?;
     Ok(counts)
-}
-
-// Counts the entries of further windows, one for each sector.
-fn add_counts(counts: &mut [u64], windows: &ClosedWindows)
-    requires each { length windows.now ≡ length counts.old }
-    requires most { All (λ n. n ≤ most_entries) (next_counts counts.old windows.now) }
-    ensures { counts.new ≡ next_counts counts.old windows.now }
-{
-    for at in 0..windows.count() {
-        counts[at] += windows.window(at).len() as u64;
-    }
 }

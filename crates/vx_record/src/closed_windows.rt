@@ -1,10 +1,13 @@
 ghost use Rattle.std.specs.List.{All};
-ghost use Rattle.std.specs.Prelude.{◌≡◌, ◌≤◌, true, map, length, slice_index_or, vec_capacity, []};
+ghost use Rattle.std.specs.Prelude.{◌≡◌, ◌≤◌, true, map, length, replicate, slice_index_or, vec_capacity, []};
 ghost use Rattle.vx_sector.specs.SectorData.{entry_of};
+ghost use Rattle.vx_sector.specs.Windows.{most_entries};
 ghost use Rattle.vx_windows.specs.Sectors.{entries_in};
+ghost use Rattle.vx_record.specs.Archives.{next_counts};
 ghost use Rattle.vx_record.specs.Kept.{busy_count};
 
 use crate::kept_window::KeptWindow;
+use std::alloc::Global;
 use std::marker::Model;
 use vx_sector::Entry;
 
@@ -48,6 +51,16 @@ impl ClosedWindows {
         ClosedWindows { sectors, kept }
     }
 
+    /// The windows of so many sectors, of which none has an entry. It takes no memory.
+    pub fn none(alloc: Global, sectors: usize) -> ClosedWindows
+        ensures { result ≡ replicate sectors [] }
+    {
+        ClosedWindows {
+            sectors,
+            kept: Vec::new(alloc),
+        }
+    }
+
     /// How many windows there are.
     pub fn count(&self) -> usize
         ensures { result ≡ length self.now }
@@ -85,6 +98,18 @@ impl ClosedWindows {
     {
         for window in &self.kept {
             places[window.sector] = &window.entries;
+        }
+    }
+
+    /// Counts the entries of each window, beside those that are counted for its sector already. It
+    /// goes to those alone that have entries.
+    pub(crate) fn count_into(&self, counts: &mut [u64])
+        requires each { length self.now ≡ length counts.old }
+        requires most { All (λ n. n ≤ most_entries) (next_counts counts.old self.now) }
+        ensures { counts.new ≡ next_counts counts.old self.now }
+    {
+        for window in &self.kept {
+            counts[window.sector] += window.entries.len() as u64;
         }
     }
 }

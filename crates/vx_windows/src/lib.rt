@@ -9,5 +9,5 @@ mod writes;
 
 pub use changes::{all_fresh, cells_after, change_all, fresh_over, put_in_changes};
 pub use limits::{MAX_PLAYERS, MAX_TICKS};
-pub use windows::{cells_of, open_sectors, renew, renew_sectors};
-pub use writes::{add_written, written};
+pub use windows::{cells_of, open_sectors, renew_sectors};
+pub use writes::written;

@@ -60,10 +60,9 @@ pub fn renew_sectors(
     windows
 }
 
-/// Begins the next window of a sector with this, and hands out the record of the window that this
-/// closes. Where there is nothing it goes on over its cells as they are, by the same policy under
-/// this number. It takes no memory.
-pub fn renew(alloc: Global, sector: &mut Sector, next: Option<Fresh>, tick: u64) -> Vec<Entry>
+// Begins the next window of a sector with this, or goes on over its cells as they are, by the same
+// policy under this number, where nothing was recorded.
+fn renew(alloc: Global, sector: &mut Sector, next: Option<Fresh>, tick: u64) -> Vec<Entry>
     requires fresh { IsOf sector.old (next_of tick sector.old next) }
     requires quiet { next ≡ None → sector.old.entries ≡ [] }
     ensures renewed { sector.new ≡ renewed sector.old (next_of tick sector.old next) }

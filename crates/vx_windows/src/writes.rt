@@ -25,9 +25,8 @@ pub fn written(alloc: Global, sectors: &[Sector]) -> Result<Vec<Pos>, AllocError
     Ok(places)
 }
 
-/// Adds the positions at which the commands of the window of this sector have left another cell. It
-/// costs what was recorded.
-pub fn add_written(places: &mut Vec<Pos>, sector: &Sector) -> Result<(), AllocError>
+// Adds those of one sector.
+fn add_written(places: &mut Vec<Pos>, sector: &Sector) -> Result<(), AllocError>
     ensures { OnOk result ((p : Pos) → has places.new.items p ≡ false
         → (has places.old.items p ≡ false) × IsSpared p sector.now) }
 {

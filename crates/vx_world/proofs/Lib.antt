@@ -4,4 +4,5 @@ mod Numbers
 mod Opened
 mod Parts
 mod Settled
+mod Since
 mod Ticked

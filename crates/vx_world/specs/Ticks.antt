@@ -27,10 +27,3 @@ pub record IsTickOf (first : Regions) (all : ℕ) (before : KeeperData) (sectors
 abbrev pub HasTicked : Regions → ℕ → KeeperData → List (Pos × Fate) → KeeperData → Type 0
 HasTicked first all before fates after = (sectors : List SectorData)
     × IsTickOf first all before sectors after × (fates ≡ fates_next before sectors)
-
--- the keeper knows what it knew, though it may have seen more edits
-pub record KnowsAsBefore (before after : KeeperData) : Type 0 where
-  pub chronicle : after.chronicle ≡ before.chronicle
-  pub counts : after.counts ≡ before.counts
-  pub world : after.world ≡ before.world
-  pub seen : IsPrefix before.seen after.seen

@@ -1,9 +1,10 @@
-ghost use Rattle.std.specs.Prelude.{◌≡◌, ◌≢◌, ◌⊎◌, ◌↔◌, ◌+◌, ◌<◌, true, false, if◌then◌else◌, Err};
+ghost use Rattle.std.specs.Prelude.{◌≡◌, ◌≢◌, ◌⊎◌, ◌↔◌, ◌+◌, ◌<◌, [], true, false, if◌then◌else◌, Some, Err};
 ghost use Rattle.vx_cells.specs.SectorCells.{holds};
 ghost use Rattle.vx_sector.specs.Commands.{place_of};
 ghost use Rattle.vx_sector.specs.SectorData.{seat_of};
 ghost use Rattle.vx_sector.specs.Windows.{answer_of, count_of, is_recorded, sector_after};
 ghost use Rattle.vx_record.specs.Calls.{lists_after};
+ghost use Rattle.vx_keeper.specs.Marks.{IsLed, IsPartOf, WorldData};
 ghost use Rattle.vx_world.specs.Numbered.{IsSectorOf};
 
 use crate::books::Books;
@@ -14,9 +15,10 @@ use std::sync::ledger::Share;
 use std::sync::{Mutex, Wait};
 use vx_block::Part;
 use vx_geom::{Bounds, Pos};
-use vx_keeper::{Marked, Places};
+use vx_keeper::{Keeper, Known, Marked, Places};
 use vx_record::is_recorded;
-use vx_sector::{Cmd, Refusal, Reply};
+use vx_sector::{Cmd, Fresh, Refusal, Reply};
+use vx_stamp::Mark;
 
 /// A sector that is at home, with its share of the ledger, which is as many entries as it has, in
 /// closed windows too.
@@ -48,6 +50,29 @@ impl<A: Places> Home<A> {
         (marked, share)
     }
 
+    /// Whether it is known to rest: nothing is recorded in its window, which the keeper has marked.
+    pub fn rests(&self, keeper: &Keeper<A>) -> bool
+        ensures { result ≡ true → (self.now.marked.entries ≡ [])
+            × IsPartOf keeper.now.world self.now.marked }
+    {
+        self.marked.sector().entries().is_empty() && keeper.has_marked(&self.marked)
+    }
+
+    /// Has it begin its next window with this, or else over its cells, where it is the sector of that
+    /// number and rested by this mark.
+    pub fn lead_on(
+        &mut self,
+        at: usize,
+        keeper: &Keeper<A>,
+        was: &Mark<Known, A>,
+        next: Option<Fresh>,
+    )
+        requires { (before : WorldData) × (was.now ≡ Some before)
+            × IsLed before keeper.now.world at next }
+    {
+        keeper.lead_on(at, &mut self.marked, was, next);
+    }
+
     /// Whether the sector holds the position.
     pub fn holds(&self, p: Pos) -> bool
         ensures { result ≡ holds self.now.marked.cells p }
@@ -63,8 +88,9 @@ impl<A: Places> Home<A> {
         cells.sector() == number && cells.bounds() == *bounds
     }
 
-    /// Carries out a command at a position of the sector from the pass's seat, and puts it with its answer on the pass's list
-    /// of that number, where the sector records it. Then it counts in both shares.
+    /// Carries out a command at a position of the sector from the pass's seat, and puts it with its
+    /// answer on the pass's list of that number, where the sector records it. Then it counts in both
+    /// shares.
     pub fn act<B: Seats, R: Wait>(
         &mut self,
         rt: &R,

@@ -1,12 +1,14 @@
 ghost use Rattle.std.specs.Prelude.{◌≡◌, ◌↔◌, Some, true};
+ghost use Rattle.vx_keeper.specs.Marks.{IsLed, WorldData};
 ghost use Rattle.vx_world.specs.Settlements.{IsHome, IsHomeOf, sector_here};
 
 use crate::home::Home;
 use std::mem;
 use vx_geom::{Bounds, Pos};
-use vx_keeper::{Keeper, Places};
+use vx_keeper::{Keeper, Known, Places};
 use vx_record::Place;
-use vx_sector::Sector;
+use vx_sector::{Fresh, Sector};
+use vx_stamp::Mark;
 
 /// What stands under the lock of a sector: the sector at home, or nothing while it is away.
 pub struct Slot<A: Places> {
@@ -44,6 +46,31 @@ impl<A: Places> Slot<A> {
         match &self.home {
             Some(home) => home.is_sector(bounds, number),
             None => false,
+        }
+    }
+
+    /// Whether a sector is at home that is known to rest. Only costs rest on the answer.
+    pub fn rests(&self, keeper: &Keeper<A>) -> bool {
+        match &self.home {
+            Some(home) => home.rests(keeper),
+            None => false,
+        }
+    }
+
+    /// Has the sector at home begin its next window with this, or else over its cells, where it is
+    /// the one of that number and rested by this mark.
+    pub fn lead_on(
+        &mut self,
+        at: usize,
+        keeper: &Keeper<A>,
+        was: &Mark<Known, A>,
+        next: Option<Fresh>,
+    )
+        requires { (before : WorldData) × (was.now ≡ Some before)
+            × IsLed before keeper.now.world at next }
+    {
+        if let Some(home) = &mut self.home {
+            home.lead_on(at, keeper, was, next);
         }
     }
 

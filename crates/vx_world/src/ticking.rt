@@ -4,9 +4,10 @@ ghost use Rattle.std.specs.Prelude.{◌≡◌, ℕ, ◌↔◌, ◌<◌, ◌≤�
 ghost use Rattle.vx_step.specs.declared.workers.TheConstants.{MAX_WORKERS};
 ghost use Rattle.vx_windows.specs.Limits.{most_ticks};
 ghost use Rattle.vx_sector.specs.Windows.{count_of};
+ghost use Rattle.vx_keeper.specs.Keepers.{KnowsAsBefore};
 ghost use Rattle.vx_keeper.specs.Marks.{AreParts, IsPartOf};
 ghost use Rattle.vx_keeper.specs.declared.tick_error.TickError.TheVariants.{HistoryFull, Torn};
-ghost use Rattle.vx_world.specs.Ticks.{HasTicked, KnowsAsBefore};
+ghost use Rattle.vx_world.specs.Ticks.{HasTicked};
 
 use crate::home::Home;
 use crate::seats::Seats;

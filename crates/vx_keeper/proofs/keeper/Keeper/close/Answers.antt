@@ -2,7 +2,7 @@ use Rattle.std.proofs.Common.{◌≡◌, ◌+◌, ◌≤◌, List, [], ◌∷◌
 use Rattle.std.specs.List.{All}
 use Rattle.std.specs.Vec.{vec_capacity}
 use Rattle.std.proofs.lemmas.List.{length-map}
-use Rattle.std.proofs.lemmas.List.Elements.{All-same}
+use Rattle.std.proofs.lemmas.List.Elements.{All-map, All-same}
 use Rattle.vx_geom.specs.Sizes.{sector_count}
 use Rattle.vx_cells.specs.Maps.{AreSectors, MapData}
 use Rattle.vx_cells.specs.Wholes.{IsMap}
@@ -187,7 +187,8 @@ module _ (g : Over) (c : goal.Joined-self-mark g) where
       })
       (keeps first many k c.soundness.ensures ss c.are_sectors.ensures held (map count_of ss) c.args.ready.version
       c.add.new.self.is_roomy archive (length-map ss count_of ∙ c.requires.each)
-      c.requires.ready.version c.requires.more next_whole next_each)
+      c.requires.ready.version c.requires.more next_whole next_each
+      (All-map (λ n. n ≤ most_entries) count_of ss (λ j d within. (c.are_sectors.ensures j d within).most)))
 
 pub invariant_of-self : goal.invariant_of-self
 invariant_of-self g c = (

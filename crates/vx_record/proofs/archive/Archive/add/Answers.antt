@@ -6,8 +6,8 @@ use Rattle.vx_record.specs.Archives.{ArchiveData, IsArchive, IsNextTick, next_co
 use Rattle.vx_record.proofs.Counting.{archive_grown}
 use Rattle.vx_record.proofs.archive.Archive.add.Goals as goal
 
-pub add_counts-requires-clause-each : goal.add_counts-requires-clause-each
-add_counts-requires-clause-each c =
+pub count_into-requires-clause-each : goal.count_into-requires-clause-each
+count_into-requires-clause-each c =
     c.requires.each
     ∙ sym (ap (λ (a : ArchiveData). length a.counts) c.self.view_is) ∙ sym (ap length c.deref_mut.ensures.value)
 
@@ -16,7 +16,7 @@ invariant_of-self c =
     let was = chronicle_in c.self.inside.chronicle in
     let before = c.self.inside.counts in
     let tick = tick_in c.args.tick in
-    let new = c.add_counts.new.counts in
+    let new = c.count_into.new.counts in
     let next : IsNextTick was tick =
     subst (λ (a : ArchiveData). IsNextTick a.chronicle tick) (sym c.self.view_is) c.requires.next in
     let many : length tick.windows ≡ length before.items =
@@ -24,8 +24,8 @@ invariant_of-self c =
     let counts : next_counts before.items tick.windows
     ≡ take before.len (new ++ drop (length new) before.items) =
     ap (λ ns. next_counts ns tick.windows) (sym c.deref_mut.ensures.value)
-    ∙ sym c.add_counts.ensures
-    ∙ sym (take_at new (drop (length new) before.items) before.len (omega (arith, c.add_counts.auto.counts, c.deref_mut.ensures.len))) in
+    ∙ sym c.count_into.ensures
+    ∙ sym (take_at new (drop (length new) before.items) before.len (omega (arith, c.count_into.auto.counts, c.deref_mut.ensures.len))) in
     let ticks : was.ticks ++ tick ∷ [] ≡ map tick_in c.push_reserved.new.self.items =
     sym (map-append tick_in c.self.inside.chronicle.ticks.items (c.args.tick ∷ []))
     ∙ ap (map tick_in) (sym c.push_reserved.ensures.items) in

@@ -1,0 +1,101 @@
+ghost use Rattle.std.specs.Prelude.{◌≡◌, true, None, IfOk, length, map, replicate};
+ghost use Rattle.vx_keeper.specs.Readiness.{AreNext, IsReadyAtRest};
+
+use crate::known::Known;
+use crate::work::Work;
+use std::alloc::{AllocError, Global};
+use vx_cells::Cells;
+use vx_geom::Pos;
+use vx_policy::Version;
+use vx_sector::Fresh;
+use vx_still::Watch;
+use vx_tick::Fate;
+use vx_windows::{fresh_over, put_in_changes};
+
+/// All that the tick takes of a world in which nothing is recorded since the last one. It is made
+/// before the tick, since making it takes memory and closing windows does not.
+#[derive(Drop)]
+pub struct ReadyAtRest {
+    pub(crate) version: Version,
+    pub(crate) fates: Vec<(Pos, Fate)>,
+    // A copy of the fates, one for the chronicle and one for whoever asks for the tick.
+    pub(crate) told: Vec<(Pos, Fate)>,
+    pub(crate) watch: Watch,
+    // For each sector, its cells after the tick and the window over them; nothing for those that go
+    // on as they are, and no list where all do.
+    pub(crate) changes: Vec<Option<Cells>>,
+    pub(crate) fresh: Vec<Option<Fresh>>,
+}
+
+impl ReadyAtRest {
+    /// What the tick takes that was worked of the world that is known, whose next windows this
+    /// version judges. If it is the one that judges their windows, but for its number, what is made
+    /// costs what the tick puts down.
+    pub(crate) fn new(
+        alloc: Global,
+        known: &Known,
+        version: Version,
+        is_same_policy: bool,
+        work: Work,
+    ) -> Result<ReadyAtRest, AllocError>
+        requires { is_same_policy ≡ true
+            → record known.now.version { tick = version.tick } ≡ version }
+        ensures { IfOk result (IsReadyAtRest known.now work version) }
+    {
+        let Work { plan, watch } = work;
+        let told = plan.fates.as_slice().to_vec(alloc)?;
+        if is_same_policy && plan.puts.is_empty() {
+            return Ok(ReadyAtRest {
+                version,
+                fates: plan.fates,
+                told,
+                watch,
+                changes: Vec::new(alloc),
+                fresh: Vec::new(alloc),
+            });
+        }
+        known.soundness();
+        let cells = known.cells(alloc)?;
+        let mut changes = nothing(alloc, cells.len())?;
+        put_in_changes(known.bounds(), &cells, &mut changes, plan.puts.as_slice())?;
+        let fresh = all_next(alloc, &cells, &changes, &version, is_same_policy)?;
+        Ok(ReadyAtRest {
+            version,
+            fates: plan.fates,
+            told,
+            watch,
+            changes,
+            fresh,
+        })
+    }
+}
+
+// Nothing for so many sectors.
+fn nothing(alloc: Global, count: usize) -> Result<Vec<Option<Cells>>, AllocError>
+    ensures { IfOk result (λ changes. changes.items ≡ replicate count None) }
+{
+    let mut changes = Vec::with_capacity(alloc, count)?;
+    for _ in 0..count {
+        changes.push(None)?;
+    }
+    Ok(changes)
+}
+
+// What each sector begins its next window with.
+fn all_next(
+    alloc: Global,
+    cells: &[&Cells],
+    changes: &[Option<Cells>],
+    version: &Version,
+    is_same_policy: bool,
+) -> Result<Vec<Option<Fresh>>, AllocError>
+    requires { length changes.now ≡ length cells.now }
+    ensures { IfOk result (λ all. AreNext version.now is_same_policy
+        (map (λ c. c.now) cells.now) changes.now all.items) }
+{
+    let mut all = Vec::with_capacity(alloc, cells.len())?;
+    for at in 0..cells.len() {
+        all.push(fresh_over(alloc, cells[at], &changes[at], version, is_same_policy)?)?;
+    }
+    Ok(all)
+}

@@ -1,0 +1,72 @@
+-- Ticks of a keeper that knows what it knew, and of a world that rests.
+use Rattle.std.proofs.Common.{◌≡◌, ℕ, ◌+◌, List, [], ◌++◌, length, append_assoc, append-nil, sym, ap, subst, ◌∙◌}
+use mathlib.Core.List.{IsPrefix}
+use Rattle.vx_geom.specs.declared.pos.Pos.{Pos}
+use Rattle.vx_region.specs.Regions.{Regions}
+use Rattle.vx_tick.specs.declared.fate.Fate.{Fate}
+use Rattle.vx_record.specs.Chronicles.{version_by}
+use Rattle.vx_keeper.specs.Keepers.{IsKeeper, KeeperData, KnowsAsBefore, chronicle_next, fates_next, map_next, resting, version_next}
+use Rattle.vx_keeper.specs.Marks.{WorldData}
+use Rattle.vx_keeper.proofs.Resting.{rest_counts, rest_each, rest_known}
+use Rattle.vx_world.specs.Ticks.{HasTicked}
+
+-- a list that begins one which begins a third begins that
+begins_on : {X : Type 0} (xs ys zs : List X) → IsPrefix xs ys → IsPrefix ys zs → IsPrefix xs zs
+begins_on xs ys zs before after =
+    (before.0 ++ after.0, sym (append_assoc xs before.0 after.0) ∙ ap (λ vs. vs ++ after.0) before.1 ∙ after.1)
+
+-- the keeper still knows what it knew
+pub knew : (a b c : KeeperData) → KnowsAsBefore a b → KnowsAsBefore b c → KnowsAsBefore a c
+knew a b c first then = record {
+  chronicle = then.chronicle ∙ first.chronicle;
+  counts = then.counts ∙ first.counts;
+  world = then.world ∙ first.world;
+  seen = begins_on a.seen b.seen c.seen first.seen then.seen;
+}
+
+-- a tick of a keeper is one of what it was before it saw more edits
+pub ticked_since : (first : Regions) (all : ℕ) (a b c : KeeperData) (fates : List (Pos × Fate)) → KnowsAsBefore a b
+    → HasTicked first all b fates c → HasTicked first all a fates c
+ticked_since first all a b c fates same ticked =
+    let here : b ≡ record a { seen = b.seen; is_roomy = b.is_roomy } =
+    λ i. record {
+      chronicle = same.chronicle i;
+      counts = same.counts i;
+      world = same.world i;
+      seen = b.seen;
+      is_roomy = b.is_roomy;
+    } in
+    let done = subst (λ k. HasTicked first all k fates c) here ticked in (
+      done.0,
+      record {
+        each = done.1.each;
+        known = done.1.known;
+        chronicle = done.1.chronicle;
+        counts = done.1.counts;
+        map = done.1.map;
+        version = done.1.version;
+        seen = begins_on a.seen b.seen c.seen same.seen done.1.seen;
+      },
+      done.2,
+    )
+
+-- a tick of sectors that all rest is one of the world
+pub rested_ticked : (first : Regions) (all : ℕ) (k next : KeeperData) (fates : List (Pos × Fate)) → IsKeeper first all k
+    → next.chronicle ≡ chronicle_next k (resting k) → next.counts ≡ k.counts
+    → next.world ≡ record { map = map_next k (resting k); version = version_next first k } → next.seen ≡ k.seen
+    → fates ≡ fates_next k (resting k) → HasTicked first all k fates next
+rested_ticked first all k next fates keeper chronicle counts world seen told = (
+  resting k,
+  record {
+    each = rest_each first all k keeper;
+    known = rest_known first all k keeper;
+    chronicle = chronicle;
+    counts = counts ∙ sym (rest_counts first all k keeper);
+    map = ap (λ (w : WorldData). w.map) world;
+    version =
+        ap (λ (w : WorldData). w.version) world
+        ∙ (λ i. version_by first (sym seen i) (length (sym seen i)) (length k.chronicle.ticks + 2));
+    seen = ([], append-nil k.seen ∙ sym seen);
+  },
+  told,
+)

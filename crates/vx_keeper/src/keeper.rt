@@ -169,7 +169,8 @@ impl<A: Places> Keeper<A> {
     )
         requires { (before : WorldData) × (was.now ≡ Some before)
             × IsLed before self.now.world at next }
-        ensures { count_of marked.new ≡ count_of marked.old }
+        ensures led { (marked.new ≡ marked.old) ⊎ IsPartOf self.now.world marked.new }
+        ensures count { count_of marked.new ≡ count_of marked.old }
     {
         if !is_quiet(marked.sector(), at) || !marked.has(was) {
             return;
@@ -339,8 +340,9 @@ impl<A: Places> Keeper<A> {
     }
 
     /// Makes all that the tick takes of a world in which nothing is recorded since the last one, so
-    /// that each sector rests as the keeper has it. It costs what the machines change, and where
-    /// that is nothing it looks at no sector. The sectors are worked by 1 to 8 threads.
+    /// that each sector rests as the keeper has it. Where the machines put nothing down and the
+    /// policy stays it looks at no sector; else it costs what they put down, and a place in three
+    /// lists for each sector. The sectors are worked by 1 to 8 threads.
     pub fn ready_at_rest<R: Threads + Sync, G: Gate + Sync>(
         &mut self,
         rt: &R,
@@ -513,12 +515,13 @@ impl<A: Places> Keeper<A> {
         None
     }
 
-    // Has the sector of that number, which rested by this mark, begin its next window with this, if
-    // it is of the size of the world.
+    // Has the sector of that number, in whose window nothing is recorded, begin its next window with
+    // this, if it is of the size of the world.
     fn renew(&self, at: usize, marked: &mut Marked<A>, fresh: Fresh)
         requires quiet { IsQuietAt marked.old at }
         requires begun { IsBegun self.now.world at fresh }
-        ensures { count_of marked.new ≡ count_of marked.old }
+        ensures led { (marked.new ≡ marked.old) ⊎ IsPartOf self.now.world marked.new }
+        ensures count { count_of marked.new ≡ count_of marked.old }
     {
         self.soundness();
         if has_size(marked.sector(), self.known.bounds()) {
@@ -534,8 +537,8 @@ impl<A: Places> Keeper<A> {
         self.watch.take()
     }
 
-    // What the next tick does where nothing is recorded since the last one. What was kept of the
-    // map is kept no more then.
+    // Plans the next tick of a world in which nothing was recorded since the last one. It uses up
+    // what was kept of the map.
     fn planned<R: Threads + Sync, G: Gate + Sync>(
         &mut self,
         rt: &R,

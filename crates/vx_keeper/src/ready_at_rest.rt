@@ -29,8 +29,8 @@ pub struct ReadyAtRest {
 
 impl ReadyAtRest {
     /// What the tick takes that was worked of the world that is known, whose next windows this
-    /// version judges. If it is the one that judges their windows, but for its number, what is made
-    /// costs what the tick puts down.
+    /// version judges. If it is the one that judges their windows, but for its number, and the tick
+    /// puts nothing down, no list of sectors is made.
     pub(crate) fn new(
         alloc: Global,
         known: &Known,

@@ -25,8 +25,8 @@ use vx_tick::Fate;
 
 impl<A: Places, B: Seats> World<A, B> {
     /// Makes a tick as `tick` does. Since no other thread can reach the world meanwhile, no lock is
-    /// taken. A tick in which nothing happens costs a look at each sector: all of them stay in their
-    /// places.
+    /// taken. Where nothing was recorded since the last tick all sectors stay in their places, each of
+    /// which is looked at.
     pub fn tick_alone<R: Threads + Wait + Sync, G: Gate + Sync>(
         &mut self,
         rt: &R,
@@ -53,8 +53,8 @@ impl<A: Places, B: Seats> World<A, B> {
         self.tick_each(rt, alloc, keeper, workers, gate)
     }
 
-    // Makes the tick of sectors that all rest, and takes none of them out of its place. If one may
-    // not rest it makes no tick.
+    // Makes the tick of sectors that all rest, and takes none of them out of its place. If one of
+    // them is not known to rest it makes no tick.
     fn rest<R: Threads + Wait + Sync, G: Gate + Sync>(
         &mut self,
         rt: &R,

@@ -33,12 +33,16 @@ pages_length kind ps are =
     omega (arith, all, paging.pages_length (words_of kind) ps (kind_are kind ps are))
 
 -- none of so many indices is marked
+pub blank_words : (kind : MarkKind) (n : ℕ)
+    → words_of kind (joined (replicate n blank_page)) ≡ replicate (64 * n) 0
+blank_words kind n =
+    kind_joined kind (replicate n blank_page) ∙ paging.blank_joined (words_of kind) blank_page n (kind_blank kind)
+
 pub blank_pages : (kind : MarkKind) (n count : ℕ) → n ≡ count / PAGE → count % PAGE ≡ 0
     → words_of kind (joined (replicate n blank_page)) ≡ replicate (count / 64) 0
 blank_pages kind n count is all =
     let words : 64 * n ≡ count / 64 = omega arith in
-    kind_joined kind (replicate n blank_page) ∙ paging.blank_joined (words_of kind) blank_page n (kind_blank kind)
-    ∙ ap (λ k. replicate k 0) words
+    blank_words kind n ∙ ap (λ k. replicate k 0) words
 
 blank_long : (kind : MarkKind) → length (words_of kind blank_page) ≡ 64
 blank_long kind = ap length (kind_blank kind) ∙ length-replicate {A = ℕ} 64 0

@@ -1,9 +1,10 @@
 -- Marks of components of machines and of devices, in pages of 4,096 indices.
-use Rattle.std.specs.Prelude.{◌≡◌, ℕ, ◌*◌, Bool, List, length, replicate, slice_index_or}
+use Rattle.std.specs.Prelude.{◌≡◌, ℕ, ◌*◌, ◌≤◌, Bool, List, length, replicate, slice_index_or}
 use Rattle.vx_block.specs.declared.cell.Cell.{Cell}
 use Rattle.vx_block.specs.Components.{is_device, is_component}
-use Rattle.vx_marks.specs.Marks.{is_marked, IsMarkSet}
+use Rattle.vx_marks.specs.Marks.{is_marked, AreUnmarked, IsMarkSet}
 use Rattle.vx_marks.specs.Pages as pages
+use Rattle.vx_marks.specs.declared.page.TheConstants.{PAGE}
 use Rattle.vx_store.specs.Codes.{cell_of}
 use Rattle.vx_store.specs.declared.mark_kind.MarkKind.{MarkKind}
 use Rattle.vx_store.specs.declared.mark_kind.MarkKind.TheVariants.{Component, Device}
@@ -38,6 +39,20 @@ joined all = record {
 pub record ArePages (all : List MarkWords) : Type 0 where
   pub components : pages.ArePages (λ (page : MarkWords). page.components) all
   pub devices : pages.ArePages (λ (page : MarkWords). page.devices) all
+
+-- nothing is marked outside the pages from one number up to below another
+pub record LieInPages (words : List ℕ) (first end : ℕ) : Type 0 where
+  pub before : AreUnmarked words 0 (PAGE * first)
+  pub behind : AreUnmarked words (PAGE * end) (64 * length words)
+
+-- pages of marks of either kind, none of which has any outside those from one number up to below
+-- another
+pub record AreMarkedPages (all : List MarkWords) (first end : ℕ) : Type 0 where
+  pub pages : ArePages all
+  pub start : first ≤ length all
+  pub within : end ≤ length all
+  pub components : LieInPages (joined all).components first end
+  pub devices : LieInPages (joined all).devices first end
 
 -- the marks of one index become those of a byte's cell
 pub record AreMarksSet (old new : MarkWords) (index code : ℕ) : Type 0 where

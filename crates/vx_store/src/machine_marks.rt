@@ -1,10 +1,11 @@
 ghost use Rattle.std.specs.Option.{option_copied};
-ghost use Rattle.std.specs.Prelude.{◌≡◌, ◌*◌, ◌/◌, ◌%◌, ◌<◌, ◌≤◌, ℕ, List, true, nat_lt, length, replicate, slice_index_or, slice_set, IfOk, OnOk, OnErr};
+ghost use Rattle.std.specs.Prelude.{◌≡◌, ◌*◌, ◌/◌, ◌%◌, ◌<◌, ◌≤◌, ℕ, List, true, None, nat_lt, length, replicate, slice_index_or, slice_set, IfOk, OnOk, OnErr};
 ghost use Rattle.vx_store.specs.Chests.{Changes, SameSlots, begun};
 ghost use Rattle.vx_store.specs.Codes.{code_count, cell_of, is_chest};
 ghost use Rattle.vx_store.specs.MarkedPlaces.{marked_places};
 ghost use Rattle.vx_store.specs.MachineMarks.{words_of, AreMachineMarks};
 ghost use Rattle.vx_store.specs.Placing.{CanPut};
+ghost use Rattle.vx_store.specs.declared.mark_kind.MarkKind.{MarkKind};
 ghost use Rattle.vx_geom.specs.Sizes.{Sizes, AreSizes, sector_count, sector_cells};
 ghost use Rattle.vx_marks.specs.Marks.{IsFirstMarked};
 ghost use Rattle.vx_marks.specs.Pages.{IsPage};
@@ -29,18 +30,22 @@ use vx_section::Sections;
 #[derive(Drop)]
 pub struct MachineMarks {
     pages: Vec<SharedPage>,
+    // Each mark is in a page from this number on, and in one below the other: so the pages over and
+    // under all components are passed over, and those of a sector without any are not looked at.
+    first: u32,
+    end: u32,
     // How many components stand there. No clause says so: only costs rest on it.
     count: u32,
 }
 
 impl Model for MachineMarks {
-    ghost use Rattle.vx_store.specs.MachineMarks.{MarkWords, joined, ArePages};
+    ghost use Rattle.vx_store.specs.MachineMarks.{MarkWords, joined, AreMarkedPages};
 
     ghost Value = { MarkWords };
 
     ghost view = { λ a. joined a.pages.items };
 
-    ghost invariant = { λ a. ArePages a.pages.items };
+    ghost invariant = { λ a. AreMarkedPages a.pages.items a.first a.end };
 }
 
 impl MachineMarks {
@@ -54,7 +59,12 @@ impl MachineMarks {
         for _ in 0..count / PAGE {
             pages.push(SharedPage::new())?;
         }
-        Ok(MachineMarks { pages, count: 0 })
+        Ok(MachineMarks {
+            pages,
+            first: count / PAGE,
+            end: 0,
+            count: 0,
+        })
     }
 
     /// Whether the marks of a sector stay as they are where a byte is put down in place of another.
@@ -90,14 +100,18 @@ impl MachineMarks {
         ensures marks { AreMachineMarks store.new self.new }
     {
         let was = u32::from(is_component(store.get(index)));
-        self.pages[(index / PAGE) as usize].put_down(alloc, store, chests, index, code)?;
+        let number = index / PAGE;
+        self.pages[number as usize].put_down(alloc, store, chests, index, code)?;
+        self.first = self.first.min(number);
+        self.end = self.end.max(number + 1);
         let is = u32::from(is_component(code));
         self.count = self.count.saturating_add(is).saturating_sub(was);
         Ok(())
     }
 
     /// The positions of the sector whose indices have a mark of that kind, in order. It costs what
-    /// is marked, and a look at each page.
+    /// is marked, and a look at each page from the lowest component on up to the highest.
+    #[inline(always)]
     pub fn places(
         &self,
         alloc: Global,
@@ -110,15 +124,20 @@ impl MachineMarks {
         ensures { IfOk result (λ found.
             found.items ≡ marked_places bounds sector (words_of kind self.now)) }
     {
+        bounds.soundness();
+        if self.is_blank() {
+            return Ok(Vec::new(alloc));
+        }
         places_in_order(alloc, bounds, sector, &KindMarks { marks: self, kind })
     }
 
-    /// The first index from this one on with a mark of that kind.
+    /// The first index from this one on with a mark of that kind. It looks at no page before the
+    /// first component that was put down, nor behind the last.
     pub fn first_from(&self, kind: MarkKind, from: u32) -> Option<u32>
         ensures { IsFirstMarked (words_of kind self.now) from result }
     {
-        let end = PAGE * self.pages.len() as u32;
-        let mut next = from;
+        let end = PAGE * self.end;
+        let mut next = from.max(PAGE * self.first);
         while next < end {
             let number = next / PAGE;
             if let Some(index) = self.pages[number as usize].first_from(kind, next % PAGE) {
@@ -142,7 +161,7 @@ impl MachineMarks {
     }
 
     /// Whether any index has a mark of that kind, in a sector of any world of so many cells a
-    /// sector. It costs a look at each page.
+    /// sector. It costs a look at each page from the lowest component on up to the highest.
     pub fn has_any(&self, kind: MarkKind) -> bool
         ensures { (bounds : Sizes) (sector : ℕ) → AreSizes bounds → sector < sector_count bounds
             → 64 * length (words_of kind self.now) ≡ sector_cells bounds
@@ -155,6 +174,15 @@ impl MachineMarks {
     pub fn count(&self) -> u32 {
         self.count
     }
+
+    // Whether no component was put down there so far, so that nothing is marked.
+    #[inline(always)]
+    fn is_blank(&self) -> bool
+        ensures { result ≡ true → (kind : MarkKind)
+            → IsFirstMarked (words_of kind self.now) 0 None }
+    {
+        self.end <= self.first
+    }
 }
 
 impl Clone for MachineMarks {
@@ -163,6 +191,8 @@ impl Clone for MachineMarks {
     fn clone(&self) -> Result<MachineMarks, AllocError> {
         Ok(MachineMarks {
             pages: self.pages.clone()?,
+            first: self.first,
+            end: self.end,
             count: self.count,
         })
     }

@@ -1,11 +1,13 @@
 use Rattle.std.proofs.Common.{List, ap, ◌∙◌, arith}
 use Rattle.vx_store.specs.MachineMarks.{MarkWords, joined}
 use Rattle.vx_store.specs.declared.mark_kind.MarkKind.TheVariants.{Component, Device}
-use Rattle.vx_store.proofs.Paging.{are_blank, blank_pages}
+use Rattle.vx_store.proofs.Outside.{blank_are_marked}
+use Rattle.vx_store.proofs.Paging.{blank_pages}
 use Rattle.vx_store.proofs.machine_marks.MachineMarks.new.Goals as goal
 
 pub invariant_of-result : goal.invariant_of-result
-invariant_of-result c = rw c.loop.invariant (are_blank c.loop.counter c.args.count (omega arith) (omega arith))
+invariant_of-result c =
+    rw c.loop.invariant (blank_are_marked c.loop.counter c.args.count (omega arith) (omega arith))
 
 pub returns-clause-components : goal.returns-clause-components
 returns-clause-components c =

@@ -9,6 +9,7 @@ pub mod Having
 pub mod Linking
 pub mod Local
 pub mod Pointing
+pub mod Powering
 pub mod Reach
 pub mod Reaching
 pub mod Rounds

@@ -2,6 +2,7 @@ pub mod Dust
 pub mod Laws
 pub mod Levels
 pub mod Local
+pub mod Powering
 pub mod Signals
 pub mod Spreading
 pub mod Turning

@@ -3,6 +3,7 @@ ghost use Rattle.std.specs.Prelude.{◌≡◌, ◌||◌};
 ghost use Rattle.vx_cells.specs.Maps.{cell_on};
 ghost use Rattle.vx_cells.specs.Nearby.{HasAround};
 ghost use Rattle.vx_geom.specs.Dirs.{opposite};
+ghost use Rattle.vx_power.specs.Powering.{powers};
 ghost use Rattle.vx_power.specs.Signals.{gives, drives, drives_from, is_driven, is_strong, feeds_from, has_feeder, is_fed};
 
 use crate::nearby::next_nearby;
@@ -30,6 +31,18 @@ pub fn drives(cell: Cell, dir: Dir) -> bool
         Cell::Torch { lit, .. } => lit && dir.is(Dir::Up),
         Cell::Lever { facing, on } => on && facing.is(dir),
         Cell::Repeater(repeater) => repeater.is_on() && repeater.facing().dir().is(dir),
+        _ => false,
+    }
+}
+
+/// Whether a cell gives power or drives a conductor in any direction.
+pub fn powers(cell: Cell) -> bool
+    ensures { result ≡ powers cell }
+{
+    match cell {
+        Cell::Torch { lit, .. } => lit,
+        Cell::Lever { on, .. } => on,
+        Cell::Repeater(repeater) => repeater.is_on(),
         _ => false,
     }
 }

@@ -21,6 +21,7 @@ use crate::links_nearby::{links_beside, links_down, links_up, may_climb, may_fal
 use crate::next_dust::{driven, dust_at, dust_given, dust_over, dust_under};
 use crate::places::{place_beside, place_over, place_under};
 use crate::region::Region;
+use crate::signals::powers;
 use std::alloc::{AllocError, Global};
 use std::marker::Model;
 use std::mem;
@@ -196,6 +197,9 @@ impl Spread {
             (fed_from (cell_on map.now) device)) }
     {
         let cell = map.cell(device);
+        if !powers(cell) {
+            return Ok(());
+        }
         for dir in Dir::ALL {
             self.reach_towards(map, region, &cell, device, dir)?;
         }

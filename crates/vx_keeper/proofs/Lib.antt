@@ -1,5 +1,6 @@
 pub mod Beginning
 pub mod Closing
+pub mod Giving
 pub mod Knowing
 pub mod Marking
 pub mod Nexts

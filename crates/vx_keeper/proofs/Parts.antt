@@ -24,7 +24,7 @@ parts_by_bases world sizes ss each bases judged k d within =
     let here : slice_get world.map.sectors k ≡ Some s.base =
     ap (λ cs. slice_get cs k) (sym bases) ∙ slice_get-map base_of ss k ∙ ap (option_map base_of) (slice_get-get_or ss k d within) in
     let number : s.base.sector ≡ k = omega (arith, (placed_at sizes 0 k world.map.sectors s.base each here).1) in
-    (ap (slice_get world.map.sectors) number ∙ here, judged k d within)
+    (ap (slice_get world.map.sectors) number ∙ here, ap (λ (v : Version). record v { tick = world.version.tick }) (judged k d within))
 
 pub as_many_said : (world : WorldData) (said : List Bool) (ss : List SectorData)
     → AreParts world said ss → length said ≡ length ss

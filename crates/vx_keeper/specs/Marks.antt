@@ -1,21 +1,21 @@
 -- Marks of what a keeper knows of its world.
-use Rattle.std.specs.Prelude.{◌≡◌, ◌<◌, ℕ, Bool, true, List, [], ◌∷◌, slice_get, slice_index_or, Option, None, Some, IfSome, MatchOption}
+use Rattle.std.specs.Prelude.{◌≡◌, ◌<◌, ℕ, Bool, true, List, [], ◌∷◌, length, slice_get, slice_index_or, Option, None, Some, IfSome, MatchOption}
 use Rattle.std.specs.Bool.{⊤}
 use Rattle.vx_cells.specs.Maps.{MapData}
 use Rattle.vx_policy.specs.declared.version.Version.{Version}
 use Rattle.vx_sector.specs.SectorData.{FreshData, SectorData}
-use Rattle.vx_sector.specs.Windows.{renewed}
-use Rattle.vx_windows.specs.Sectors.{window_over}
 
 -- a world as its windows began: its map, and the version that judges them
 pub record WorldData : Type 0 where
   pub map : MapData
   pub version : Version
 
--- the window of the sector began with its part of the world
+-- the window of the sector began with its part of the world, and is judged by the same policy,
+-- though it may be under another number
 abbrev pub IsPartOf : WorldData → SectorData → Type 0
 IsPartOf world s =
-    (slice_get world.map.sectors s.base.sector ≡ Some s.base) × (s.version ≡ world.version)
+    (slice_get world.map.sectors s.base.sector ≡ Some s.base)
+    × (record s.version { tick = world.version.tick } ≡ world.version)
 
 -- the mark, if there is one, is of a world of which the sector's window began with its part
 abbrev pub IsMarkOf : Option (Option WorldData) → SectorData → Type 0
@@ -28,10 +28,9 @@ AreParts world (said ∷ rest) (s ∷ sectors) =
     (said ≡ true → IsPartOf world s) × AreParts world rest sectors
 AreParts world said sectors = ⊥
 
--- the sector in its next window over its cells as they are, judged by the same policy under another
--- number
-abbrev pub gone_on : SectorData → ℕ → SectorData
-gone_on s tick = renewed s (window_over (record s.version { tick = tick }) s.cells)
+-- the sector with its window as it is, judged by the same policy under another number
+abbrev pub renumbered : SectorData → ℕ → SectorData
+renumbered s tick = record s { version = record s.version { tick = tick } }
 
 -- the sector has number n, and stands as its window began: nothing is recorded in that
 abbrev pub IsQuietAt : SectorData → ℕ → Type 0
@@ -44,10 +43,23 @@ GoesOn before after n =
     (slice_get after.map.sectors n ≡ slice_get before.map.sectors n)
     × (record before.version { tick = after.version.tick } ≡ after.version)
 
+-- the marks of all sectors of the world, each, if there is one, of a world from which the sector of
+-- that number goes on to this one
+abbrev pub AreMarks : List (Option (Option WorldData)) → WorldData → Type 0
+AreMarks marks world =
+    (length marks ≡ length world.map.sectors)
+    × ((n : ℕ) → IfSome (slice_index_or marks n None)
+    (λ m. (before : WorldData) × (m ≡ Some before) × GoesOn before world n))
+
 -- what is given for the next window of sector n begins it in the next world
 abbrev pub IsBegun : WorldData → ℕ → FreshData → Type 0
 IsBegun after n fresh =
     (slice_get after.map.sectors n ≡ Some fresh.cells) × (fresh.version ≡ after.version)
+
+-- so does all that the list has for so many sectors, each for the one of its number
+abbrev pub AreBegun : ℕ → WorldData → List (Option FreshData) → Type 0
+AreBegun count after all =
+    (n : ℕ) → n < count → IfSome (slice_index_or all n None) (IsBegun after n)
 
 -- sector n is led from one world to the next by this, or else goes on
 abbrev pub IsLed : WorldData → WorldData → ℕ → Option FreshData → Type 0
@@ -57,3 +69,17 @@ IsLed before after n next = MatchOption next (GoesOn before after n) (IsBegun af
 abbrev pub AreLed : ℕ → WorldData → WorldData → List (Option FreshData) → Type 0
 AreLed count before after all =
     (n : ℕ) → n < count → IsLed before after n (slice_index_or all n None)
+
+-- the mark of a sector that is given one where something is given for its next window
+abbrev pub mark_given : Option (Option WorldData) → Option (Option WorldData) → Option FreshData
+    → Option (Option WorldData)
+mark_given was mark None = was
+mark_given was mark (Some fresh) = mark
+
+-- these are the marks after one was given to each sector for which the list has something
+abbrev pub AreGiven : List (Option (Option WorldData)) → List (Option FreshData)
+    → Option (Option WorldData) → List (Option (Option WorldData)) → Type 0
+AreGiven marks next mark given =
+    (length given ≡ length marks)
+    × ((n : ℕ) → n < length marks → slice_index_or given n None
+    ≡ mark_given (slice_index_or marks n None) mark (slice_index_or next n None))

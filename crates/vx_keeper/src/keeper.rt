@@ -11,7 +11,7 @@ ghost use Rattle.vx_sector.specs.Windows.{count_of};
 ghost use Rattle.vx_record.specs.Records.{chronicle_in};
 ghost use Rattle.vx_record.specs.Settling.{AreKnown, BeganWith, IsKnown, IsTorn};
 ghost use Rattle.vx_keeper.specs.Keepers.{IsKeeper, KnowsAsBefore, keeper_data, known, version_next, map_now, map_next, fates_next, chronicle_next, resting};
-ghost use Rattle.vx_keeper.specs.Marks.{AreLed, AreParts, IsBegun, IsLed, IsPartOf, IsQuietAt, WorldData};
+ghost use Rattle.vx_keeper.specs.Marks.{AreBegun, AreParts, IsBegun, IsMarkOf, IsPartOf, IsQuietAt};
 ghost use Rattle.vx_keeper.specs.Readiness.{CanClose, CanCloseAtRest};
 ghost use Rattle.vx_keeper.specs.Torn.{IsNoWork};
 ghost use Rattle.vx_keeper.specs.declared.tick_error.TickError.TheVariants.{HistoryFull, NoMemory, NoView, Torn};
@@ -21,6 +21,7 @@ use crate::marked::Marked;
 use crate::places::Places;
 use crate::ready::Ready;
 use crate::ready_at_rest::ReadyAtRest;
+use crate::sector_marks::SectorMarks;
 use crate::sound::{are_sectors, is_sector};
 use crate::tick_error::TickError;
 use crate::work::Work;
@@ -43,20 +44,21 @@ use vx_windows::{MAX_TICKS, cells_of, open_sectors, renew_sectors, written};
 /// holds it makes the ticks, of sectors that were taken out of their locks.
 // It keeps what is known of the map as the windows began, so that a tick looks only where it
 // changed; where that was lost, for want of memory in a tick, the next one looks everywhere. It
-// keeps a view of the desk, by which it fixes versions, and the mark of what it knows, which it
-// gives to the sectors that are part of that.
+// keeps a view of the desk, by which it fixes versions, and for each sector the mark of what it
+// knew when that last became another, which it gives to the sector.
 pub struct Keeper<A: Places> {
     archive: Archive,
     known: Known,
     watch: Option<Watch>,
     view: View<A>,
     stamper: Stamper<Known, A>,
-    mark: Option<Mark<Known, A>>,
+    marks: SectorMarks<A>,
 }
 
 impl<A: Places> Model for Keeper<A> {
-    ghost use Rattle.std.specs.Prelude.{◌≡◌, Some, IfSome};
+    ghost use Rattle.std.specs.Prelude.{IfSome};
     ghost use Rattle.vx_keeper.specs.Keepers.{KeeperData, IsKeeper, keeper_data};
+    ghost use Rattle.vx_keeper.specs.Marks.{AreMarks};
     ghost use Rattle.vx_still.specs.Watching.{IsWatch};
 
     ghost Value = { KeeperData };
@@ -64,7 +66,7 @@ impl<A: Places> Model for Keeper<A> {
     ghost view = { λ a. keeper_data a.archive a.known a.view };
 
     ghost invariant = { λ a. IsKeeper A.first A.all (keeper_data a.archive a.known a.view)
-        × IfSome a.mark (λ m. m ≡ Some a.known)
+        × AreMarks a.marks a.known
         × IfSome a.watch (IsWatch a.known.map) };
 }
 
@@ -77,7 +79,7 @@ impl<A: Places> Drop for Keeper<A> {
             watch: _watch,
             view: _view,
             stamper: _stamper,
-            mark: _mark,
+            marks: _marks,
         } = self;
     }
 }
@@ -108,7 +110,8 @@ impl<A: Places> Keeper<A> {
         let sectors = first_sectors(alloc, &opening, known.version())?;
         let archive = Archive::new(alloc, opening)?;
         view.soundness();
-        let keeper = Keeper::opened(archive, known, view, stamper);
+        let marks = SectorMarks::none(alloc, sectors.len())?;
+        let keeper = Keeper::opened(archive, known, view, stamper, marks);
         Ok((keeper, sectors))
     }
 
@@ -118,67 +121,72 @@ impl<A: Places> Keeper<A> {
         known: Known,
         view: View<A>,
         stamper: Stamper<Known, A>,
+        marks: SectorMarks<A>,
     ) -> Keeper<A>
-        requires { IsKeeper A.first A.all (keeper_data archive known view) }
+        requires keeper { IsKeeper A.first A.all (keeper_data archive known view) }
+        requires marks { length marks ≡ length known.map.sectors }
         ensures { result ≡ keeper_data archive known view }
     {
         let mut stamper = stamper;
+        let mut marks = marks;
         let mark = stamper.mark(&known);
+        marks.give_all(&mark);
         Keeper {
             archive,
             known,
             watch: None,
             view,
             stamper,
-            mark,
+            marks,
         }
     }
 
     /// Whether the sector is marked as one whose window began with its part of what the keeper
-    /// knows. It costs the same whatever the sector holds; without the mark it may have begun so
-    /// all the same.
+    /// knows, though it may be under another number. It costs the same whatever the sector holds;
+    /// without the mark it may have begun so all the same.
     pub fn has_marked(&self, marked: &Marked<A>) -> bool
         ensures { result ≡ true → IsPartOf self.now.world marked.now }
     {
-        match &self.mark {
-            Some(mark) => marked.has(mark),
+        match self.marks.of(number_of(marked.sector())) {
+            Some(mark) => marked.has(&mark),
             None => false,
         }
     }
 
-    /// The mark of what the keeper knows, for sectors whose windows began with their parts of it.
-    pub fn mark(&self) -> Option<Mark<Known, A>>
-        ensures { IfSome result (λ mark. mark ≡ Some self.now.world) }
+    /// The mark for a sector whose window began with its part of what the keeper knows.
+    pub fn mark_for(&self, sector: &Sector) -> Option<Mark<Known, A>>
+        requires { IsPartOf self.now.world sector.now }
+        ensures { IsMarkOf result sector.now }
     {
-        match &self.mark {
-            Some(mark) => Some(mark.again()),
-            None => None,
-        }
+        self.marks.of(number_of(sector))
     }
 
-    /// Has the sector of that number begin its next window, with what is given for it or else over
-    /// its cells, and with the mark of what the keeper knows, where it rested by this mark: nothing
-    /// is recorded in its window, which had that mark. Else it stays as it is. No clause tells which
-    /// of the two: one that stays is not known to the next tick.
-    pub fn lead_on(
-        &self,
-        at: usize,
-        marked: &mut Marked<A>,
-        was: &Mark<Known, A>,
-        next: Option<Fresh>,
-    )
-        requires { (before : WorldData) × (was.now ≡ Some before)
-            × IsLed before self.now.world at next }
+    /// Gives a sector the number of the version that judges the open windows, where it is marked as
+    /// one whose window began with its part of what the keeper knows, and tells whether it is.
+    pub fn catch_up(&self, marked: &mut Marked<A>) -> bool
+        ensures part { result ≡ true → IsPartOf self.now.world marked.new }
+        ensures count { count_of marked.new ≡ count_of marked.old }
+    {
+        if !self.has_marked(marked) {
+            return false;
+        }
+        marked.renumber(self.version().tick);
+        true
+    }
+
+    /// Has the sector of that number begin its next window with this, and with the mark of what the
+    /// keeper knows, if nothing is recorded in its window and it is of the size of the world. Else
+    /// it stays as it is.
+    pub fn renew(&self, at: usize, marked: &mut Marked<A>, fresh: Fresh)
+        requires { IsBegun self.now.world at fresh }
         ensures led { (marked.new ≡ marked.old) ⊎ IsPartOf self.now.world marked.new }
         ensures count { count_of marked.new ≡ count_of marked.old }
     {
-        if !is_quiet(marked.sector(), at) || !marked.has(was) {
+        self.soundness();
+        if !is_quiet(marked.sector(), at) || !has_size(marked.sector(), self.known.bounds()) {
             return;
         }
-        match next {
-            Some(fresh) => self.renew(at, marked, fresh),
-            None => marked.go_on(self.version().tick, self.mark()),
-        }
+        marked.renew(fresh, self.marks.of(at));
     }
 
     /// Whether the sector is what the keeper has of the sector of that number. Where it is said to
@@ -335,7 +343,8 @@ impl<A: Places> Keeper<A> {
             fates,
         });
         self.watch = Some(watch);
-        self.mark = self.stamper.mark(&self.known);
+        let mark = self.stamper.mark(&self.known);
+        self.marks.give_all(&mark);
         told
     }
 
@@ -373,8 +382,8 @@ impl<A: Places> Keeper<A> {
 
     /// Makes the tick of a world in which nothing is recorded since the last one: adds it to the
     /// chronicle, with a window without entries for each sector, and goes on to the map after it. It
-    /// hands out what becomes of the moves, and what the next window of each sector begins with;
-    /// nothing for one that goes on over its cells. It takes no memory.
+    /// hands out what becomes of the moves, and what the next windows of sectors begin with. The
+    /// window of a sector for which the list has nothing goes on as it is. It takes no memory.
     pub fn close_at_rest(
         &mut self,
         alloc: Global,
@@ -391,7 +400,7 @@ impl<A: Places> Keeper<A> {
         } }
         ensures seen { self.new.seen ≡ self.old.seen }
         ensures fates { result.0.items ≡ fates_next self.old (resting self.old) }
-        ensures led { AreLed A.all self.old.world self.new.world result.1.items }
+        ensures begun { AreBegun A.all self.new.world result.1.items }
     {
         self.soundness();
         let ReadyAtRest {
@@ -411,9 +420,9 @@ impl<A: Places> Keeper<A> {
             windows: ClosedWindows::none(alloc, sectors),
             fates,
         });
-        let mark = self.stamper.mark(&self.known);
         self.watch = Some(watch);
-        self.mark = mark;
+        let mark = self.stamper.mark(&self.known);
+        self.marks.give_led(&fresh, &mark);
         (told, fresh)
     }
 
@@ -478,7 +487,7 @@ impl<A: Places> Keeper<A> {
             watch: _watch,
             view: _view,
             stamper: _stamper,
-            mark: _mark,
+            marks: _marks,
         } = self;
         (archive.into_chronicle(), known.into_version())
     }
@@ -491,10 +500,13 @@ impl<A: Places> Keeper<A> {
             (known self.now at).version) }
     {
         self.soundness();
-        if is_part {
-            return is_at(sector, at);
+        if !is_part {
+            return self.known.has(at, sector);
         }
-        self.known.has(at, sector)
+        if !is_numbered(sector, self.known.version().tick) {
+            return false;
+        }
+        is_at(sector, at)
     }
 
     // The first of all sectors that is not what the keeper has of it.
@@ -513,20 +525,6 @@ impl<A: Places> Keeper<A> {
             }
         }
         None
-    }
-
-    // Has the sector of that number, in whose window nothing is recorded, begin its next window with
-    // this, if it is of the size of the world.
-    fn renew(&self, at: usize, marked: &mut Marked<A>, fresh: Fresh)
-        requires quiet { IsQuietAt marked.old at }
-        requires begun { IsBegun self.now.world at fresh }
-        ensures led { (marked.new ≡ marked.old) ⊎ IsPartOf self.now.world marked.new }
-        ensures count { count_of marked.new ≡ count_of marked.old }
-    {
-        self.soundness();
-        if has_size(marked.sector(), self.known.bounds()) {
-            marked.renew(fresh, self.mark());
-        }
     }
 
     // What is kept of the map as the windows began. It is kept no more then.
@@ -609,6 +607,13 @@ fn is_quiet(sector: &Sector, at: usize) -> bool
     sector.entries().is_empty() && is_at(sector, at)
 }
 
+// The number of the sector.
+fn number_of(sector: &Sector) -> usize
+    ensures { result ≡ sector.now.base.sector }
+{
+    sector.base().sector() as usize
+}
+
 // Whether the sector is one of a world of this size.
 fn has_size(sector: &Sector, bounds: Bounds) -> bool
     ensures { result ≡ true → sector.now.cells.bounds ≡ bounds }
@@ -620,7 +625,14 @@ fn has_size(sector: &Sector, bounds: Bounds) -> bool
 fn is_at(sector: &Sector, at: usize) -> bool
     ensures { Decides result (sector.now.base.sector ≡ at) }
 {
-    sector.base().sector() as usize == at
+    number_of(sector) == at
+}
+
+// Whether the version that judges the sector's window has this number.
+fn is_numbered(sector: &Sector, tick: u64) -> bool
+    ensures { Decides result (sector.now.version.tick ≡ tick) }
+{
+    sector.version().tick == tick
 }
 
 // The world of this opening as its windows begin.

@@ -8,6 +8,7 @@ mod marked;
 mod places;
 mod ready;
 mod ready_at_rest;
+mod sector_marks;
 mod sound;
 mod tick_error;
 mod work;

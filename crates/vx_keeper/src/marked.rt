@@ -6,7 +6,7 @@ ghost use Rattle.vx_sector.specs.SectorData.{seat_of};
 ghost use Rattle.vx_sector.specs.Windows.{answer_of, is_full, is_recorded, renewed, sector_after, put_in, CanTamper};
 ghost use Rattle.vx_windows.specs.Sectors.{IsOf};
 ghost use Rattle.vx_record.specs.Calls.{calls_in, lists_after};
-ghost use Rattle.vx_keeper.specs.Marks.{WorldData, IsMarkOf, IsPartOf, gone_on};
+ghost use Rattle.vx_keeper.specs.Marks.{WorldData, IsMarkOf, IsPartOf, renumbered};
 
 use crate::known::Known;
 use crate::places::Places;
@@ -97,15 +97,12 @@ impl<A: Places> Marked<A> {
         lists.carry_out(at, &mut self.sector, seat, cmd)
     }
 
-    /// Begins the next window of a sector in which nothing was recorded, as `Sector::go_on` does,
-    /// with another mark, if there is one.
-    pub fn go_on(&mut self, tick: u64, mark: Option<Mark<Known, A>>)
-        requires quiet { self.old.entries ≡ [] }
-        requires mark { IsMarkOf mark (gone_on self.old tick) }
-        ensures { self.new ≡ gone_on self.old tick }
+    /// Goes on with its window as it is under another number of the version, as
+    /// `Sector::renumber` does. The mark stays.
+    pub fn renumber(&mut self, tick: u64)
+        ensures { self.new ≡ renumbered self.old tick }
     {
-        self.sector.go_on(tick);
-        self.mark = mark;
+        self.sector.renumber(tick);
     }
 
     /// Begins the next window of a sector in which nothing was recorded, as `Sector::renew` does,

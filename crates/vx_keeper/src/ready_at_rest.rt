@@ -68,6 +68,14 @@ impl ReadyAtRest {
             fresh,
         })
     }
+
+    /// For each sector what its next window begins with; nothing for those that go on as they are,
+    /// and no list where all do.
+    pub fn fresh(&self) -> &[Option<Fresh>]
+        ensures { result.now ≡ self.now.fresh.items }
+    {
+        &self.fresh
+    }
 }
 
 // Nothing for so many sectors.

@@ -94,6 +94,15 @@ impl Sector {
         self.window.go_on(tick);
     }
 
+    /// Goes on with its window as it is under another number of the version, which is by the same
+    /// policy. It takes no memory.
+    pub fn renumber(&mut self, tick: u64)
+        ensures { self.new
+            ≡ record self.old { version = record self.old.version { tick = tick } } }
+    {
+        self.window.go_on(tick);
+    }
+
     /// Puts a part down in base and cells, as no rule does: it is there for tests. A chest begins
     /// empty. It says whether it did: where the position is of the sector and nothing is recorded
     /// in its window.

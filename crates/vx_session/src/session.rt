@@ -186,9 +186,15 @@ impl<A: Places, B: Seats> Session<A, B> {
         ensures edits { self.new.edits ≡ self.old.edits }
     {
         self.marks.reserve(1)?;
-        let fates = self
-            .world
-            .tick_alone(rt, alloc, &mut self.keeper, self.workers, &NoGate)?;
+        let is_quiet = is_quiet(&self.marks);
+        let fates = self.world.tick_alone(
+            rt,
+            alloc,
+            &mut self.keeper,
+            self.workers,
+            &NoGate,
+            is_quiet,
+        )?;
         self.marks.push_reserved(Mark::Tick);
         Ok(fates)
     }
@@ -225,4 +231,17 @@ impl<A: Places, B: Seats> Session<A, B> {
         } = self;
         (world, keeper, players, last, marks)
     }
+}
+
+// Whether no command was carried out since the last tick, by the marks of what was done. Only costs
+// rest on the answer.
+fn is_quiet(marks: &[Mark]) -> bool {
+    for mark in marks.iter().rev() {
+        match mark {
+            Mark::Edit => {}
+            Mark::Tick => return true,
+            _ => return false,
+        }
+    }
+    true
 }

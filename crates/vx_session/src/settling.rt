@@ -38,6 +38,8 @@ impl<A: Places, B: Seats> Session<A, B> {
         let passes = passes_of(alloc, players)?;
         keeper.soundness();
         keeper.opening().soundness();
+        let mut world = world;
+        world.catch_up(&keeper);
         let report = match world.lift().finish(alloc, keeper, passes) {
             Ok(report) => report,
             Err(unsettled) => return Err(SessionError::from(unsettled.error)),

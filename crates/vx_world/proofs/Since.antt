@@ -1,5 +1,5 @@
 -- Ticks of a keeper that knows what it knew, and of a world that rests.
-use Rattle.std.proofs.Common.{◌≡◌, ℕ, ◌+◌, List, [], ◌++◌, length, append_assoc, append-nil, sym, ap, subst, ◌∙◌}
+use Rattle.std.proofs.Common.{◌≡◌, ℕ, ◌+◌, List, [], ◌++◌, Result, Ok, Err, IfOk, length, append_assoc, append-nil, sym, ap, subst, ◌∙◌}
 use mathlib.Core.List.{IsPrefix}
 use Rattle.vx_geom.specs.declared.pos.Pos.{Pos}
 use Rattle.vx_region.specs.Regions.{Regions}
@@ -14,6 +14,11 @@ use Rattle.vx_world.specs.Ticks.{HasTicked}
 begins_on : {X : Type 0} (xs ys zs : List X) → IsPrefix xs ys → IsPrefix ys zs → IsPrefix xs zs
 begins_on xs ys zs before after =
     (before.0 ++ after.0, sym (append_assoc xs before.0 after.0) ∙ ap (λ vs. vs ++ after.0) before.1 ∙ after.1)
+
+-- what follows from what is said of the value in an `Ok`
+pub if_ok : {T E : Type 0} (r : Result T E) {P Q : T → Type 0} → IfOk r P → ((x : T) → P x → Q x) → IfOk r Q
+if_ok (Ok x) said follows = follows x said
+if_ok (Err e) said follows = tt
 
 -- the keeper still knows what it knew
 pub knew : (a b c : KeeperData) → KnowsAsBefore a b → KnowsAsBefore b c → KnowsAsBefore a c

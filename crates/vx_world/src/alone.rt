@@ -1,10 +1,10 @@
 //! Ticks of a world that one thread has to itself.
-ghost use Rattle.std.specs.Prelude.{◌≡◌, ℕ, ◌↔◌, ◌⊎◌, ◌<◌, ◌≤◌, [], length, slice_index_or, vec_len, None, Some, Ok, Err, IfErr, IfOk, IfSome, OnErr};
+ghost use Rattle.std.specs.Prelude.{◌≡◌, ◌≢◌, ℕ, ◌↔◌, ◌<◌, ◌≤◌, [], length, slice_index_or, vec_len, None, Err, IfOk, IfSome, OnErr};
 ghost use Rattle.vx_step.specs.declared.workers.TheConstants.{MAX_WORKERS};
 ghost use Rattle.vx_windows.specs.Limits.{most_ticks};
 ghost use Rattle.vx_keeper.specs.Keepers.{KnowsAsBefore};
-ghost use Rattle.vx_keeper.specs.Marks.{AreLed, AreParts, IsLed, WorldData};
-ghost use Rattle.vx_keeper.specs.declared.tick_error.TickError.TheVariants.{HistoryFull, NoMemory, NoView, Torn};
+ghost use Rattle.vx_keeper.specs.Marks.{AreBegun, AreParts, IsBegun};
+ghost use Rattle.vx_keeper.specs.declared.tick_error.TickError.TheVariants.{HistoryFull, Torn};
 ghost use Rattle.vx_world.specs.Ticks.{HasTicked};
 
 use crate::home::Home;
@@ -17,16 +17,18 @@ use std::alloc::Global;
 use std::sync::{Condvar, Mutex, Wait};
 use std::thread::Threads;
 use vx_geom::Pos;
-use vx_keeper::{Keeper, Known, Places, TickError};
+use vx_keeper::{Keeper, Places, TickError};
 use vx_sector::Fresh;
-use vx_stamp::Mark;
 use vx_step::Gate;
 use vx_tick::Fate;
 
 impl<A: Places, B: Seats> World<A, B> {
     /// Makes a tick as `tick` does. Since no other thread can reach the world meanwhile, no lock is
-    /// taken. Where nothing was recorded since the last tick all sectors stay in their places, each of
-    /// which is looked at.
+    /// taken. Where it is said that nothing was recorded since the last tick all sectors stay in
+    /// their places, and only those are looked at whose next windows begin with other cells or by
+    /// another policy. The window of any other goes on, and is numbered when it is taken out next,
+    /// or by `catch_up`. A call that was recorded all the same, in a sector that goes on so, stands
+    /// in the window after the tick.
     pub fn tick_alone<R: Threads + Wait + Sync, G: Gate + Sync>(
         &mut self,
         rt: &R,
@@ -34,6 +36,7 @@ impl<A: Places, B: Seats> World<A, B> {
         keeper: &mut Keeper<A>,
         workers: usize,
         gate: &G,
+        is_quiet: bool,
     ) -> Result<Vec<(Pos, Fate)>, TickError>
         requires workers { (0 < workers) × (workers ≤ MAX_WORKERS) }
         ensures ok { IfOk result (λ fates.
@@ -47,42 +50,51 @@ impl<A: Places, B: Seats> World<A, B> {
         if keeper.is_full() {
             return Err(TickError::HistoryFull);
         }
-        if let Some(fates) = self.rest(rt, alloc, keeper, workers, gate)? {
-            return Ok(fates);
+        if is_quiet {
+            return self.tick_at_rest(rt, alloc, keeper, workers, gate);
         }
         self.tick_each(rt, alloc, keeper, workers, gate)
     }
 
-    // Makes the tick of sectors that all rest, and takes none of them out of its place. If one of
-    // them is not known to rest it makes no tick.
-    fn rest<R: Threads + Wait + Sync, G: Gate + Sync>(
+    /// Gives each sector the number of the version that judges the open windows, where the keeper
+    /// knows that its window began with its part of the world. What is lifted next is then what the
+    /// keeper has of it.
+    pub fn catch_up(&mut self, keeper: &Keeper<A>)
+        ensures { self.new.bounds ≡ self.old.bounds }
+    {
+        for at in 0..self.slots.len() {
+            catch_up_in(&mut self.slots[at], keeper);
+        }
+    }
+
+    // Makes the tick of sectors in which nothing was recorded, and takes none of them out of its
+    // place. If one that begins its next window with something is not known to rest each is taken
+    // out all the same.
+    fn tick_at_rest<R: Threads + Wait + Sync, G: Gate + Sync>(
         &mut self,
         rt: &R,
         alloc: Global,
         keeper: &mut Keeper<A>,
         workers: usize,
         gate: &G,
-    ) -> Result<Option<Vec<(Pos, Fate)>>, TickError>
+    ) -> Result<Vec<(Pos, Fate)>, TickError>
         requires workers { (0 < workers) × (workers ≤ MAX_WORKERS) }
         requires more { length keeper.old.chronicle.ticks < most_ticks }
-        ensures made { IfOk result (λ made. IfSome made (λ fates.
-            HasTicked A.first A.all keeper.old fates.items keeper.new)) }
-        ensures none { result ≡ Ok None → keeper.new ≡ keeper.old }
+        ensures ok { IfOk result (λ fates.
+            HasTicked A.first A.all keeper.old fates.items keeper.new) }
         ensures err { OnErr result (KnowsAsBefore keeper.old keeper.new) }
-        ensures refused { IfErr result (λ error. (error ≡ NoView) ⊎ (error ≡ NoMemory)) }
+        ensures full { result ≢ Err HistoryFull }
+        ensures torn { (k : ℕ) → result ≡ Err (Torn k) → k < A.all }
         ensures bounds { self.new.bounds ≡ self.old.bounds }
     {
-        let Some(was) = keeper.mark() else {
-            return Ok(None);
-        };
-        if !self.all_rest(keeper) {
-            return Ok(None);
-        }
         let ready = keeper.ready_at_rest(rt, alloc, workers, gate)?;
+        if !self.all_rest(keeper, ready.fresh()) {
+            return self.tick_each(rt, alloc, keeper, workers, gate);
+        }
         keeper.soundness();
         let (fates, next) = keeper.close_at_rest(alloc, ready);
-        self.lead_on(keeper, &was, next);
-        Ok(Some(fates))
+        self.renew_each(keeper, next);
+        Ok(fates)
     }
 
     // Makes the tick of the sectors, each taken out of its place.
@@ -110,28 +122,59 @@ impl<A: Places, B: Seats> World<A, B> {
         made
     }
 
-    // Whether all sectors are known to rest. Only costs rest on the answer.
-    fn all_rest(&mut self, keeper: &Keeper<A>) -> bool
+    // Whether all sectors for which the list has something are known to rest. Only costs rest on
+    // the answer.
+    fn all_rest(&mut self, keeper: &Keeper<A>, next: &[Option<Fresh>]) -> bool
         ensures { self.new.bounds ≡ self.old.bounds }
     {
-        for at in 0..self.slots.len() {
-            if !rests_in(&mut self.slots[at], keeper) {
+        for at in 0..next.len() {
+            if next[at].is_some() && !self.rests_at(at, keeper) {
                 return false;
             }
         }
         true
     }
 
-    // Has each sector begin its next window that rested by this mark, with what is given for it.
-    fn lead_on(&mut self, keeper: &Keeper<A>, was: &Mark<Known, A>, next: Vec<Option<Fresh>>)
-        requires { (before : WorldData) × (was.now ≡ Some before)
-            × AreLed A.all before keeper.now.world next.items }
+    // Whether the sector of that number is known to rest. Only costs rest on the answer.
+    fn rests_at(&mut self, at: usize, keeper: &Keeper<A>) -> bool
+        ensures { self.new.bounds ≡ self.old.bounds }
+    {
+        if self.slots.len() <= at {
+            return false;
+        }
+        rests_in(&mut self.slots[at], keeper)
+    }
+
+    // Has each sector begin its next window with what the list has for it.
+    fn renew_each(&mut self, keeper: &Keeper<A>, next: Vec<Option<Fresh>>)
+        requires { AreBegun A.all keeper.now.world next.items }
         ensures { self.new.bounds ≡ self.old.bounds }
     {
         let mut next = next;
-        for at in 0..self.slots.len() {
+        for at in 0..next.len() {
             let fresh = take_at(&mut next, at);
-            lead_on_in(&mut self.slots[at], at, keeper, was, fresh);
+            self.renew_if(at, keeper, fresh);
+        }
+    }
+
+    // Has the sector of that number, if there is one, begin its next window with this, if it is
+    // something.
+    fn renew_if(&mut self, at: usize, keeper: &Keeper<A>, next: Option<Fresh>)
+        requires { at < A.all → IfSome next (IsBegun keeper.now.world at) }
+        ensures { self.new.bounds ≡ self.old.bounds }
+    {
+        if let Some(fresh) = next {
+            self.renew_at(at, keeper, fresh);
+        }
+    }
+
+    // Has the sector of that number, if there is one, begin its next window with this.
+    fn renew_at(&mut self, at: usize, keeper: &Keeper<A>, fresh: Fresh)
+        requires { at < A.all → IsBegun keeper.now.world at fresh }
+        ensures { self.new.bounds ≡ self.old.bounds }
+    {
+        if at < self.slots.len() {
+            renew_in(&mut self.slots[at], at, keeper, fresh);
         }
     }
 
@@ -198,17 +241,15 @@ fn rests_in<A: Places>(slot: &mut Mutex<Slot<A>>, keeper: &Keeper<A>) -> bool {
     slot.get_mut().rests(keeper)
 }
 
-// Has the sector in the place of that number begin its next window with this, or else over its
-// cells, where it rested by this mark.
-fn lead_on_in<A: Places>(
-    slot: &mut Mutex<Slot<A>>,
-    at: usize,
-    keeper: &Keeper<A>,
-    was: &Mark<Known, A>,
-    next: Option<Fresh>,
-)
-    requires { (before : WorldData) × (was.now ≡ Some before)
-        × IsLed before keeper.now.world at next }
+// Has the sector in the place of that number begin its next window with this.
+fn renew_in<A: Places>(slot: &mut Mutex<Slot<A>>, at: usize, keeper: &Keeper<A>, fresh: Fresh)
+    requires { IsBegun keeper.now.world at fresh }
 {
-    slot.get_mut().lead_on(at, keeper, was, next);
+    slot.get_mut().renew(at, keeper, fresh);
+}
+
+// Gives the sector in its place the number of the version that judges the open windows, where the
+// keeper knows it.
+fn catch_up_in<A: Places>(slot: &mut Mutex<Slot<A>>, keeper: &Keeper<A>) {
+    slot.get_mut().catch_up(keeper);
 }

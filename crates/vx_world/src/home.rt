@@ -4,7 +4,7 @@ ghost use Rattle.vx_sector.specs.Commands.{place_of};
 ghost use Rattle.vx_sector.specs.SectorData.{seat_of};
 ghost use Rattle.vx_sector.specs.Windows.{answer_of, count_of, is_recorded, sector_after};
 ghost use Rattle.vx_record.specs.Calls.{lists_after};
-ghost use Rattle.vx_keeper.specs.Marks.{IsLed, IsPartOf, WorldData};
+ghost use Rattle.vx_keeper.specs.Marks.{IsBegun, IsPartOf};
 ghost use Rattle.vx_world.specs.Numbered.{IsSectorOf};
 
 use crate::books::Books;
@@ -15,10 +15,9 @@ use std::sync::ledger::Share;
 use std::sync::{Mutex, Wait};
 use vx_block::Part;
 use vx_geom::{Bounds, Pos};
-use vx_keeper::{Keeper, Known, Marked, Places};
+use vx_keeper::{Keeper, Marked, Places};
 use vx_record::is_recorded;
 use vx_sector::{Cmd, Fresh, Refusal, Reply};
-use vx_stamp::Mark;
 
 /// A sector that is at home, with its share of the ledger, which is as many entries as it has, in
 /// closed windows too.
@@ -58,19 +57,20 @@ impl<A: Places> Home<A> {
         self.marked.sector().entries().is_empty() && keeper.has_marked(&self.marked)
     }
 
-    /// Has it begin its next window with this, or else over its cells, where it is the sector of that
-    /// number and rested by this mark.
-    pub fn lead_on(
-        &mut self,
-        at: usize,
-        keeper: &Keeper<A>,
-        was: &Mark<Known, A>,
-        next: Option<Fresh>,
-    )
-        requires { (before : WorldData) × (was.now ≡ Some before)
-            × IsLed before keeper.now.world at next }
+    /// Has it begin its next window with this, as `Keeper::renew` does, where it is the sector of
+    /// that number.
+    pub fn renew(&mut self, at: usize, keeper: &Keeper<A>, fresh: Fresh)
+        requires { IsBegun keeper.now.world at fresh }
     {
-        keeper.lead_on(at, &mut self.marked, was, next);
+        keeper.renew(at, &mut self.marked, fresh);
+    }
+
+    /// Gives it the number of the version that judges the open windows, as `Keeper::catch_up` does,
+    /// and tells whether its window began with its part of what the keeper knows.
+    pub fn catch_up(&mut self, keeper: &Keeper<A>) -> bool
+        ensures { result ≡ true → IsPartOf keeper.now.world self.new.marked }
+    {
+        keeper.catch_up(&mut self.marked)
     }
 
     /// Whether the sector holds the position.

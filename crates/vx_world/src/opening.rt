@@ -91,7 +91,8 @@ fn locked_slot<A: Places>(
     ensures amount { rest.new.amount ≡ 0 }
 {
     let share = rest.split_off(1, 0);
-    let marked = Marked::new(sector, keeper.mark());
+    let mark = keeper.mark_for(&sector);
+    let marked = Marked::new(sector, mark);
     CachePadded::new(Mutex::new(Slot {
         home: Some(Home::new(marked, share)),
     }))

@@ -1,14 +1,13 @@
 ghost use Rattle.std.specs.Prelude.{◌≡◌, ◌↔◌, Some, true};
-ghost use Rattle.vx_keeper.specs.Marks.{IsLed, WorldData};
+ghost use Rattle.vx_keeper.specs.Marks.{IsBegun};
 ghost use Rattle.vx_world.specs.Settlements.{IsHome, IsHomeOf, sector_here};
 
 use crate::home::Home;
 use std::mem;
 use vx_geom::{Bounds, Pos};
-use vx_keeper::{Keeper, Known, Places};
+use vx_keeper::{Keeper, Places};
 use vx_record::Place;
 use vx_sector::{Fresh, Sector};
-use vx_stamp::Mark;
 
 /// What stands under the lock of a sector: the sector at home, or nothing while it is away.
 pub struct Slot<A: Places> {
@@ -57,20 +56,20 @@ impl<A: Places> Slot<A> {
         }
     }
 
-    /// Has the sector at home begin its next window with this, or else over its cells, where it is
-    /// the one of that number and rested by this mark.
-    pub fn lead_on(
-        &mut self,
-        at: usize,
-        keeper: &Keeper<A>,
-        was: &Mark<Known, A>,
-        next: Option<Fresh>,
-    )
-        requires { (before : WorldData) × (was.now ≡ Some before)
-            × IsLed before keeper.now.world at next }
+    /// Has the sector at home begin its next window with this, as `Home::renew` does.
+    pub fn renew(&mut self, at: usize, keeper: &Keeper<A>, fresh: Fresh)
+        requires { IsBegun keeper.now.world at fresh }
     {
         if let Some(home) = &mut self.home {
-            home.lead_on(at, keeper, was, next);
+            home.renew(at, keeper, fresh);
+        }
+    }
+
+    /// Gives the sector at home the number of the version that judges the open windows, as
+    /// `Home::catch_up` does.
+    pub fn catch_up(&mut self, keeper: &Keeper<A>) {
+        if let Some(home) = &mut self.home {
+            home.catch_up(keeper);
         }
     }
 

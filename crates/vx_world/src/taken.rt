@@ -37,7 +37,8 @@ impl<A: Places> Taken<A> {
         })
     }
 
-    /// Adds a sector that was at home, with what the keeper's mark on it says. It takes no memory.
+    /// Adds a sector that was at home, under the number of the version that judges its window, with
+    /// what the keeper's mark on it says. It takes no memory.
     pub fn add(&mut self, keeper: &Keeper<A>, home: Home<A>)
         requires more { vec_len self.old.sectors < A.all }
         requires parts { AreParts keeper.now.world self.old.are_parts.items
@@ -46,7 +47,8 @@ impl<A: Places> Taken<A> {
             self.new.sectors.items }
         ensures count { vec_len self.new.sectors ≡ vec_len self.old.sectors + 1 }
     {
-        let is_part = keeper.has_marked(&home.marked);
+        let mut home = home;
+        let is_part = home.catch_up(keeper);
         let (marked, share) = home.into_parts();
         self.push(marked.into_sector(), is_part, share);
     }
@@ -128,5 +130,6 @@ fn marked<A: Places>(keeper: &Keeper<A>, sector: Sector, is_part: bool) -> Marke
     if !is_part {
         return Marked::new(sector, None);
     }
-    Marked::new(sector, keeper.mark())
+    let mark = keeper.mark_for(&sector);
+    Marked::new(sector, mark)
 }

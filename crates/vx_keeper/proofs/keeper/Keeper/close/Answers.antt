@@ -18,8 +18,9 @@ use Rattle.vx_record.specs.Records.{tick_in}
 use Rattle.vx_record.specs.Archives.{IsArchive, IsNextTick, next_counts}
 use Rattle.vx_record.proofs.Counting.{archive_grown, counts_fit, counts_go_on}
 use Rattle.vx_keeper.specs.Keepers.{KeeperData, keeper_data, IsKeeper, map_by, map_now, map_next, chronicle_next}
-use Rattle.vx_keeper.specs.Marks.{IsPartOf}
+use Rattle.vx_keeper.specs.Marks.{AreMarks, IsPartOf}
 use Rattle.vx_keeper.proofs.Closing.{tick, is_next, keeps}
+use Rattle.vx_keeper.proofs.Giving.{all_marked}
 use Rattle.vx_keeper.proofs.Knowing.{AreAsKnown, changes_known, held_of, whole_now}
 use Rattle.vx_keeper.proofs.Parts.{parts_renewed}
 use Rattle.vx_keeper.proofs.keeper.Keeper.close.Given.{Over}
@@ -96,7 +97,7 @@ add-requires-clause-most g c =
     fits
 
 -- where the sectors lie, and the map that the tick leaves
-module _ (g : Over) (c : goal.Joined-self-mark g) where
+module _ (g : Over) (c : goal.Joined-mark g) where
   abbrev k : KeeperData
   k = c.args.self.now
 
@@ -190,10 +191,21 @@ module _ (g : Over) (c : goal.Joined-self-mark g) where
       c.requires.ready.version c.requires.more next_whole next_each
       (All-map (λ n. n ≤ most_entries) count_of ss (λ j d within. (c.are_sectors.ensures j d within).most)))
 
+marks_are : (g : Over) (c : goal.Joined-mark g) → AreMarks c.give_all.new.self c.go_on-was.new.self
+marks_are g c =
+    all_marked c.self.inside.marks c.give_all.new.self c.mark-mark.result c.go_on-was.new.self
+    (c.self.invariant.1.0 ∙ before_each g c) c.give_all.ensures.count c.give_all.ensures.given c.mark-mark.ensures
+  where
+    before_each : (g : Over) (c : goal.Joined-mark g)
+        → length c.self.inside.known.map.sectors ≡ length c.go_on-was.new.self.map.sectors
+    before_each g c =
+        omega (arith, ap (λ (m : MapData). length m.sectors) (map_is g c), next_each g c, c.soundness.ensures.each,
+        ap (λ (k : KeeperData). length k.world.map.sectors) c.self.view_is)
+
 pub invariant_of-self : goal.invariant_of-self
 invariant_of-self g c = (
   keeper_is g c,
-  c.mark.ensures,
+  marks_are g c,
   subst (λ m. IsWatch m c.args.ready.watch) (sym (map_is g c)) c.requires.ready.watch,
 )
 

@@ -11,7 +11,9 @@ use Rattle.vx_windows.specs.Sectors.{with_changes}
 use Rattle.vx_record.specs.Chronicles.{TickData, ChronicleData}
 use Rattle.vx_record.specs.Records.{tick_in}
 use Rattle.vx_record.specs.Archives.{IsNextTick}
-use Rattle.vx_keeper.specs.Keepers.{KeeperData, IsKeeper, chronicle_next, keeper_data, map_by, map_next, resting}
+use Rattle.vx_keeper.specs.Keepers.{KeeperData, IsKeeper, chronicle_next, keeper_data, map_by, map_next, resting, version_next}
+use Rattle.vx_keeper.specs.Marks.{AreGiven, AreLed, AreMarks}
+use Rattle.vx_keeper.proofs.Giving.{led_begun, led_marked}
 use Rattle.vx_keeper.proofs.Resting.{rest_counted, rest_is_next, rest_keeps, rest_told}
 use Rattle.vx_keeper.proofs.keeper.Keeper.close_at_rest.Given.{Over}
 use Rattle.vx_keeper.proofs.keeper.Keeper.close_at_rest.Goals as goal
@@ -53,7 +55,7 @@ add-requires-clause-most g c =
     c.soundness.ensures.few
 
 -- what the keeper has after the tick
-module _ (g : Over) (c : goal.Joined-self-mark g) where
+module _ (g : Over) (c : goal.Joined-mark g) where
   abbrev k : KeeperData
   k = c.args.self.now
 
@@ -110,10 +112,37 @@ module _ (g : Over) (c : goal.Joined-self-mark g) where
       (rest_keeps g.A.Naming.first g.A.Places.all k c.soundness.ensures c.args.ready.version c.add.new.self.is_roomy
       c.requires.ready.version c.requires.more next_whole next_each)
 
+led_are : (g : Over) (c : goal.Joined-mark g)
+    → AreLed g.A.Places.all c.args.self.now.world c.go_on-was.new.self c.args.ready.fresh.items
+led_are g c =
+    let k = c.args.self.now in
+    let next : record { map = map_next k (resting k); version = version_next g.A.Naming.first k } ≡ c.go_on-was.new.self =
+    (λ i. record { map = map_next k (resting k); version = sym c.requires.ready.version i }) ∙ sym (world_is g c) in
+    subst (λ w. AreLed g.A.Places.all k.world w c.args.ready.fresh.items) next
+    (subst (λ n. AreLed n k.world (record { map = map_next k (resting k); version = version_next g.A.Naming.first k }) c.args.ready.fresh.items)
+    c.soundness.ensures.each c.requires.ready.led)
+
+marks_are : (g : Over) (c : goal.Joined-mark g) → AreMarks c.give_led.new.self c.go_on-was.new.self
+marks_are g c =
+    let k = c.args.self.now in
+    let here = ap (λ (k : KeeperData). k.world) c.self.view_is in
+    let marks : AreMarks c.self.inside.marks k.world = subst (AreMarks c.self.inside.marks) here c.self.invariant.1 in
+    let many : length c.go_on-was.new.self.map.sectors ≡ length k.world.map.sectors =
+    omega (arith, ap (λ (m : MapData). length m.sectors) (map_is g c), next_each g c, c.soundness.ensures.each) in
+    led_marked c.self.inside.marks c.give_led.new.self c.args.ready.fresh.items c.mark-mark.result k.world c.go_on-was.new.self
+    marks many (subst (λ n. AreLed n k.world c.go_on-was.new.self c.args.ready.fresh.items) (sym c.soundness.ensures.each) (led_are g c))
+    c.mark-mark.ensures
+    (subst (λ next. AreGiven c.self.inside.marks next c.mark-mark.result c.give_led.new.self) c.deref.ensures.value c.give_led.ensures)
+
+pub returns-clause-begun : goal.returns-clause-begun
+returns-clause-begun g c =
+    let k = c.args.self.now in
+    led_begun g.A.Places.all k.world c.go_on-was.new.self c.args.ready.fresh.items (led_are g c)
+
 pub invariant_of-self : goal.invariant_of-self
 invariant_of-self g c = (
   keeper_is g c,
-  c.mark-mark.ensures,
+  marks_are g c,
   subst (λ m. IsWatch m c.args.ready.watch) (sym (map_is g c)) c.requires.ready.watch,
 )
 

@@ -17,8 +17,8 @@ returns-clause-parts g c =
     (subst (λ (ss : List SectorData). All (IsPartOf world) ss) (sym opened)
     (parts_opened o.terrain o.policy c.soundness.ensures.map.each))
 
-pub opened-keeper-requires : goal.opened-keeper-requires
-opened-keeper-requires g c =
+pub opened-keeper-requires-clause-keeper : goal.opened-keeper-requires-clause-keeper
+opened-keeper-requires-clause-keeper g c =
     opened_keeps g.A.Naming.first g.A.Places.all c.args.opening c.in_ok-archive.archive c.in_ok-known.known c.args.view
     c.soundness-2.ensures c.soundness.ensures.map c.requires.first c.requires.all
     c.in_ok-archive.ensures.chronicle c.in_ok-archive.ensures.counts c.in_ok-known.ensures

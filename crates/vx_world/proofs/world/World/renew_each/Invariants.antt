@@ -1,6 +1,6 @@
 use Rattle.std.proofs.Common.{◌≡◌, ℕ, ◌≤◌, None}
 use Rattle.std.specs.Prelude.{slice_index_or}
-use Rattle.vx_world.proofs.world.World.lead_on.Given as goal
+use Rattle.vx_world.proofs.world.World.renew_each.Given as goal
 
 -- what is given for the sectors that are left is still there
 abbrev pub invariant-loop-at : goal.invariant-loop-at

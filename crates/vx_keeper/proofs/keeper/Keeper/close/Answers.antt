@@ -199,8 +199,13 @@ marks_are g c =
     before_each : (g : Over) (c : goal.Joined-mark g)
         → length c.self.inside.known.map.sectors ≡ length c.go_on-was.new.self.map.sectors
     before_each g c =
-        omega (arith, ap (λ (m : MapData). length m.sectors) (map_is g c), next_each g c, c.soundness.ensures.each,
-        ap (λ (k : KeeperData). length k.world.map.sectors) c.self.view_is)
+        omega (
+          arith,
+          ap (λ (m : MapData). length m.sectors) (map_is g c),
+          next_each g c,
+          c.soundness.ensures.each,
+          ap (λ (k : KeeperData). length k.world.map.sectors) c.self.view_is,
+        )
 
 pub invariant_of-self : goal.invariant_of-self
 invariant_of-self g c = (

@@ -70,7 +70,8 @@ abbrev pub AreLed : ℕ → WorldData → WorldData → List (Option FreshData) 
 AreLed count before after all =
     (n : ℕ) → n < count → IsLed before after n (slice_index_or all n None)
 
--- the mark of a sector that is given one where something is given for its next window
+-- the mark that a sector has then: the new one where something is given for its next window, and
+-- else the one that it had
 abbrev pub mark_given : Option (Option WorldData) → Option (Option WorldData) → Option FreshData
     → Option (Option WorldData)
 mark_given was mark None = was

@@ -44,8 +44,8 @@ use vx_windows::{MAX_TICKS, cells_of, open_sectors, renew_sectors, written};
 /// holds it makes the ticks, of sectors that were taken out of their locks.
 // It keeps what is known of the map as the windows began, so that a tick looks only where it
 // changed; where that was lost, for want of memory in a tick, the next one looks everywhere. It
-// keeps a view of the desk, by which it fixes versions, and for each sector the mark of what it
-// knew when that last became another, which it gives to the sector.
+// keeps a view of the desk, by which it fixes versions, and for each sector a mark of what it knew
+// when that sector's part of it last changed, which it gives to the sector.
 pub struct Keeper<A: Places> {
     archive: Archive,
     known: Known,
@@ -174,9 +174,9 @@ impl<A: Places> Keeper<A> {
         true
     }
 
-    /// Has the sector of that number begin its next window with this, and with the mark of what the
-    /// keeper knows, if nothing is recorded in its window and it is of the size of the world. Else
-    /// it stays as it is.
+    /// Has the sector of that number begin its next window with this, and with its mark, if nothing
+    /// is recorded in its window and it is of the size of the world. Else it stays as it is. No
+    /// clause tells which of the two: one that stays is torn to the next tick.
     pub fn renew(&self, at: usize, marked: &mut Marked<A>, fresh: Fresh)
         requires { IsBegun self.now.world at fresh }
         ensures led { (marked.new ≡ marked.old) ⊎ IsPartOf self.now.world marked.new }

@@ -24,7 +24,7 @@ impl<A: Places> Model for SectorMarks<A> {
 }
 
 impl<A: Places> SectorMarks<A> {
-    /// None for so many sectors.
+    /// No mark yet, for so many sectors.
     pub(crate) fn none(alloc: Global, count: usize) -> Result<SectorMarks<A>, AllocError>
         ensures { IfOk result (λ marks. marks ≡ replicate count None) }
     {
@@ -35,7 +35,7 @@ impl<A: Places> SectorMarks<A> {
         Ok(SectorMarks { marks })
     }
 
-    /// That of the sector of this number, if there is one.
+    /// The mark of the sector of this number, if it has one.
     pub(crate) fn of(&self, number: usize) -> Option<Mark<Known, A>>
         ensures { result ≡ slice_index_or self.now number None }
     {

@@ -233,8 +233,8 @@ impl<A: Places, B: Seats> Session<A, B> {
     }
 }
 
-// Whether no command was carried out since the last tick, by the marks of what was done. Only costs
-// rest on the answer.
+// Whether no command was carried out since the last tick, by the marks of what was done. No clause
+// tells the answer: if it were wrong, the settlement would say so in the end.
 fn is_quiet(marks: &[Mark]) -> bool {
     for mark in marks.iter().rev() {
         match mark {

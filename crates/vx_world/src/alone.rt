@@ -122,8 +122,8 @@ impl<A: Places, B: Seats> World<A, B> {
         made
     }
 
-    // Whether all sectors for which the list has something are known to rest. Only costs rest on
-    // the answer.
+    // Whether all sectors for which the list has something are known to rest. No clause tells the
+    // answer: one that did not rest would stay as it is, and be torn to the next tick.
     fn all_rest(&mut self, keeper: &Keeper<A>, next: &[Option<Fresh>]) -> bool
         ensures { self.new.bounds ≡ self.old.bounds }
     {
@@ -135,7 +135,7 @@ impl<A: Places, B: Seats> World<A, B> {
         true
     }
 
-    // Whether the sector of that number is known to rest. Only costs rest on the answer.
+    // Whether the sector of that number is known to rest.
     fn rests_at(&mut self, at: usize, keeper: &Keeper<A>) -> bool
         ensures { self.new.bounds ≡ self.old.bounds }
     {
@@ -236,7 +236,7 @@ fn put_in<A: Places>(slot: &mut Mutex<Slot<A>>, home: Home<A>) {
     slot.get_mut().put(home);
 }
 
-// Whether the sector in its place is known to rest. Only costs rest on the answer.
+// Whether the sector in its place is known to rest.
 fn rests_in<A: Places>(slot: &mut Mutex<Slot<A>>, keeper: &Keeper<A>) -> bool {
     slot.get_mut().rests(keeper)
 }

@@ -1,7 +1,7 @@
 ghost use Rattle.std.specs.Bool.{Decides};
 ghost use Rattle.std.specs.List.{All};
 ghost use mathlib.Core.List.{IsPrefix};
-ghost use Rattle.std.specs.Prelude.{◌≡◌, ℕ, ◌<◌, ◌≤◌, ◌+◌, ◌↔◌, ◌⊎◌, true, [], length, map, None, Some, Ok, Err, IfOk, IfErr, IfSome, MatchOption, OnErr, OnOk};
+ghost use Rattle.std.specs.Prelude.{◌≡◌, ℕ, ◌<◌, ◌≤◌, ◌+◌, ◌↔◌, ◌⊎◌, true, false, [], length, map, None, Some, Ok, Err, IfOk, IfErr, IfSome, MatchOption, OnErr, OnOk};
 ghost use Rattle.vx_step.specs.declared.workers.TheConstants.{MAX_WORKERS};
 ghost use Rattle.vx_windows.specs.Sectors.{cells_of, all_renewed, opened_by, opened_with, first_version};
 ghost use Rattle.vx_windows.specs.Limits.{most_ticks};
@@ -11,7 +11,7 @@ ghost use Rattle.vx_sector.specs.Windows.{count_of};
 ghost use Rattle.vx_record.specs.Records.{chronicle_in};
 ghost use Rattle.vx_record.specs.Settling.{AreKnown, BeganWith, IsKnown, IsTorn};
 ghost use Rattle.vx_keeper.specs.Keepers.{IsKeeper, KnowsAsBefore, keeper_data, known, version_next, map_now, map_next, fates_next, chronicle_next, resting};
-ghost use Rattle.vx_keeper.specs.Marks.{AreBegun, AreParts, IsBegun, IsMarkOf, IsPartOf, IsQuietAt};
+ghost use Rattle.vx_keeper.specs.Marks.{AreBegun, AreParts, IsBegun, IsMarkOf, IsPartOf, IsQuietAt, renumbered};
 ghost use Rattle.vx_keeper.specs.Readiness.{CanClose, CanCloseAtRest};
 ghost use Rattle.vx_keeper.specs.Torn.{IsNoWork};
 ghost use Rattle.vx_keeper.specs.declared.tick_error.TickError.TheVariants.{HistoryFull, NoMemory, NoView, Torn};
@@ -165,6 +165,9 @@ impl<A: Places> Keeper<A> {
     /// one whose window began with its part of what the keeper knows, and tells whether it is.
     pub fn catch_up(&self, marked: &mut Marked<A>) -> bool
         ensures part { result ≡ true → IsPartOf self.now.world marked.new }
+        ensures caught { result ≡ true
+            → marked.new ≡ renumbered marked.old self.now.world.version.tick }
+        ensures kept { result ≡ false → marked.new ≡ marked.old }
         ensures count { count_of marked.new ≡ count_of marked.old }
     {
         if !self.has_marked(marked) {

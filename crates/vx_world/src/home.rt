@@ -4,7 +4,7 @@ ghost use Rattle.vx_sector.specs.Commands.{place_of};
 ghost use Rattle.vx_sector.specs.SectorData.{seat_of};
 ghost use Rattle.vx_sector.specs.Windows.{answer_of, count_of, is_recorded, sector_after};
 ghost use Rattle.vx_record.specs.Calls.{lists_after};
-ghost use Rattle.vx_keeper.specs.Marks.{IsBegun, IsPartOf};
+ghost use Rattle.vx_keeper.specs.Marks.{IsBegun, IsPartOf, renumbered};
 ghost use Rattle.vx_world.specs.Numbered.{IsSectorOf};
 
 use crate::books::Books;
@@ -68,7 +68,10 @@ impl<A: Places> Home<A> {
     /// Gives it the number of the version that judges the open windows, as `Keeper::catch_up` does,
     /// and tells whether its window began with its part of what the keeper knows.
     pub fn catch_up(&mut self, keeper: &Keeper<A>) -> bool
-        ensures { result ≡ true → IsPartOf keeper.now.world self.new.marked }
+        ensures part { result ≡ true → IsPartOf keeper.now.world self.new.marked }
+        ensures caught { result ≡ true
+            → self.new.marked ≡ renumbered self.old.marked keeper.now.world.version.tick }
+        ensures kept { result ≡ false → self.new.marked ≡ self.old.marked }
     {
         keeper.catch_up(&mut self.marked)
     }

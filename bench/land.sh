@@ -148,10 +148,10 @@ sweep_named() {
     members) sweep members sweep_members "members of a region, 20,000 other edits of it" 1 10 100 1000 5000 ;;
     names) sweep names sweep_names "members of a region, 2,000 edits that add or drop one" 1 10 100 1000 5000 ;;
     sectors) sweep sectors sweep_sectors "sectors, 40,000 idle ticks" 1 4 16 36 64 ;;
-    awake) sweep awake sweep_awake "% of 4,800 dust awake, 1,000 ticks" 0.1 0.3 1 3 10 30 100 ;;
-    awake_of_many) sweep awake_of_many sweep_awake_of_many "% of 48,000 dust awake, 200 ticks" 0.1 0.3 1 3 10 30 100 ;;
-    loops) sweep loops sweep_loops "of 961 rings of 24 dust run, 200 ticks" 1 4 16 64 256 961 ;;
-    machines) sweep machines sweep_machines "pistons, 200 ticks" 10 100 1000 4000 12000 ;;
+    awake) sweep awake sweep_awake "% of 4,800 dust awake, 1,000 ticks or more" 0.1 0.3 1 3 10 30 100 ;;
+    awake_of_many) sweep awake_of_many sweep_awake_of_many "% of 48,000 dust awake, 200 ticks or more" 0.1 0.3 1 3 10 30 100 ;;
+    loops) sweep loops sweep_loops "of 961 rings of 24 dust run, 200 ticks or more" 1 4 16 64 256 961 ;;
+    machines) sweep machines sweep_machines "pistons, 200 ticks or more" 10 100 1000 4000 12000 ;;
     storage)
       sweep storage sweep_storage "chests in a sector, a change before each of 20,000 ticks" \
         16 64 256 1000 4000 16000 40000

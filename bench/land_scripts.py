@@ -138,6 +138,12 @@ def ticks(count):
     return ["tick"] * count
 
 
+def ticks_for(running, least, together):
+    """So many ticks at least, and more where little runs: what runs and the ticks multiply to so much, so that the least
+    point of a sweep takes long enough to be told by a clock."""
+    return ticks(max(least, together // running))
+
+
 class Editor:
     """Edits of every kind of regions that the head of a script has defined. It knows which are there, and their parents, so
     that few edits are refused: a removal where the region has children, a parent where that is a cycle."""
@@ -332,22 +338,24 @@ def sweep_sectors(r, count):
 
 
 def sweep_awake(r, share):
-    """960 rings of five dust, of which so many of a hundred run, and 1,000 ticks."""
+    """960 rings of five dust, of which so many of a hundred run, and 1,000 ticks or more."""
     tiles = [(4 * k, 1, 4 * j) for j in range(30) for k in range(32)]
     r.shuffle(tiles)
     running = max(1, round(960 * share / 100))
-    return world(8) + list(rings_of_five(tiles, running)) + ["tick"], ticks(1000)
+    return world(8) + list(rings_of_five(tiles, running)) + ["tick"], ticks_for(running, 1000, 20_000)
 
 
 def sweep_awake_of_many(r, share):
-    """9,600 rings of five dust on three layers, of which so many of a hundred run, and 200 ticks."""
+    """9,600 rings of five dust on three layers, of which so many of a hundred run, and 200 ticks or more."""
     tiles = [(4 * k, y, 4 * j) for y in (1, 5, 9) for j in range(64) for k in range(64)]
     r.shuffle(tiles)
-    return world(8) + list(rings_of_five(tiles[:9600], max(1, round(9600 * share / 100)))) + ["tick"], ticks(200)
+    running = max(1, round(9600 * share / 100))
+    return world(8) + list(rings_of_five(tiles[:9600], running)) + ["tick"], ticks_for(running, 200, 20_000)
 
 
 def sweep_loops(r, count):
-    """961 rings of 24 dust, each beside a clock that feeds it and goes out, of which so many run, and 200 ticks."""
+    """961 rings of 24 dust, each beside a clock that feeds it and goes out, of which so many run, and 200 ticks or
+    more."""
     tiles = [(12 * k, y, 8 * j) for y in (0, 4, 8) for j in range(32) for k in range(21)]
     r.shuffle(tiles)
     head = world(8)
@@ -355,12 +363,12 @@ def sweep_loops(r, count):
         head += clock(x, z, 1, n < count, y + 1)
         ring = [(x + 3 + k, z + j) for k in range(7) for j in range(7) if {k, j} & {0, 6}]
         head += [f"set {at} {y + 1} {to} dust" for at, to in [(x + 2, z + 1), *ring]]
-    return head + ["tick"], ticks(200)
+    return head + ["tick"], ticks_for(count, 200, 10_000)
 
 
 def sweep_machines(r, count):
-    """So many pistons, and 200 ticks."""
-    return world(8) + list(clocked_pistons(r, count, 256, layers=(0, 8))) + ["tick"], ticks(200)
+    """So many pistons, and 200 ticks or more."""
+    return world(8) + list(clocked_pistons(r, count, 256, layers=(0, 8))) + ["tick"], ticks_for(count, 200, 100_000)
 
 
 def sweep_storage(r, count):

@@ -15,6 +15,8 @@ else
   "$root/run" - </dev/null >/dev/null
 fi
 . "$root/bench/measure.sh"
+# As ./run sets it.
+export GLIBC_TUNABLES=glibc.malloc.hugetlb=1
 
 # The header of a world of so many sectors each way, so high, with so many players.
 header() {

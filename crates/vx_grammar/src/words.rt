@@ -58,7 +58,9 @@ impl<'a> Words<'a> {
         ensures { MatchOption result ((self.old ≡ []) × (self.new ≡ []))
             (λ word. self.old ≡ word.now ∷ self.new) }
     {
-        str::from_utf8(self.next()?).ok()
+        let word = self.next()?;
+        // The line is a text, and so is each of its words: they need not be read once more.
+        Some(unsafe { str::from_utf8_unchecked(word) })
     }
 }
 

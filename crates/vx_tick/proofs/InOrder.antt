@@ -92,7 +92,7 @@ module _ (P : Moving → Type 0) (alone : (a b : Moving) → P a → P b → a.a
       (next.0, next.1 ∙ known.1)) ns permuted).1
 
 -- what is in order comes out as it is
-not_less : (p q : Pos) → is_lt (compared p q) ≡ false → comes_before p q ≡ false
+pub not_less : (p q : Pos) → is_lt (compared p q) ≡ false → comes_before p q ≡ false
 not_less p q is = elim (cases_Bool (comes_before p q)) [
   | inl less ↦ absurd (false≢true (sym (rw less at is)))
   | inr no_less ↦ no_less
@@ -108,11 +108,11 @@ in_order (m ∷ n ∷ ms) sorted =
     ap (inserted m) (in_order (n ∷ ms) rest) ∙ rw first_two refl
 
 -- each before the next, or of its place
-abbrev IsNotBehind : Moving → List Moving → Type 0
+abbrev pub IsNotBehind : Moving → List Moving → Type 0
 IsNotBehind m [] = ⊤
 IsNotBehind m (n ∷ ms) = comes_before n.at m.at ≡ false
 
-abbrev Ascend : List Moving → Type 0
+abbrev pub Ascend : List Moving → Type 0
 Ascend [] = ⊤
 Ascend (m ∷ ms) = IsNotBehind m ms × Ascend ms
 
@@ -150,7 +150,7 @@ sorted_cons m n ms behind sorted zero d p q = less_not n.at m.at behind
 sorted_cons m n ms behind sorted (suc k) d p q =
     rw add-one (rw add-one at (sorted k d (omega arith) (omega arith)))
 
-sorted_from : (ms : List Moving) → Ascend ms → IsSortedByKey (λ (m : Moving). m.at) compared ms
+pub sorted_from : (ms : List Moving) → Ascend ms → IsSortedByKey (λ (m : Moving). m.at) compared ms
 sorted_from [] up = λ k d p q. absurd (omega arith)
 sorted_from (m ∷ []) up = λ k d p q. absurd (omega arith)
 sorted_from (m ∷ n ∷ ms) up = sorted_cons m n ms up.0 (sorted_from (n ∷ ms) up.1)

@@ -1,4 +1,5 @@
 pub mod Advancing
+pub mod AskedInOrder
 pub mod Asking
 pub mod InOrder
 pub mod Remaining

@@ -64,7 +64,7 @@ pub fn denials<D: Decide>(
     ensures { IfOk result (λ denials.
         denials.items ≡ map (denial (D.policy policy.now)) moves.now) }
 {
-    let mut denials = Vec::new(alloc);
+    let mut denials = Vec::with_capacity(alloc, moves.len())?;
     for m in moves {
         denials.push(judge(policy, m).err())?;
     }
@@ -102,7 +102,7 @@ fn ended(
         → denials.now ≡ map (denial rs) moves.now → IsTable (permitted rs all) claims.now
         → AreFates rs all moves.now fates.items) }
 {
-    let mut fates = Vec::new(alloc);
+    let mut fates = Vec::with_capacity(alloc, moves.len())?;
     for i in 0..moves.len() {
         let m = &moves[i];
         fates.push((m.at, end_of(claims, m, denials[i])))?;

@@ -106,8 +106,7 @@ impl Found {
         ensures moves { IfOk result (λ found. AreMoves map.now found.moves.items) }
     {
         let Seen { changes, restless } = seen;
-        let mut moves = moves_among(alloc, map, restless.as_slice())?;
-        sort_moves(&mut moves);
+        let moves = moves_in_order(alloc, map, restless.as_slice())?;
         Ok(Found {
             changes,
             restless,
@@ -180,6 +179,22 @@ pub fn sort_moves(moves: &mut Vec<Move>)
     ensures { AreInOrder moves.old.items moves.new.items }
 {
     moves.sort_unstable_by_key(|m| m.at);
+}
+
+// The moves that these pistons ask for, each of which would move, in the order of their positions.
+// The positions are brought into that order before, since a move takes many times their room.
+fn moves_in_order(
+    alloc: Global,
+    map: &Frozen<'_>,
+    restless: &[Pos],
+) -> Result<Vec<Move>, AllocError>
+    ensures { IfOk result (λ moves. (level : Pos → ℕ)
+        → All (λ p. is_restless (cell_on map.now) level p ≡ true) restless.now
+        → AreInOrder (asked map.now level restless.now) moves.items) }
+{
+    let mut order = restless.to_vec(alloc)?;
+    order.sort_unstable();
+    moves_among(alloc, map, order.as_slice())
 }
 
 // The moves that these pistons ask for, each of which would move, in their order.

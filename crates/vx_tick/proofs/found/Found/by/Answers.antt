@@ -14,9 +14,7 @@ returns-clause-moves c =
     let level = dust_level (cell_on m) in
     let count = sector_count m.sizes in
     let seen = c.as_slice.ensures.value ∙ c.requires.restless in
-    subst (λ given. AreInOrder given c.sort_moves.new.moves.items)
+    subst (λ given. AreInOrder given c.in_ok-moves.moves.items)
+    (ap (asked m level) seen ∙ all_restless_ask m count)
     (c.in_ok-moves.ensures level
-    (subst (All (λ p. is_restless (cell_on m) level p ≡ true)) (sym seen) (all_would_move m count))
-    ∙ ap (asked m level) seen
-    ∙ all_restless_ask m count)
-    c.sort_moves.ensures
+    (subst (All (λ p. is_restless (cell_on m) level p ≡ true)) (sym seen) (all_would_move m count)))

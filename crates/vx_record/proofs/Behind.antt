@@ -240,3 +240,15 @@ told_by_table seats cs table k ticks window (Some seat) once put unsaid =
           unsaid.differs (subst (λ n. get_or table n [] ≡ said_of n k ticks window) has.seated
           (All-contains (IsPut table k) cs has.caller put among ∙ tells));
     }
+
+-- what is told of ticks is told of others in which the same entries of the sector are closed
+pub told_alike : (seats : ℕ) (table : List (List Call)) (k : ℕ) (ticks others : List TickData)
+    (window : List EntryData) (result : Option ℕ) → closed_at k ticks ≡ closed_at k others
+    → MatchOption result (AreSaid seats table k ticks window) (λ seat. IsUnsaid seats table k ticks window seat)
+    → MatchOption result (AreSaid seats table k others window) (λ seat. IsUnsaid seats table k others window seat)
+told_alike seats table k ticks others window None same said =
+    λ seat below. said seat below ∙ ap (λ es. calls_of seat (es ++ window)) same
+told_alike seats table k ticks others window (Some seat) same is = record {
+  below = is.below;
+  differs = λ equal. is.differs (equal ∙ ap (λ es. calls_of seat (es ++ window)) (sym same));
+}

@@ -3,7 +3,9 @@ ghost use Rattle.std.specs.Bool.{Decides};
 ghost use Rattle.std.specs.List.{All};
 ghost use Rattle.std.specs.Prelude.{◌≡◌, ℕ, ◌<◌, ◌≤◌, ◌^◌, [], length, map, slice_index_or, MatchOption};
 ghost use Rattle.vx_record.specs.Settling.{IsEachOnce, callers_at, AreKnown, IsTorn, open_entries, AllAgree, SomeDiffers, IsFound};
+ghost use Rattle.vx_record.specs.Records.{tick_in};
 ghost use Rattle.vx_record.specs.Rests.{Tells, SomeTellsNot};
+ghost use Rattle.vx_record.specs.Said.{closed_at};
 ghost use Rattle.vx_sector.specs.SectorData.{entry_of};
 ghost use Rattle.vx_windows.specs.declared.limits.TheConstants.{MAX_PLAYERS};
 
@@ -13,6 +15,7 @@ use crate::caller::Caller;
 use crate::fault::Fault;
 use crate::place::Place;
 use crate::rests::unsaid;
+use crate::tick::Tick;
 use vx_sector::Entry;
 use vx_windows::MAX_PLAYERS;
 
@@ -144,7 +147,24 @@ fn differing_seat<P: Caller, S: Place>(
         (map P.caller callers.now) seat) }
 {
     let mut rests = calls_at(callers, seats, at);
-    unsaid(&mut rests, seats, at, archive.ticks(), window_in(place))
+    unsaid(
+        &mut rests,
+        seats,
+        at,
+        ticks_with(archive, at),
+        window_in(place),
+    )
+}
+
+// The ticks, where entries of the sector of that number are closed in them; else none, so that no
+// tick is looked at for a sector in which nothing was recorded.
+fn ticks_with(archive: &Archive, at: usize) -> &[Tick]
+    ensures { closed_at at (map tick_in result.now) ≡ closed_at at archive.now.chronicle.ticks }
+{
+    if at < archive.counts().len() && archive.count(at) == 0 {
+        return &[];
+    }
+    archive.ticks()
 }
 
 // The entries of a sector's open window; none where no sector is there.

@@ -34,6 +34,7 @@ use vx_world::Seats;
 
 /// Takes the line of that number, which stands in the body at this stage, and writes what is
 /// replied. Answers the stage after it.
+#[inline(always)]
 pub fn take_line<
     A: Places + Send + Sync,
     B: Seats + Send + Sync,
@@ -70,6 +71,7 @@ pub fn take_line<
 }
 
 // Takes a line that stands in no block.
+#[inline(always)]
 fn take_outside<
     A: Places + Send + Sync,
     B: Seats + Send + Sync,

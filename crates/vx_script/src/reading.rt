@@ -59,6 +59,7 @@ pub fn next_line<R: Read, W: Write>(
 }
 
 /// What a line says; nothing where it is too long, or none of the lines of a script.
+#[inline(always)]
 #[tactic(auto, unfolding(crate::specs::Headers::read_of))]
 pub fn read_of(alloc: Global, line: &[u8]) -> Result<Option<Line>, Fault>
     ensures ok { IfOk result (λ read. option_map said read ≡ read_of line.now) }

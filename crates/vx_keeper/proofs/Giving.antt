@@ -1,80 +1,51 @@
 -- Marks that are given to sectors, and what they say of these.
-use Rattle.std.proofs.Common.{◌≡◌, ℕ, ◌+◌, ◌<◌, ◌≤◌, List, length, set, get_or, Option, None, Some, IfSome, refl, sym, ap, ◌∙◌, subst, inl, inr, arith}
-use Rattle.std.proofs.lemmas.Bool.{cases_lt}
-use Rattle.std.proofs.lemmas.List.{get_or_past, get_or-set_same, get_or-set_other, length-set}
-use Rattle.vx_sector.specs.SectorData.{FreshData, SectorData}
+use Rattle.std.proofs.Common.{◌≡◌, ℕ, ◌<◌, Bool, true, false, ◌||◌, if◌then◌else◌, nat_eq, List, [], ◌∷◌, ◌++◌, length, set, get_or, Option, None, Some, IfSome, refl, sym, ap, ◌∙◌, subst, inl, inr, arith}
+use Rattle.std.proofs.Math.Bool.{or-true, or-false}
+use Rattle.std.proofs.lemmas.Bool.{cases_eq, cases_lt, eq-eqb, eqb-true, false_from_ne_true}
+use Rattle.std.proofs.lemmas.Grind.{get_or-set_at}
+use Rattle.std.proofs.lemmas.List.{get_or_past, get_or-set_other, length-set}
+use Rattle.std.proofs.lemmas.List.Folds.{list_any-append}
+use Rattle.vx_sector.specs.SectorData.{SectorData}
 use Rattle.vx_policy.specs.declared.version.Version.{Version}
-use Rattle.vx_keeper.specs.Marks.{AreBegun, AreGiven, AreLed, AreMarks, GoesOn, IsBegun, IsLed, IsMarkOf, IsPartOf, WorldData, mark_given}
+use Rattle.vx_keeper.specs.Marks.{AreGiven, AreLed, AreMarks, GoesOn, IsMarkOf, IsPartOf, WorldData, is_given}
+use Rattle.vx_keeper.specs.declared.next_window.NextWindow.{NextWindow}
 
--- the mark was given to those of the first so many sectors for which the list has something
-pub record GivenTo (marks : List (Option (Option WorldData))) (next : List (Option FreshData))
-    (mark : Option (Option WorldData)) (k : ℕ) (given : List (Option (Option WorldData))) : Type 0 where
-  pub long : length given ≡ length marks
-  pub there : (n : ℕ) → n < k → n < length marks
-      → get_or given n None ≡ mark_given (get_or marks n None) mark (get_or next n None)
-  pub later : (n : ℕ) → k ≤ n → get_or given n None ≡ get_or marks n None
+-- the list has something for the sector that is added to it
+pub given_last : (w : NextWindow) (next : List NextWindow) → is_given w.number (next ++ w ∷ []) ≡ true
+given_last w next =
+    list_any-append (λ (v : NextWindow). nat_eq v.number w.number) next (w ∷ [])
+    ∙ ap (λ b. is_given w.number next || (b || false)) (eq-eqb w.number w.number refl)
+    ∙ or-true (is_given w.number next)
 
-module _ (marks : List (Option (Option WorldData))) (next : List (Option FreshData)) (mark : Option (Option WorldData)) where
-  pub none_given : GivenTo marks next mark 0 marks
-  none_given = record {
-    long = refl;
-    there = λ n below within. absurd (omega (arith, below));
-    later = λ n above. refl;
-  }
+-- and for others as before
+pub given_beside : (n : ℕ) (w : NextWindow) (next : List NextWindow) → (w.number ≡ n → ⊥)
+    → is_given n (next ++ w ∷ []) ≡ is_given n next
+given_beside n w next other =
+    list_any-append (λ (v : NextWindow). nat_eq v.number n) next (w ∷ [])
+    ∙ ap (λ b. is_given n next || (b || false))
+    (false_from_ne_true (nat_eq w.number n) (λ same. other (eqb-true w.number n same)))
+    ∙ or-false (is_given n next)
 
-  given_here : (k : ℕ) (given : List (Option (Option WorldData))) (fresh : FreshData) → length given ≡ length marks
-      → get_or next k None ≡ Some fresh → (n : ℕ) → n ≡ k → n < length marks
-      → get_or (set given k mark) n None ≡ mark_given (get_or marks n None) mark (get_or next n None)
-  given_here k given fresh long there n same within =
-      ap (λ j. get_or (set given k mark) j None) same
-      ∙ get_or-set_same given k mark None (omega (arith, within, same, long))
-      ∙ ap (mark_given (get_or marks n None) mark) (sym (ap (λ j. get_or next j None) same ∙ there))
-
-  pub one_given : (k : ℕ) (given : List (Option (Option WorldData))) (fresh : FreshData) → GivenTo marks next mark k given
-      → get_or next k None ≡ Some fresh → GivenTo marks next mark (k + 1) (set given k mark)
-  one_given k given fresh is there = record {
-    long = length-set given k mark ∙ is.long;
-    there = λ n below within. elim (cases_lt n k) [
-      | inl before ↦ get_or-set_other given k n mark None (λ same. absurd (omega (arith, before, same))) ∙ is.there n before within
-      | inr after ↦ given_here k given fresh is.long there n (omega (arith, below, after)) within
-    ];
-    later = λ n above.
-        get_or-set_other given k n mark None (λ same. absurd (omega (arith, above, same))) ∙ is.later n (omega (arith, above));
-  }
-
-  kept_here : (k : ℕ) (given : List (Option (Option WorldData))) → GivenTo marks next mark k given
-      → get_or next k None ≡ None → (n : ℕ) → n ≡ k
-      → get_or given n None ≡ mark_given (get_or marks n None) mark (get_or next n None)
-  kept_here k given is there n same =
-      is.later n (omega (arith, same)) ∙ ap (mark_given (get_or marks n None) mark) (sym (ap (λ j. get_or next j None) same ∙ there))
-
-  pub one_kept : (k : ℕ) (given : List (Option (Option WorldData))) → GivenTo marks next mark k given
-      → get_or next k None ≡ None → GivenTo marks next mark (k + 1) given
-  one_kept k given is there = record {
-    long = is.long;
-    there = λ n below within. elim (cases_lt n k) [
-      | inl before ↦ is.there n before within
-      | inr after ↦ kept_here k given is there n (omega (arith, below, after))
-    ];
-    later = λ n above. is.later n (omega (arith, above));
-  }
-
-  pub all_given : (k : ℕ) (given : List (Option (Option WorldData))) → GivenTo marks next mark k given
-      → length next ≤ k → AreGiven marks next mark given
-  all_given k given is whole = (
-    is.long,
-    λ n within. elim (cases_lt n k) [
-      | inl before ↦ is.there n before within
-      | inr after ↦ is.later n after
-          ∙ ap (mark_given (get_or marks n None) mark) (sym (get_or_past next n None (omega (arith, whole, after))))
-    ],
-  )
+-- a mark more is given
+pub one_given : (marks given : List (Option (Option WorldData))) (next : List NextWindow)
+    (mark : Option (Option WorldData)) (w : NextWindow) → AreGiven marks next mark given
+    → AreGiven marks (next ++ w ∷ []) mark (set given w.number mark)
+one_given marks given next mark w are = (
+  length-set given w.number mark ∙ are.0,
+  λ n within. elim (cases_eq w.number n) [
+    | inl here ↦ get_or-set_at given w.number n mark None (sym here) (omega (arith, within, here, are.0))
+        ∙ ap (λ b. if b then mark else get_or marks n None)
+        (sym (ap (λ j. is_given j (next ++ w ∷ [])) (sym here) ∙ given_last w next))
+    | inr beside ↦ get_or-set_other given w.number n mark None (λ same. beside (sym same)) ∙ are.1 n within
+        ∙ ap (λ b. if b then mark else get_or marks n None) (sym (given_beside n w next beside))
+  ],
+)
 
 -- a sector that goes on from one world to the next, and from that to a third, does from the first
 goes_on : (a b c : WorldData) (n : ℕ) → GoesOn a b n → GoesOn b c n → GoesOn a c n
-goes_on a b c n first then = (
-  then.0 ∙ first.0,
-  ap (λ (v : Version). record v { tick = c.version.tick }) first.1 ∙ then.1,
+goes_on a b c n first next = (
+  next.0 ∙ first.0,
+  ap (λ (v : Version). record v { tick = c.version.tick }) first.1 ∙ next.1,
 )
 
 -- what began with its part of a world from which it goes on began with its part of the next
@@ -126,17 +97,16 @@ all_marked marks given mark world each long all is = (
 )
 
 -- a mark of the world before, or one of the next where something is given, is one for the next
-given_is : (before after : WorldData) (n : ℕ) (was mark : Option (Option WorldData)) (o : Option FreshData)
+given_is : (before after : WorldData) (n : ℕ) (was mark : Option (Option WorldData)) (b : Bool)
     → IfSome was (λ m. (first : WorldData) × (m ≡ Some first) × GoesOn first before n)
-    → IfSome mark (λ m. m ≡ Some after) → IsLed before after n o
-    → IfSome (mark_given was mark o) (λ m. (first : WorldData) × (m ≡ Some first) × GoesOn first after n)
-given_is before after n None mark None old is led = tt
-given_is before after n (Some m) mark None old is led = (old.0, old.1, goes_on old.0 before after n old.2 led)
-given_is before after n was None (Some fresh) old is led = tt
-given_is before after n was (Some m) (Some fresh) old is led = (after, is, (refl, refl))
+    → IfSome mark (λ m. m ≡ Some after) → (b ≡ false → GoesOn before after n)
+    → IfSome (if b then mark else was) (λ m. (first : WorldData) × (m ≡ Some first) × GoesOn first after n)
+given_is before after n was mark true old is led = from_itself after n mark is
+given_is before after n None mark false old is led = tt
+given_is before after n (Some m) mark false old is led = (old.0, old.1, goes_on old.0 before after n old.2 (led refl))
 
 -- marks of a world with those that are given as its sectors are led to the next are marks of that
-pub led_marked : (marks given : List (Option (Option WorldData))) (next : List (Option FreshData))
+pub led_marked : (marks given : List (Option (Option WorldData))) (next : List NextWindow)
     (mark : Option (Option WorldData)) (before after : WorldData) → AreMarks marks before
     → length after.map.sectors ≡ length before.map.sectors → AreLed (length before.map.sectors) before after next
     → IfSome mark (λ m. m ≡ Some after) → AreGiven marks next mark given → AreMarks given after
@@ -144,17 +114,8 @@ led_marked marks given next mark before after are many led is done = (
   done.0 ∙ are.0 ∙ sym many,
   λ n. elim (cases_lt n (length marks)) [
     | inl within ↦ subst (λ o. IfSome o (λ m. (first : WorldData) × (m ≡ Some first) × GoesOn first after n)) (sym (done.1 n within))
-        (given_is before after n (get_or marks n None) mark (get_or next n None) (are.1 n) is (led n (omega (arith, within, are.0))))
+        (given_is before after n (get_or marks n None) mark (is_given n next) (are.1 n) is (led.1 n (omega (arith, within, are.0))))
     | inr past ↦ subst (λ o. IfSome o (λ m. (first : WorldData) × (m ≡ Some first) × GoesOn first after n))
         (sym (get_or_past given n None (omega (arith, past, done.0)))) tt
   ],
 )
-
--- what is given begins windows in the next world
-pub led_begun : (count : ℕ) (before after : WorldData) (next : List (Option FreshData)) → AreLed count before after next
-    → AreBegun count after next
-led_begun count before after next led n within = go (get_or next n None) (led n within)
-  where
-    go : (o : Option FreshData) → IsLed before after n o → IfSome o (IsBegun after n)
-    go None is = tt
-    go (Some fresh) is = is

@@ -10,7 +10,7 @@ use Rattle.vx_policy.specs.declared.version.Version.{Version}
 use Rattle.vx_region.specs.Regions.{Regions}
 use Rattle.vx_geom.specs.declared.pos.Pos.{Pos}
 use Rattle.vx_tick.specs.declared.fate.Fate.{Fate}
-use Rattle.vx_sector.specs.SectorData.{EntryData, SectorData}
+use Rattle.vx_sector.specs.SectorData.{EntryData}
 use Rattle.vx_sector.specs.Windows.{IsSector, count_of, most_entries}
 use Rattle.vx_windows.specs.Sectors.{cells_of, entries_of}
 use Rattle.vx_windows.specs.Limits.{most_ticks}

@@ -1,9 +1,11 @@
 -- Marks of what a keeper knows of its world.
-use Rattle.std.specs.Prelude.{◌≡◌, ◌<◌, ℕ, Bool, true, List, [], ◌∷◌, length, slice_get, slice_index_or, Option, None, Some, IfSome, MatchOption}
+use Rattle.std.specs.Prelude.{◌≡◌, ◌<◌, ℕ, Bool, true, false, if◌then◌else◌, nat_eq, List, [], ◌∷◌, length, slice_get, slice_index_or, Option, None, Some, IfSome}
 use Rattle.std.specs.Bool.{⊤}
+use Rattle.std.specs.List.{All, list_any}
 use Rattle.vx_cells.specs.Maps.{MapData}
 use Rattle.vx_policy.specs.declared.version.Version.{Version}
 use Rattle.vx_sector.specs.SectorData.{FreshData, SectorData}
+use Rattle.vx_keeper.specs.declared.next_window.NextWindow.{NextWindow}
 
 -- a world as its windows began: its map, and the version that judges them
 pub record WorldData : Type 0 where
@@ -56,31 +58,26 @@ abbrev pub IsBegun : WorldData → ℕ → FreshData → Type 0
 IsBegun after n fresh =
     (slice_get after.map.sectors n ≡ Some fresh.cells) × (fresh.version ≡ after.version)
 
--- so does all that the list has for so many sectors, each for the one of its number
-abbrev pub AreBegun : ℕ → WorldData → List (Option FreshData) → Type 0
-AreBegun count after all =
-    (n : ℕ) → n < count → IfSome (slice_index_or all n None) (IsBegun after n)
+-- so does all that the list has, each for the sector of its number
+abbrev pub AreBegun : WorldData → List NextWindow → Type 0
+AreBegun after all = All (λ next. IsBegun after next.number next.fresh) all
 
--- sector n is led from one world to the next by this, or else goes on
-abbrev pub IsLed : WorldData → WorldData → ℕ → Option FreshData → Type 0
-IsLed before after n next = MatchOption next (GoesOn before after n) (IsBegun after n)
+-- the list has something for sector n
+abbrev pub is_given : ℕ → List NextWindow → Bool
+is_given n all = list_any (λ next. nat_eq next.number n) all
 
--- so is each of so many sectors; those go on for which the list has nothing
-abbrev pub AreLed : ℕ → WorldData → WorldData → List (Option FreshData) → Type 0
+-- each of so many sectors is led from one world to the next by what the list has for it, or else
+-- goes on
+abbrev pub AreLed : ℕ → WorldData → WorldData → List NextWindow → Type 0
 AreLed count before after all =
-    (n : ℕ) → n < count → IsLed before after n (slice_index_or all n None)
+    AreBegun after all
+    × ((n : ℕ) → n < count → is_given n all ≡ false → GoesOn before after n)
 
--- the mark that a sector has then: the new one where something is given for its next window, and
--- else the one that it had
-abbrev pub mark_given : Option (Option WorldData) → Option (Option WorldData) → Option FreshData
-    → Option (Option WorldData)
-mark_given was mark None = was
-mark_given was mark (Some fresh) = mark
-
--- these are the marks after one was given to each sector for which the list has something
-abbrev pub AreGiven : List (Option (Option WorldData)) → List (Option FreshData)
+-- these are the marks after one was given to each sector for which the list has something; the
+-- others have the ones that they had
+abbrev pub AreGiven : List (Option (Option WorldData)) → List NextWindow
     → Option (Option WorldData) → List (Option (Option WorldData)) → Type 0
 AreGiven marks next mark given =
     (length given ≡ length marks)
     × ((n : ℕ) → n < length marks → slice_index_or given n None
-    ≡ mark_given (slice_index_or marks n None) mark (slice_index_or next n None))
+    ≡ (if is_given n next then mark else slice_index_or marks n None))

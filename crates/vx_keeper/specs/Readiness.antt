@@ -1,19 +1,19 @@
 -- What is made before the windows of sectors are closed.
-use Rattle.std.specs.Bool.{⊤}
-use Rattle.std.specs.Option.{unwrap_or}
-use Rattle.std.specs.Prelude.{◌≡◌, ℕ, ◌≤◌, Bool, true, List, [], ◌∷◌, length, map, vec_capacity, Option, None, MatchOption}
+use Rattle.std.specs.List.{All}
+use Rattle.std.specs.Prelude.{◌≡◌, ℕ, ◌<◌, ◌≤◌, Bool, true, false, List, [], length, map, slice_get, slice_index_or, vec_capacity, Option, None, Some}
 use Rattle.vx_cells.specs.SectorCells.{SectorCells}
 use Rattle.vx_cells.specs.Maps.{AreSectors}
 use Rattle.vx_cells.specs.Wholes.{with_cells_on}
 use Rattle.vx_geom.specs.Sizes.{Sizes}
 use Rattle.vx_policy.specs.declared.version.Version.{Version}
 use Rattle.vx_region.specs.Regions.{Regions}
-use Rattle.vx_sector.specs.SectorData.{FreshData, SectorData}
+use Rattle.vx_sector.specs.SectorData.{SectorData}
 use Rattle.vx_still.specs.Watching.{IsWatch}
 use Rattle.vx_record.specs.Kept.{busy_count}
 use Rattle.vx_windows.specs.Sectors.{AreQuiet, cells_of, entries_of, map_changed, nexts, window_over, with_changes}
 use Rattle.vx_keeper.specs.Keepers.{KeeperData, map_by, map_next, fates_next, resting, version_next}
-use Rattle.vx_keeper.specs.Marks.{AreLed, WorldData}
+use Rattle.vx_keeper.specs.Marks.{AreLed, WorldData, is_given}
+use Rattle.vx_keeper.specs.declared.next_window.NextWindow.{NextWindow}
 use Rattle.vx_keeper.specs.declared.ready.Ready.{Ready}
 use Rattle.vx_keeper.specs.declared.ready_at_rest.ReadyAtRest.{ReadyAtRest}
 use Rattle.vx_keeper.specs.declared.work.Work.{Work}
@@ -54,20 +54,21 @@ pub record CanClose (first : Regions) (k : KeeperData) (sectors : List SectorDat
   pub version : ready.version ≡ version_next first k
   pub begun : AreBegun sectors ready
 
--- what a sector with these cells begins its next window with: a window over what changed of them,
--- or over all where another policy judges it; nothing where it goes on as it is
-abbrev pub IsNext : Version → Bool → SectorCells → Option SectorCells → Option FreshData → Type 0
-IsNext version same cells change fresh =
-    MatchOption fresh ((change ≡ None) × (same ≡ true))
-    (λ f. f ≡ window_over version (unwrap_or change cells))
+-- the sector of that number begins its next window over its part of these cells, judged by this
+-- version
+abbrev pub IsNext : Version → List SectorCells → NextWindow → Type 0
+IsNext version cells next =
+    (slice_get cells next.number ≡ Some next.fresh.cells) × (next.fresh.version ≡ version)
 
--- so for each
-abbrev pub AreNext : Version → Bool → List SectorCells → List (Option SectorCells)
-    → List (Option FreshData) → Type 0
-AreNext version same [] [] [] = ⊤
-AreNext version same (c ∷ cells) (change ∷ changes) (fresh ∷ all) =
-    IsNext version same c change fresh × AreNext version same cells changes all
-AreNext version same cells changes all = ⊥
+-- so does each for which the list has something, over its cells with what changed of them; of so
+-- many sectors it has something for each, but for those of which nothing changes and which the same
+-- policy judges
+abbrev pub AreNext : Version → Bool → List SectorCells → List (Option SectorCells) → ℕ
+    → List NextWindow → Type 0
+AreNext version same cells changes count all =
+    All (IsNext version (with_changes cells changes)) all
+    × ((n : ℕ) → n < count → is_given n all ≡ false
+    → (slice_index_or changes n None ≡ None) × (same ≡ true))
 
 -- it is of this work on a world whose sectors all rest, and whose next windows this version judges
 pub record IsReadyAtRest (world : WorldData) (work : Work) (next : Version) (ready : ReadyAtRest)
@@ -81,7 +82,7 @@ pub record IsReadyAtRest (world : WorldData) (work : Work) (next : Version) (rea
       ≡ with_cells_on world.map work.plan.puts.items
   pub led : AreLed (length world.map.sectors) world
       (record { map = with_cells_on world.map work.plan.puts.items; version = next })
-      ready.fresh.items
+      ready.next.items
 
 -- what was made suits the tick of a world whose sectors all rest: it has the map after the tick, and
 -- the version that the tick fixes
@@ -96,4 +97,4 @@ pub record CanCloseAtRest (first : Regions) (k : KeeperData) (ready : ReadyAtRes
   pub watch : IsWatch (map_next k (resting k)) ready.watch
   pub version : ready.version ≡ version_next first k
   pub led : AreLed (length k.world.map.sectors) k.world
-      (record { map = map_next k (resting k); version = version_next first k }) ready.fresh.items
+      (record { map = map_next k (resting k); version = version_next first k }) ready.next.items

@@ -18,6 +18,7 @@ ghost use Rattle.vx_keeper.specs.declared.tick_error.TickError.TheVariants.{Hist
 
 use crate::known::Known;
 use crate::marked::Marked;
+use crate::next_window::NextWindow;
 use crate::places::Places;
 use crate::ready::Ready;
 use crate::ready_at_rest::ReadyAtRest;
@@ -353,7 +354,7 @@ impl<A: Places> Keeper<A> {
 
     /// Makes all that the tick takes of a world in which nothing is recorded since the last one, so
     /// that each sector rests as the keeper has it. Where the machines put nothing down and the
-    /// policy stays it looks at no sector; else it costs what they put down, and a place in three
+    /// policy stays it looks at no sector; else it costs what they put down, and a place in two
     /// lists for each sector. The sectors are worked by 1 to 8 threads.
     pub fn ready_at_rest<R: Threads + Sync, G: Gate + Sync>(
         &mut self,
@@ -391,7 +392,7 @@ impl<A: Places> Keeper<A> {
         &mut self,
         alloc: Global,
         ready: ReadyAtRest,
-    ) -> (Vec<(Pos, Fate)>, Vec<Option<Fresh>>)
+    ) -> (Vec<(Pos, Fate)>, Vec<NextWindow>)
         requires more { length self.old.chronicle.ticks < most_ticks }
         requires room { self.old.is_roomy ≡ true }
         requires ready { CanCloseAtRest A.first self.old ready }
@@ -403,7 +404,7 @@ impl<A: Places> Keeper<A> {
         } }
         ensures seen { self.new.seen ≡ self.old.seen }
         ensures fates { result.0.items ≡ fates_next self.old (resting self.old) }
-        ensures begun { AreBegun A.all self.new.world result.1.items }
+        ensures begun { AreBegun self.new.world result.1.items }
     {
         self.soundness();
         let ReadyAtRest {
@@ -412,7 +413,7 @@ impl<A: Places> Keeper<A> {
             told,
             watch,
             changes,
-            fresh,
+            next,
         } = ready;
         let before = self.archive.ticks().len() as u64;
         let sectors = self.archive.counts().len();
@@ -425,8 +426,8 @@ impl<A: Places> Keeper<A> {
         });
         self.watch = Some(watch);
         let mark = self.stamper.mark(&self.known);
-        self.marks.give_led(&fresh, &mark);
-        (told, fresh)
+        self.marks.give_led(&next, &mark);
+        (told, next)
     }
 
     /// What holds of every keeper.

@@ -79,7 +79,7 @@ impl Known {
     {
         let mut cells = Vec::with_capacity(alloc, self.cells.len())?;
         for sector in &self.cells {
-            cells.push(sector)?;
+            cells.push_reserved(sector);
         }
         Ok(cells)
     }

@@ -5,6 +5,7 @@
 mod keeper;
 mod known;
 mod marked;
+mod next_window;
 mod places;
 mod ready;
 mod ready_at_rest;
@@ -16,6 +17,7 @@ mod work;
 pub use keeper::Keeper;
 pub use known::Known;
 pub use marked::Marked;
+pub use next_window::NextWindow;
 pub use places::Places;
 pub use ready::Ready;
 pub use ready_at_rest::ReadyAtRest;

@@ -2,12 +2,12 @@ ghost use Rattle.std.specs.Prelude.{◌≡◌, true, None, IfOk, length, map, re
 ghost use Rattle.vx_keeper.specs.Readiness.{AreNext, IsReadyAtRest};
 
 use crate::known::Known;
+use crate::next_window::NextWindow;
 use crate::work::Work;
 use std::alloc::{AllocError, Global};
 use vx_cells::Cells;
 use vx_geom::Pos;
 use vx_policy::Version;
-use vx_sector::Fresh;
 use vx_still::Watch;
 use vx_tick::Fate;
 use vx_windows::{fresh_over, put_in_changes};
@@ -21,10 +21,11 @@ pub struct ReadyAtRest {
     // A copy of the fates, one for the chronicle and one for whoever asks for the tick.
     pub(crate) told: Vec<(Pos, Fate)>,
     pub(crate) watch: Watch,
-    // For each sector, its cells after the tick and the window over them; nothing for those that go
-    // on as they are, and no list where all do.
+    // For each sector its cells after the tick; nothing for those that keep theirs, and no list
+    // where all do.
     pub(crate) changes: Vec<Option<Cells>>,
-    pub(crate) fresh: Vec<Option<Fresh>>,
+    // For those sectors alone that do not go on as they are.
+    pub(crate) next: Vec<NextWindow>,
 }
 
 impl ReadyAtRest {
@@ -51,30 +52,29 @@ impl ReadyAtRest {
                 told,
                 watch,
                 changes: Vec::new(alloc),
-                fresh: Vec::new(alloc),
+                next: Vec::new(alloc),
             });
         }
         known.soundness();
         let cells = known.cells(alloc)?;
         let mut changes = nothing(alloc, cells.len())?;
         put_in_changes(known.bounds(), &cells, &mut changes, plan.puts.as_slice())?;
-        let fresh = all_next(alloc, &cells, &changes, &version, is_same_policy)?;
+        let next = all_next(alloc, &cells, &changes, &version, is_same_policy)?;
         Ok(ReadyAtRest {
             version,
             fates: plan.fates,
             told,
             watch,
             changes,
-            fresh,
+            next,
         })
     }
 
-    /// For each sector what its next window begins with; nothing for those that go on as they are,
-    /// and no list where all do.
-    pub fn fresh(&self) -> &[Option<Fresh>]
-        ensures { result.now ≡ self.now.fresh.items }
+    /// What the next windows of sectors begin with, for those alone that do not go on as they are.
+    pub fn next(&self) -> &[NextWindow]
+        ensures { result.now ≡ self.now.next.items }
     {
-        &self.fresh
+        &self.next
     }
 }
 
@@ -84,26 +84,34 @@ fn nothing(alloc: Global, count: usize) -> Result<Vec<Option<Cells>>, AllocError
 {
     let mut changes = Vec::with_capacity(alloc, count)?;
     for _ in 0..count {
-        changes.push(None)?;
+        changes.push_reserved(None);
     }
     Ok(changes)
 }
 
-// What each sector begins its next window with.
+// What sectors begin their next windows with, for those alone that do not go on as they are.
 fn all_next(
     alloc: Global,
     cells: &[&Cells],
     changes: &[Option<Cells>],
     version: &Version,
     is_same_policy: bool,
-) -> Result<Vec<Option<Fresh>>, AllocError>
+) -> Result<Vec<NextWindow>, AllocError>
     requires { length changes.now ≡ length cells.now }
     ensures { IfOk result (λ all. AreNext version.now is_same_policy
-        (map (λ c. c.now) cells.now) changes.now all.items) }
+        (map (λ c. c.now) cells.now) changes.now (length cells.now) all.items) }
 {
-    let mut all = Vec::with_capacity(alloc, cells.len())?;
-    for at in 0..cells.len() {
-        all.push(fresh_over(alloc, cells[at], &changes[at], version, is_same_policy)?)?;
+    let mut all = Vec::new(alloc);
+    for number in 0..cells.len() {
+        let change = &changes[number];
+        if is_same_policy && change.is_none() {
+            continue;
+        }
+        let next = fresh_over(alloc, cells[number], change, version, is_same_policy)?;
+        let Some(fresh) = next else {
+            continue;
+        };
+        all.push(NextWindow { number, fresh })?;
     }
     Ok(all)
 }

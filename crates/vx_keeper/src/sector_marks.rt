@@ -2,10 +2,10 @@ ghost use Rattle.std.specs.Prelude.{◌≡◌, ℕ, ◌<◌, length, replicate, 
 ghost use Rattle.vx_keeper.specs.Marks.{AreGiven};
 
 use crate::known::Known;
+use crate::next_window::NextWindow;
 use crate::places::Places;
 use std::alloc::{AllocError, Global};
 use std::marker::Model;
-use vx_sector::Fresh;
 use vx_stamp::Mark;
 
 /// For each sector of a world, by its number, the mark that it was given last, if there is one.
@@ -57,13 +57,11 @@ impl<A: Places> SectorMarks<A> {
     }
 
     /// Gives this mark to each sector for which the list has something. It takes no memory.
-    pub(crate) fn give_led(&mut self, next: &[Option<Fresh>], mark: &Option<Mark<Known, A>>)
+    pub(crate) fn give_led(&mut self, next: &[NextWindow], mark: &Option<Mark<Known, A>>)
         ensures { AreGiven self.old next.now mark.now self.new }
     {
-        for (number, fresh) in next.iter().enumerate() {
-            if fresh.is_some() {
-                self.give(number, mark);
-            }
+        for window in next {
+            self.give(window.number, mark);
         }
     }
 

@@ -1,5 +1,5 @@
 //! Ticks of a world that one thread has to itself.
-ghost use Rattle.std.specs.Prelude.{◌≡◌, ◌≢◌, ℕ, ◌↔◌, ◌<◌, ◌≤◌, [], length, slice_index_or, vec_len, None, Err, IfOk, IfSome, OnErr};
+ghost use Rattle.std.specs.Prelude.{◌≡◌, ◌≢◌, ℕ, ◌↔◌, ◌<◌, ◌≤◌, [], length, vec_len, Err, IfOk, OnErr};
 ghost use Rattle.vx_step.specs.declared.workers.TheConstants.{MAX_WORKERS};
 ghost use Rattle.vx_windows.specs.Limits.{most_ticks};
 ghost use Rattle.vx_keeper.specs.Keepers.{KnowsAsBefore};
@@ -17,7 +17,7 @@ use std::alloc::Global;
 use std::sync::{Condvar, Mutex, Wait};
 use std::thread::Threads;
 use vx_geom::Pos;
-use vx_keeper::{Keeper, Places, TickError};
+use vx_keeper::{Keeper, NextWindow, Places, TickError};
 use vx_sector::Fresh;
 use vx_step::Gate;
 use vx_tick::Fate;
@@ -88,7 +88,7 @@ impl<A: Places, B: Seats> World<A, B> {
         ensures bounds { self.new.bounds ≡ self.old.bounds }
     {
         let ready = keeper.ready_at_rest(rt, alloc, workers, gate)?;
-        if !self.all_rest(keeper, ready.fresh()) {
+        if !self.all_rest(keeper, ready.next()) {
             return self.tick_each(rt, alloc, keeper, workers, gate);
         }
         keeper.soundness();
@@ -124,11 +124,11 @@ impl<A: Places, B: Seats> World<A, B> {
 
     // Whether all sectors for which the list has something are known to rest. No clause tells the
     // answer: one that did not rest would stay as it is, and be torn to the next tick.
-    fn all_rest(&mut self, keeper: &Keeper<A>, next: &[Option<Fresh>]) -> bool
+    fn all_rest(&mut self, keeper: &Keeper<A>, next: &[NextWindow]) -> bool
         ensures { self.new.bounds ≡ self.old.bounds }
     {
-        for at in 0..next.len() {
-            if next[at].is_some() && !self.rests_at(at, keeper) {
+        for window in next {
+            if !self.rests_at(window.number, keeper) {
                 return false;
             }
         }
@@ -145,32 +145,19 @@ impl<A: Places, B: Seats> World<A, B> {
         rests_in(&mut self.slots[at], keeper)
     }
 
-    // Has each sector begin its next window with what the list has for it.
-    fn renew_each(&mut self, keeper: &Keeper<A>, next: Vec<Option<Fresh>>)
-        requires { AreBegun A.all keeper.now.world next.items }
+    // Has each sector for which the list has something begin its next window with that.
+    fn renew_each(&mut self, keeper: &Keeper<A>, next: Vec<NextWindow>)
+        requires { AreBegun keeper.now.world next.items }
         ensures { self.new.bounds ≡ self.old.bounds }
     {
-        let mut next = next;
-        for at in 0..next.len() {
-            let fresh = take_at(&mut next, at);
-            self.renew_if(at, keeper, fresh);
-        }
-    }
-
-    // Has the sector of that number, if there is one, begin its next window with this, if it is
-    // something.
-    fn renew_if(&mut self, at: usize, keeper: &Keeper<A>, next: Option<Fresh>)
-        requires { at < A.all → IfSome next (IsBegun keeper.now.world at) }
-        ensures { self.new.bounds ≡ self.old.bounds }
-    {
-        if let Some(fresh) = next {
-            self.renew_at(at, keeper, fresh);
+        for window in next {
+            self.renew_at(window.number, keeper, window.fresh);
         }
     }
 
     // Has the sector of that number, if there is one, begin its next window with this.
     fn renew_at(&mut self, at: usize, keeper: &Keeper<A>, fresh: Fresh)
-        requires { at < A.all → IsBegun keeper.now.world at fresh }
+        requires { IsBegun keeper.now.world at fresh }
         ensures { self.new.bounds ≡ self.old.bounds }
     {
         if at < self.slots.len() {
@@ -207,19 +194,6 @@ impl<A: Places, B: Seats> World<A, B> {
             put_in(&mut self.slots[at], home);
         }
         taken.end();
-    }
-}
-
-// Takes what is given for the sector of that number, if something is.
-#[inline(always)]
-fn take_at(next: &mut Vec<Option<Fresh>>, at: usize) -> Option<Fresh>
-    ensures value { result ≡ slice_index_or next.old.items at None }
-    ensures others { (n : ℕ) → at < n
-        → slice_index_or next.new.items n None ≡ slice_index_or next.old.items n None }
-{
-    match next.get_mut(at) {
-        Some(place) => place.take(),
-        None => None,
     }
 }
 

@@ -1,4 +1,4 @@
-use Rattle.std.proofs.Common.{◌≡◌, ◌+◌, ◌≤◌, List, [], ◌∷◌, ◌++◌, length, map, replicate, sym, ap, subst, ◌∙◌, arith}
+use Rattle.std.proofs.Common.{◌≡◌, ◌+◌, ◌≤◌, List, [], ◌∷◌, ◌++◌, length, replicate, sym, ap, subst, ◌∙◌, arith}
 use Rattle.std.proofs.lemmas.List.{length-map}
 use Rattle.std.proofs.lemmas.List.Elements.{All-same}
 use Rattle.vx_geom.specs.Sizes.{sector_count}
@@ -13,7 +13,7 @@ use Rattle.vx_record.specs.Records.{tick_in}
 use Rattle.vx_record.specs.Archives.{IsNextTick}
 use Rattle.vx_keeper.specs.Keepers.{KeeperData, IsKeeper, chronicle_next, keeper_data, map_by, map_next, resting, version_next}
 use Rattle.vx_keeper.specs.Marks.{AreGiven, AreLed, AreMarks}
-use Rattle.vx_keeper.proofs.Giving.{led_begun, led_marked}
+use Rattle.vx_keeper.proofs.Giving.{led_marked}
 use Rattle.vx_keeper.proofs.Resting.{rest_counted, rest_is_next, rest_keeps, rest_told}
 use Rattle.vx_keeper.proofs.keeper.Keeper.close_at_rest.Given.{Over}
 use Rattle.vx_keeper.proofs.keeper.Keeper.close_at_rest.Goals as goal
@@ -113,14 +113,12 @@ module _ (g : Over) (c : goal.Joined-mark g) where
       c.requires.ready.version c.requires.more next_whole next_each)
 
 led_are : (g : Over) (c : goal.Joined-mark g)
-    → AreLed g.A.Places.all c.args.self.now.world c.go_on-was.new.self c.args.ready.fresh.items
+    → AreLed (length c.args.self.now.world.map.sectors) c.args.self.now.world c.go_on-was.new.self c.args.ready.next.items
 led_are g c =
     let k = c.args.self.now in
     let next : record { map = map_next k (resting k); version = version_next g.A.Naming.first k } ≡ c.go_on-was.new.self =
     (λ i. record { map = map_next k (resting k); version = sym c.requires.ready.version i }) ∙ sym (world_is g c) in
-    subst (λ w. AreLed g.A.Places.all k.world w c.args.ready.fresh.items) next
-    (subst (λ n. AreLed n k.world (record { map = map_next k (resting k); version = version_next g.A.Naming.first k }) c.args.ready.fresh.items)
-    c.soundness.ensures.each c.requires.ready.led)
+    subst (λ w. AreLed (length k.world.map.sectors) k.world w c.args.ready.next.items) next c.requires.ready.led
 
 marks_are : (g : Over) (c : goal.Joined-mark g) → AreMarks c.give_led.new.self c.go_on-was.new.self
 marks_are g c =
@@ -129,15 +127,12 @@ marks_are g c =
     let marks : AreMarks c.self.inside.marks k.world = subst (AreMarks c.self.inside.marks) here c.self.invariant.1 in
     let many : length c.go_on-was.new.self.map.sectors ≡ length k.world.map.sectors =
     omega (arith, ap (λ (m : MapData). length m.sectors) (map_is g c), next_each g c, c.soundness.ensures.each) in
-    led_marked c.self.inside.marks c.give_led.new.self c.args.ready.fresh.items c.mark-mark.result k.world c.go_on-was.new.self
-    marks many (subst (λ n. AreLed n k.world c.go_on-was.new.self c.args.ready.fresh.items) (sym c.soundness.ensures.each) (led_are g c))
-    c.mark-mark.ensures
+    led_marked c.self.inside.marks c.give_led.new.self c.args.ready.next.items c.mark-mark.result k.world c.go_on-was.new.self
+    marks many (led_are g c) c.mark-mark.ensures
     (subst (λ next. AreGiven c.self.inside.marks next c.mark-mark.result c.give_led.new.self) c.deref.ensures.value c.give_led.ensures)
 
 pub returns-clause-begun : goal.returns-clause-begun
-returns-clause-begun g c =
-    let k = c.args.self.now in
-    led_begun g.A.Places.all k.world c.go_on-was.new.self c.args.ready.fresh.items (led_are g c)
+returns-clause-begun g c = (led_are g c).0
 
 pub invariant_of-self : goal.invariant_of-self
 invariant_of-self g c = (

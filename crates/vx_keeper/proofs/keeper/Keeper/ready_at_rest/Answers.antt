@@ -1,9 +1,6 @@
 use Rattle.std.proofs.Common.{◌≡◌, ◌+◌, length, sym, ap, subst, ◌∙◌}
-use Rattle.std.proofs.lemmas.Bool.{eqb-true}
-use Rattle.vx_cells.specs.Maps.{MapData}
 use Rattle.vx_cells.specs.Wholes.{IsMap}
 use Rattle.vx_cells.proofs.Setting.{puts_whole}
-use Rattle.vx_policy.specs.declared.version.Version.{Version}
 use Rattle.vx_record.specs.Chronicles.{ChronicleData, version_by}
 use Rattle.vx_still.specs.Watching.{IsWatch}
 use Rattle.vx_tick.specs.Leaving.{IsPlanned}
@@ -12,7 +9,6 @@ use Rattle.vx_keeper.specs.Keepers.{KeeperData, map_next, resting, version_next}
 use Rattle.vx_keeper.specs.Marks.{AreLed}
 use Rattle.vx_keeper.specs.Readiness.{IsReadyAtRest}
 use Rattle.vx_keeper.proofs.Resting.{rest_map}
-use Rattle.vx_keeper.proofs.Versions.{same_but_number}
 use Rattle.vx_keeper.proofs.keeper.Keeper.ready_at_rest.Goals as goal
 
 pub returns-clause-ready : goal.returns-clause-ready
@@ -48,6 +44,6 @@ returns-clause-ready g c =
           (subst (λ m. IsWatch m c.in_ok-plan.watch) (sym (ap (stepped rs) map)) planned.watch);
       version = is.version ∙ version;
       led =
-          subst (λ w. AreLed (length k.world.map.sectors) k.world w ready.fresh.items)
+          subst (λ w. AreLed (length k.world.map.sectors) k.world w ready.next.items)
           (λ i. record { map = sym next i; version = version i }) is.led;
     }

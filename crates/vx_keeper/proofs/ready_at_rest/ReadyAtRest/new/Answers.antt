@@ -1,8 +1,8 @@
-use Rattle.std.proofs.Common.{◌≡◌, ◌++◌, [], List, Option, None, length, map, replicate, take, drop, refl, sym, ap, ◌∙◌, subst, arith, rules}
+use Rattle.std.proofs.Common.{◌≡◌, ◌++◌, [], Option, None, length, map, take, drop, refl, sym, ap, ◌∙◌, subst, arith, rules}
 use Rattle.std.proofs.Math.Seq.{take-append_seam}
 use Rattle.std.proofs.lemmas.Bool.{eqb-true}
 use Rattle.std.proofs.lemmas.List.{length-map, length-replicate, nil_from_length}
-use Rattle.vx_cells.specs.Maps.{AreSectors, MapData}
+use Rattle.vx_cells.specs.Maps.{AreSectors}
 use Rattle.vx_cells.specs.SectorCells.{SectorCells}
 use Rattle.vx_cells.specs.Wholes.{with_cells_on}
 use Rattle.vx_geom.specs.Sizes.{Sizes}
@@ -71,9 +71,13 @@ returns c =
     ∙ c.in_ok-put_in_changes.ensures.put
     ∙ (λ i. with_cells_on (map_by (c.bounds.ensures i) (start i)) (c.as_slice-2.ensures.value i)) in
     let of_all = ap (map (λ d. d.now)) c.deref-2.ensures.value ∙ c.in_ok-cells.ensures in
-    let are : AreNext c.args.version c.args.is_same_policy world.map.sectors next c.in_ok-fresh.fresh.items =
-    subst (λ ys. AreNext c.args.version c.args.is_same_policy world.map.sectors ys c.in_ok-fresh.fresh.items) (c.deref-3.ensures.value ∙ sym written)
-    (subst (λ cs. AreNext c.args.version c.args.is_same_policy cs c.deref-3.result.now c.in_ok-fresh.fresh.items) of_all c.in_ok-fresh.ensures) in
+    let all = c.in_ok-next.next.items in
+    let are : AreNext c.args.version c.args.is_same_policy world.map.sectors next (length world.map.sectors) all =
+    subst (λ ys. AreNext c.args.version c.args.is_same_policy world.map.sectors ys (length world.map.sectors) all)
+    (c.deref-3.ensures.value ∙ sym written)
+    (subst (λ cs. AreNext c.args.version c.args.is_same_policy cs c.deref-3.result.now (length cs) all) of_all
+    (subst (λ n. AreNext c.args.version c.args.is_same_policy (map (λ d. d.now) c.deref-2.result.now) c.deref-3.result.now n all)
+    (sym (length-map c.deref-2.result.now (λ d. d.now))) c.in_ok-next.ensures)) in
     record {
       version = refl;
       fates = refl;
@@ -82,5 +86,5 @@ returns c =
       few = omega (arith, as_many, ap length written);
       after = ap (λ ys. map_by world.map.sizes (with_changes world.map.sectors ys)) (sym written) ∙ after;
       led =
-          led_by world c.args.version c.args.is_same_policy next c.in_ok-fresh.fresh.items (with_cells_on world.map puts.items) after c.requires are;
+          led_by world c.args.version c.args.is_same_policy next all (with_cells_on world.map puts.items) after c.requires are;
     }

@@ -54,7 +54,8 @@ pub fn unsettled(
     unsure.extend_from_slice(rebuilt.as_slice())?;
     dust.unheeded.forget_all(unsure.as_slice());
     add_all_fed(&mut unsure, map, waking.turned.as_slice())?;
-    let components = map.component_count() as usize;
+    let components = components_of(map, !rebuilt.is_empty(), dust.components);
+    dust.components = components;
     let Some(put) = repair(alloc, map, &mut dust.levels, unsure, turns_for(components))? else {
         return Ok(None);
     };
@@ -77,6 +78,15 @@ pub fn unsettled(
     Ok(Some(Look {
         places: Some(places),
     }))
+}
+
+// How many components a map has: as many as before, where nothing was rebuilt.
+fn components_of(map: &Frozen<'_>, is_rebuilt: bool, before: usize) -> usize {
+    if is_rebuilt {
+        map.component_count() as usize
+    } else {
+        before
+    }
 }
 
 // How many turns a repair may take on a map with so many components.

@@ -86,6 +86,7 @@ impl Seen {
 
     /// Adds what is found in a sector, where the map rests outside these places. It costs what
     /// those of the sector are.
+    #[inline(always)]
     pub fn add_places<L: Leveled>(
         &mut self,
         alloc: Global,

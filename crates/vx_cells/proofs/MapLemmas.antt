@@ -57,13 +57,6 @@ module _ (m : MapData) (p : Pos) (k : ℕ) (in_sector : sector_of m.sizes p ≡ 
   cell_found c found =
       sym (ap (λ s. cell_in (sector_at m.sectors s) p) in_sector ∙ ap (λ c. cell_in c p) found)
 
-  -- past the last sector there is air
-  pub no_cell : length m.sectors ≤ k → Air ≡ cell_on m p
-  unfolding cell_on
-  no_cell past =
-      sym (ap (λ s. cell_in (sector_at m.sectors s) p) in_sector
-      ∙ ap (λ c. cell_in c p) (slice_get_past m.sectors k past))
-
 -- a world is no wider than that
 pub narrow : (n s : ℕ) → n ≤ MAX_SECTORS_EACH_WAY → s ≤ MAX_CHUNKS_EACH_WAY → n * (16 * s) ≤ far
 narrow n s few small =

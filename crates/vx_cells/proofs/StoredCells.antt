@@ -108,13 +108,6 @@ stored-still bounds sector codes chests new same =
     let blocks = same-blocks 0 codes new chests same in
     λ i. record { bounds = bounds; sector = sector; blocks = blocks i }
 
--- a chest that was put and taken away again
-pub undone : (old mid new : ChestData) (k : ℕ) (slots : Option Slots) → slots_of_chest old k ≡ None → Changes old mid k slots → Changes mid new k None → SameSlots old new
-undone old mid new k slots none put taken q = elim (cases_eq q k) [
-  | inl same ↦ taken q ∙ ap (λ n. update nat_eq (slots_of_chest mid) k None n) same ∙ update_here (slots_of_chest mid) k None ∙ sym none ∙ ap (slots_of_chest old) (sym same)
-  | inr apart ↦ taken q ∙ update_apart (slots_of_chest mid) k None q apart ∙ put q ∙ update_apart (slots_of_chest old) k slots q apart
-]
-
 -- where there is no chest, none is taken away
 pub left_out : (chests : ChestData) (k : ℕ) → slots_of_chest chests k ≡ None → Changes chests chests k None
 left_out chests k none q = elim (cases_eq q k) [

@@ -26,21 +26,6 @@ given_beside n w next other =
     (false_from_ne_true (nat_eq w.number n) (λ same. other (eqb-true w.number n same)))
     ∙ or-false (is_given n next)
 
--- a mark more is given
-pub one_given : (marks given : List (Option (Option WorldData))) (next : List NextWindow)
-    (mark : Option (Option WorldData)) (w : NextWindow) → AreGiven marks next mark given
-    → AreGiven marks (next ++ w ∷ []) mark (set given w.number mark)
-one_given marks given next mark w are = (
-  length-set given w.number mark ∙ are.0,
-  λ n within. elim (cases_eq w.number n) [
-    | inl here ↦ get_or-set_at given w.number n mark None (sym here) (omega (arith, within, here, are.0))
-        ∙ ap (λ b. if b then mark else get_or marks n None)
-        (sym (ap (λ j. is_given j (next ++ w ∷ [])) (sym here) ∙ given_last w next))
-    | inr beside ↦ get_or-set_other given w.number n mark None (λ same. beside (sym same)) ∙ are.1 n within
-        ∙ ap (λ b. if b then mark else get_or marks n None) (sym (given_beside n w next beside))
-  ],
-)
-
 -- a sector that goes on from one world to the next, and from that to a third, does from the first
 goes_on : (a b c : WorldData) (n : ℕ) → GoesOn a b n → GoesOn b c n → GoesOn a c n
 goes_on a b c n first next = (

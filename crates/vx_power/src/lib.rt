@@ -30,5 +30,5 @@ pub use next_dust::{dust_at, dust_over, dust_under};
 pub use places::{place_beside, place_over, place_under};
 pub use power::{activates, active, powered};
 pub use sheet::{SHEET_SIDE, column, is_place, sheet_number};
-pub use signals::{has_feeder, has_feeder_within, is_fed};
+pub use signals::{has_feeder, has_feeder_within};
 pub use spread::{FED, all_levels, levels};

@@ -4,7 +4,7 @@ ghost use Rattle.vx_cells.specs.Maps.{cell_on};
 ghost use Rattle.vx_cells.specs.Nearby.{HasAround};
 ghost use Rattle.vx_geom.specs.Dirs.{opposite};
 ghost use Rattle.vx_power.specs.Powering.{powers};
-ghost use Rattle.vx_power.specs.Signals.{gives, drives, drives_from, is_driven, is_strong, feeds_from, has_feeder, is_fed};
+ghost use Rattle.vx_power.specs.Signals.{gives, drives, drives_from, is_driven, is_strong, feeds_from, has_feeder};
 
 use crate::nearby::next_nearby;
 use vx_block::Cell;
@@ -143,12 +143,4 @@ fn feeds_within(map: &Frozen<'_>, cells: &Cells, p: Pos, dir: Dir) -> bool
 {
     let next = next_nearby(map, cells, p, dir);
     feeds(map, next, &cells.get(next), dir)
-}
-
-/// Whether dust stands at a position that some neighbor feeds.
-#[tactic(auto, unfolding(crate::specs::Signals::is_fed))]
-pub fn is_fed(map: &Frozen<'_>, p: Pos) -> bool
-    ensures { result ≡ is_fed (cell_on map.now) p }
-{
-    map.has_dust(p) && has_feeder(map, p)
 }

@@ -57,13 +57,6 @@ module _ (m : MapData) where
     through = λ d e is. (each d).1 e is;
   }
 
-  -- no device stands in the open, and air conducts nothing
-  pub none_in_air : (places : PlacesData) (p : Pos) (d : Dir) → cell_on m (neighbor p d) ≡ Air → AreMarkedBeside m places p d
-  none_in_air places p d air = (
-    λ stands. absurd (false≢true (sym (ap is_device air) ∙ stands)),
-    λ e is. absurd (false≢true (sym (ap conducts air) ∙ is)),
-  )
-
   -- where nothing conducts nothing lies behind it
   pub none_behind : (places : PlacesData) (p : Pos) (d : Dir) → conducts (cell_on m (neighbor p d)) ≡ false
       → IsMarked m places (neighbor p d) → AreMarkedBeside m places p d
@@ -106,14 +99,6 @@ module _ (m : MapData) (p : Pos) where
   -- where no device heeds it, all that do are marked
   pub none_to_mark : (places : PlacesData) → IsUnheeded m p → HasHeeders m places p
   none_to_mark places = each_weaker (cell_on m) p (λ q none stands. absurd (false≢true (sym none ∙ stands)))
-
-  -- in air, or where nothing conducts behind it
-  pub none_by_air : (d : Dir) → cell_on m (neighbor p d) ≡ Air → NoneBeside m p d
-  none_by_air d air = (ap is_device air, λ e is. absurd (false≢true (sym (ap conducts air) ∙ is)))
-
-  pub none_by_bare : (d : Dir) → conducts (cell_on m (neighbor p d)) ≡ false → is_device (cell_on m (neighbor p d)) ≡ false
-      → NoneBeside m p d
-  none_by_bare d bare none = (none, λ e is. absurd (false≢true (sym bare ∙ is)))
 
   -- one position of dust more that no device heeds
   pub noted : (old new : PlacesData) → is_dust (cell_on m p) ≡ true → ((d : Dir) → NoneBeside m p d)
@@ -178,7 +163,3 @@ each_back {R} w q each = record {
       subst (R r) (ap (λ b. neighbor b (opposite d)) back ∙ there_and_back q d)
       ((each r).through (opposite e) (opposite d) (ap (λ b. conducts (w b)) back ∙ is));
 }
-
--- marks that are added keep those that there are
-pub adding_keeps : (old new : PlacesData) (test : Pos → _) → ((q : Pos) → is_at new q ≡ (is_at old q || test q)) → KeepsMarks old new
-adding_keeps old new test added q is = added q ∙ or_left (is_at old q) (test q) is

@@ -70,12 +70,3 @@ module _ (w : Pos → Cell) where
   drawn_end q [] i last = absurd (omega (arith, last))
   drawn_end q (r ∷ []) i last = absurd (omega (arith, last))
   drawn_end q (r ∷ (s ∷ ps)) i last = at_last ps i (omega (arith, last))
-
-  -- what one move more puts down, before what the others do
-  pub put_next : (moves : List Moving) (fates : List (Pos × Fate)) (i : ℕ) (m : Moving)
-      (told : Pos × Fate) → slice_get moves i ≡ Some m → slice_get fates i ≡ Some told
-      → put_down w (drop i moves) (drop i fates)
-      ≡ effects_by w m told.1 ++ put_down w (drop (i + 1) moves) (drop (i + 1) fates)
-  put_next moves fates i m told first second =
-      ap (λ ms. put_down w ms (drop i fates)) (drop_at moves i m first)
-      ∙ ap (put_down w (m ∷ drop (i + 1) moves)) (drop_at fates i told second)

@@ -1,7 +1,8 @@
 -- What a test keeps of a list that it parts is a run, and so is what stands before a number and behind it where numbers do not fall.
-use Rattle.std.proofs.Common.{◌≡◌, ℕ, zero, suc, ◌+◌, ◌-◌, ◌≤◌, Bool, true, false, cond, nat_lt, filter, List, [], ◌∷◌, length, take, drop, leb, ltb, leb-true, refl, ap, sym, ◌∙◌, arith, length-drop}
+use Rattle.std.proofs.Common.{◌≡◌, ℕ, zero, suc, ◌+◌, ◌-◌, ◌≤◌, Bool, true, false, cond, nat_lt, filter, List, [], ◌∷◌, length, take, drop, leb, ltb, leb-true, ◌<◌, ◌≢◌, inl, inr, refl, ap, sym, ◌∙◌, arith, length-drop}
+use Rattle.std.specs.List.{AllWithin, slice_index_or}
 use Rattle.std.specs.List.Sorted.{IsNonDecreasing, IsNonDecreasingBy, IsPartitionedBy, IsPartitionPoint, IsStrictlyIncreasing}
-use Rattle.std.proofs.lemmas.Bool.{leb-false, lt-ltb, lt-leb}
+use Rattle.std.proofs.lemmas.Bool.{cases_lt, leb-false, le-leb, lt-ltb, lt-leb, ltb-false, ltb-true}
 use Rattle.std.proofs.lemmas.List.{take_all}
 use Rattle.std.proofs.lemmas.List.Kept.{AllPairs-from_increasing}
 use Rattle.std.proofs.lemmas.List.Sorted.{IsNonDecreasingBy-from_all_adjacent, IsPartitionedBy-leb, IsPartitionedBy-ltb}
@@ -47,6 +48,25 @@ module _ {X : Type 0} (number : X → ℕ) (n : ℕ) (xs : List X) (up : IsNonDe
         λ k d low high. lt-leb _ _ (omega (arith, leb-true _ _ (parts.0 k d low high))),
         λ k d low high. lt-ltb _ _ (leb-false _ _ (parts.1 k d low high)),
       )
+
+  -- those of the number itself stand together behind the lower ones, and the higher ones behind them
+  pub run_past : (end start : ℕ) → end ≤ start → start ≤ length xs
+      → (IsPartitionedBy (λ x. ltb (number x) n) xs → IsPartitionPoint (λ x. ltb (number x) n ≡ true) (λ x. ltb (number x) n ≡ false) xs end)
+      → AllWithin (λ x. number x ≡ n) xs end start → ((d : X) → start < length xs → number (slice_index_or xs start d) ≢ n)
+      → take (length xs - start) (drop start xs) ≡ filter (λ x. nat_lt n (number x)) xs
+  run_past end start past within found run stops =
+      let parts = found (IsPartitionedBy-ltb number xs n up) in
+      run_behind start within (λ parted. (
+        λ k d first before. elim (cases_lt k end) [
+          | inl lower ↦ le-leb _ _ (omega (arith, ltb-true _ _ (parts.0 k d (omega arith) lower)))
+          | inr same ↦ le-leb _ _ (omega (arith, run k d (omega (arith, same)) before))
+        ],
+        λ k d first before.
+            let behind : start < length xs = omega (arith, first, before) in
+            let low = ltb-false _ _ (parts.1 start d past behind) in
+            let other : number (slice_index_or xs start d) ≢ n = stops d behind in
+            lt-leb _ _ (omega (arith, low, other, up start k d first before)),
+      ))
 
 -- numbers that rise never fall
 pub rising_never_fall : (numbers : List ℕ) → IsStrictlyIncreasing numbers → IsNonDecreasing numbers

@@ -1,5 +1,5 @@
-ghost use Rattle.std.specs.Prelude.{◌≡◌, ◌≤◌, [], ◌∷◌, ◌++◌, true, if◌then◌else◌, nat_lt, filter, option_copied, unsigned_abs, IfOk, IfSome};
-ghost use Rattle.std.specs.List.{All};
+ghost use Rattle.std.specs.Prelude.{◌≡◌, ◌≢◌, ◌<◌, ◌≤◌, ℕ, [], ◌∷◌, ◌++◌, true, if◌then◌else◌, nat_lt, filter, length, option_copied, unsigned_abs, IfOk, IfSome};
+ghost use Rattle.std.specs.List.{All, AllWithin, slice_index_or};
 ghost use Rattle.std.specs.List.Sorted.{IsStrictlyIncreasing};
 ghost use Rattle.vx_geom.specs.Extent.{is_within};
 ghost use Rattle.vx_geom.specs.declared.bounds.TheConstants.{MAX_COLUMNS_EACH_WAY};
@@ -55,13 +55,8 @@ impl Chunk {
         let mut patches = Vec::new(alloc);
         for place in 0..regions.count() {
             let (number, region) = regions.nth(place);
-            add_patches(
-                &mut patches,
-                number.0,
-                &Cut::of(region.shape()),
-                west,
-                north,
-            )?;
+            let cut = Cut::of(alloc, region.shape());
+            add_patches(&mut patches, number.0, &cut, west, north)?;
         }
         let numbers = numbers_of(alloc, &patches)?;
         Ok(Chunk {
@@ -229,8 +224,26 @@ fn patches_around(patches: &[Patch], number: u32) -> (&[Patch], &[Patch])
         → result.1.now ≡ filter (λ d. nat_lt number d.number) patches.now }
 {
     let end = patches.partition_point(|patch| patch.number < number);
-    let start = patches.partition_point(|patch| patch.number <= number);
+    let start = end_of_run(patches, number, end);
     (&patches[..end], &patches[start..])
+}
+
+// Where the patches of that number end which stand together from `start` on. They are few, so they
+// are gone through one by one.
+fn end_of_run(patches: &[Patch], number: u32, start: usize) -> usize
+    requires { start ≤ length patches.now }
+    ensures from { start ≤ result }
+    ensures within { result ≤ length patches.now }
+    ensures run { AllWithin (λ d. d.number ≡ number) patches.now start result }
+    ensures stops { (d : Patch) → result < length patches.now
+        → (slice_index_or patches.now result d).number ≢ number }
+{
+    for index in start..patches.len() {
+        if patches[index].number != number {
+            return index;
+        }
+    }
+    patches.len()
 }
 
 // How many patches a shape has in a chunk at most. No clause says so: only room rests on it.
@@ -288,6 +301,22 @@ fn numbers_around(numbers: &[u32], number: u32) -> (&[u32], &[u32])
         → result.1.now ≡ filter (λ n. nat_lt number n) numbers.now }
 {
     let end = numbers.partition_point(|other| *other < number);
-    let start = numbers.partition_point(|other| *other <= number);
+    let start = past(numbers, number, end);
     (&numbers[..end], &numbers[start..])
+}
+
+// The index behind this one where that number stands here, else this one.
+fn past(numbers: &[u32], number: u32, index: usize) -> usize
+    requires { index ≤ length numbers.now }
+    ensures from { index ≤ result }
+    ensures within { result ≤ length numbers.now }
+    ensures run { AllWithin (λ n. n ≡ number) numbers.now index result }
+    ensures stops { (n : ℕ) → IsStrictlyIncreasing numbers.now → result < length numbers.now
+        → slice_index_or numbers.now result n ≢ number }
+{
+    if index < numbers.len() && numbers[index] == number {
+        index + 1
+    } else {
+        index
+    }
 }

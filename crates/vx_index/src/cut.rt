@@ -1,4 +1,4 @@
-ghost use Rattle.std.specs.Prelude.{◌≡◌, IfSome, option_copied};
+ghost use Rattle.std.specs.Prelude.{◌≡◌, IfOk, IfSome, option_copied};
 ghost use Rattle.std.specs.List.{All};
 ghost use Rattle.vx_geom.specs.Extent.{extent_of};
 ghost use Rattle.vx_geom.specs.Outline.{is_cuboid};
@@ -6,7 +6,7 @@ ghost use Rattle.vx_geom.specs.Row.{row_of};
 ghost use Rattle.vx_index.specs.Cuts.{IsRowOf};
 
 use crate::patches::SIDE;
-use arrayvec::ArrayVec;
+use std::alloc::{AllocError, Global};
 use std::marker::Model;
 use vx_geom::{Extent, Shape};
 
@@ -20,7 +20,7 @@ pub(crate) struct Cut<'a> {
     shape: &'a Shape,
     extent: Extent,
     // With the z of each row. Only costs rest on where a row stands.
-    rows: ArrayVec<(i32, Option<Extent>), ROWS>,
+    rows: Vec<(i32, Option<Extent>)>,
 }
 
 impl<'a> Model for Cut<'a> {
@@ -40,28 +40,29 @@ impl<'a> Model for Cut<'a> {
 
 impl<'a> Cut<'a> {
     /// The shape, of which no row is told yet.
-    pub(crate) fn of(shape: &'a Shape) -> Cut<'a>
+    pub(crate) fn of(alloc: Global, shape: &'a Shape) -> Cut<'a>
         ensures { result ≡ shape.now }
     {
         Cut {
             shape,
             extent: shape.extent(),
-            rows: ArrayVec::new(),
+            rows: Vec::new(alloc),
         }
     }
 
     /// The shape, and where it is a polygon the rows of the chunks that begin so far from the north.
-    pub(crate) fn along(shape: &'a Shape, north: i32) -> Cut<'a>
-        ensures { result ≡ shape.now }
+    /// Those of a polygon take memory.
+    pub(crate) fn along(alloc: Global, shape: &'a Shape, north: i32) -> Result<Cut<'a>, AllocError>
+        ensures { IfOk result (λ cut. cut ≡ shape.now) }
     {
         if shape.is_cuboid() {
-            return Cut::of(shape);
+            return Ok(Cut::of(alloc, shape));
         }
-        Cut {
+        Ok(Cut {
             shape,
             extent: shape.extent(),
-            rows: rows_from(shape, north),
-        }
+            rows: rows_from(alloc, shape, north)?,
+        })
     }
 
     /// The columns that the shape lies in.
@@ -90,21 +91,30 @@ impl<'a> Cut<'a> {
 }
 
 // The rows of a shape from so far from the north on.
-fn rows_from(shape: &Shape, north: i32) -> ArrayVec<(i32, Option<Extent>), ROWS>
-    ensures { All (IsRowOf shape.now) result.items }
+fn rows_from(
+    alloc: Global,
+    shape: &Shape,
+    north: i32,
+) -> Result<Vec<(i32, Option<Extent>)>, AllocError>
+    ensures { IfOk result (λ rows. All (IsRowOf shape.now) rows.items) }
 {
-    let mut rows = ArrayVec::new();
+    let mut rows = Vec::with_capacity(alloc, ROWS)?;
     for z in north..north.saturating_add(SIDE as i32) {
-        if rows.try_push((z, shape.row(z))).is_err() {
-            break;
-        }
+        rows.push((z, shape.row(z)))?;
     }
-    rows
+    Ok(rows)
 }
 
 /// The shape, if there is one, with the rows of the chunks that begin so far from the north.
-pub(crate) fn cut_along<'a>(shape: Option<&'a Shape>, north: i32) -> Option<Cut<'a>>
-    ensures { result ≡ option_copied shape.entry }
+pub(crate) fn cut_along<'a>(
+    alloc: Global,
+    shape: Option<&'a Shape>,
+    north: i32,
+) -> Result<Option<Cut<'a>>, AllocError>
+    ensures { IfOk result (λ cut. cut ≡ option_copied shape.entry) }
 {
-    Some(Cut::along(shape?, north))
+    let Some(shape) = shape else {
+        return Ok(None);
+    };
+    Ok(Some(Cut::along(alloc, shape, north)?))
 }

@@ -3,8 +3,10 @@ ghost use Rattle.std.specs.List.{All};
 ghost use Rattle.vx_geom.specs.Extent.{is_within};
 ghost use Rattle.vx_decide.specs.Unset.{IsUnset};
 ghost use Rattle.vx_decide.specs.Verdict.{verdict};
+ghost use Rattle.vx_index.specs.Chunks.{TellsOf};
 ghost use Rattle.vx_index.specs.Lands.{IsLandOf, joined};
-ghost use Rattle.vx_index.specs.Shapes.{renewed_at, shape_at, with_at, without_at};
+ghost use Rattle.vx_index.specs.Shapes.{Shapes, renewed_at, shape_at, with_at, without_at};
+ghost use Rattle.vx_index.specs.Touching.{AreTouched};
 ghost use Rattle.vx_region.specs.Subjects.{actor_of};
 
 use crate::chunk::Chunk;
@@ -118,10 +120,7 @@ impl Land {
             (renewed_at (shape_at regions.now) number.0 (option_copied shape.entry))) }
     {
         let touched = Touched::of(regions, number, shape);
-        let mut rows = Vec::with_capacity(alloc, self.rows.len())?;
-        for index in 0..self.rows.len() {
-            rows.push(self.rows[index].renewed(alloc, number.0, shape, &touched)?)?;
-        }
+        let rows = renewed_rows(alloc, &self.rows, number.0, shape, &touched)?;
         Land::made(alloc, rows)
     }
 
@@ -195,6 +194,32 @@ impl Land {
         }
         Some(chunk)
     }
+}
+
+// These rows where the region of that number has this shape, or is gone. Those in which neither the
+// shape nor the one before it lies are shared.
+fn renewed_rows(
+    alloc: Global,
+    rows: &[Row],
+    number: u32,
+    shape: Option<&Shape>,
+    touched: &Touched,
+) -> Result<Vec<Row>, AllocError>
+    ensures { (shapes : Shapes) → All (All (TellsOf shapes)) rows.now
+        → AreTouched (shapes number) (option_copied shape.entry) touched.now
+        → IfOk result (λ after.
+        All (All (TellsOf (renewed_at shapes number (option_copied shape.entry)))) after.items) }
+{
+    let touched = *touched;
+    let mut after = Vec::with_capacity(alloc, rows.len())?;
+    for row in rows {
+        if row.is_touched(&touched) {
+            after.push_reserved(row.renewed(alloc, number, shape, &touched)?);
+        } else {
+            after.push_reserved(row.try_clone()?);
+        }
+    }
+    Ok(after)
 }
 
 // The indices of the row and of the chunk in it that hold the position, where that lies in the

@@ -1,4 +1,5 @@
-ghost use Rattle.std.specs.Prelude.{◌≡◌, option_copied, IfOk};
+ghost use Rattle.std.specs.Prelude.{◌≡◌, ℕ, false, Option, option_copied, IfOk};
+ghost use Rattle.vx_geom.specs.Outline.{Outline};
 ghost use Rattle.vx_index.specs.Chunks.{TellsOf};
 ghost use Rattle.vx_index.specs.Shapes.{Shapes, renewed_at};
 ghost use Rattle.vx_index.specs.Squares.{IsSquare};
@@ -56,23 +57,30 @@ impl Plot {
         })
     }
 
-    /// The plot of the same columns, where the region of that number has this shape, or is gone.
-    /// Where neither the shape nor the one before it lies in the plot, the chunk is shared.
+    /// Whether the region lies in the plot, before or after the change of its shape. Where it does
+    /// not, the chunk tells of all shapes after the change too.
+    pub(crate) fn is_touched(&self, touched: &Touched) -> bool
+        ensures { result ≡ false → (shapes : Shapes) (number : ℕ) (shape : Option Outline)
+            → TellsOf shapes self.now → AreTouched (shapes number) shape touched.now
+            → TellsOf (renewed_at shapes number shape) self.now }
+    {
+        touched.touches(self.chunk.columns())
+    }
+
+    /// The plot of the same columns, where the region of that number has this shape, or is gone. It
+    /// is never inlined: a walk over all plots of a row, of which few are touched, would pay for it
+    /// at each.
+    #[inline(never)]
     pub(crate) fn renewed(
         &self,
         alloc: Global,
         number: u32,
         shape: Option<&Cut>,
-        touched: &Touched,
     ) -> Result<Plot, AllocError>
         ensures of { (shapes : Shapes) → TellsOf shapes self.now
-            → AreTouched (shapes number) (option_copied shape.entry) touched.now
             → IfOk result (TellsOf (renewed_at shapes number (option_copied shape.entry))) }
         ensures columns { IfOk result (λ plot. plot.columns ≡ self.now.columns) }
     {
-        if !touched.touches(self.chunk.columns()) {
-            return self.try_clone();
-        }
         Plot::new(alloc, self.chunk.renewed(alloc, number, shape)?)
     }
 }

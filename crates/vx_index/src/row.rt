@@ -1,6 +1,7 @@
-ghost use Rattle.std.specs.Prelude.{◌≡◌, ◌≤◌, option_copied, Contains, IfOk, IfSome};
+ghost use Rattle.std.specs.Prelude.{◌≡◌, ◌≤◌, ℕ, false, Option, option_copied, Contains, IfOk, IfSome};
 ghost use Rattle.std.specs.List.{All};
 ghost use Rattle.vx_geom.specs.declared.bounds.TheConstants.{MAX_COLUMNS_EACH_WAY};
+ghost use Rattle.vx_geom.specs.Outline.{Outline};
 ghost use Rattle.vx_index.specs.Chunks.{IsChunk, TellsOf};
 ghost use Rattle.vx_index.specs.Plots.{LiesAlong};
 ghost use Rattle.vx_index.specs.Shapes.{Shapes, renewed_at};
@@ -87,9 +88,20 @@ impl Row {
         Some(self.plots.get(index)?.chunk())
     }
 
-    /// The row where the region of that number has this shape, or is gone. All chunks are shared
-    /// where neither the shape nor the one before it lies in the row, else those in which neither
-    /// lies.
+    /// Whether the region lies as far from the north as the row, before or after the change of its
+    /// shape. Where it does not, the row tells of all shapes after the change too.
+    pub(crate) fn is_touched(&self, touched: &Touched) -> bool
+        ensures { result ≡ false → (shapes : Shapes) (number : ℕ) (shape : Option Outline)
+            → All (TellsOf shapes) self.now → AreTouched (shapes number) shape touched.now
+            → All (TellsOf (renewed_at shapes number shape)) self.now }
+    {
+        touched.touches_row(&self.columns)
+    }
+
+    /// The row where the region of that number has this shape, or is gone. The chunks in which
+    /// neither the shape nor the one before it lies are shared. It is never inlined: a walk over
+    /// all rows, of which few are touched, would pay for it at each.
+    #[inline(never)]
     pub(crate) fn renewed(
         &self,
         alloc: Global,
@@ -101,14 +113,16 @@ impl Row {
             → AreTouched (shapes number) (option_copied shape.entry) touched.now
             → IfOk result (All (TellsOf (renewed_at shapes number (option_copied shape.entry)))) }
     {
-        if !touched.touches_row(&self.columns) {
-            return self.try_clone();
-        }
         let columns = self.columns;
-        let cut = cut_along(shape, columns.north);
+        let touched = *touched;
+        let cut = cut_along(alloc, shape, columns.north)?;
         let mut plots = Vec::with_capacity(alloc, self.plots.len())?;
-        for index in 0..self.plots.len() {
-            plots.push(self.plots[index].renewed(alloc, number, cut.as_ref(), touched)?)?;
+        for plot in self.plots.iter() {
+            if plot.is_touched(&touched) {
+                plots.push_reserved(plot.renewed(alloc, number, cut.as_ref())?);
+            } else {
+                plots.push_reserved(plot.try_clone()?);
+            }
         }
         Row::made(alloc, columns, plots)
     }

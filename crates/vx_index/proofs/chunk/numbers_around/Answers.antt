@@ -1,6 +1,6 @@
-use Rattle.std.proofs.Common.{ℕ, leb, ltb, rules, of_calls}
+use Rattle.std.proofs.Common.{ℕ, ltb, rules, of_calls}
 use Rattle.std.proofs.lemmas.Fn.{always_returns_same}
-use Rattle.vx_index.proofs.Runs.{rising_never_fall, run_before, run_behind}
+use Rattle.vx_index.proofs.Runs.{rising_never_fall, run_before, run_past}
 use Rattle.vx_index.proofs.chunk.numbers_around.Goals as goal
 
 pub returns-clause-before : goal.returns-clause-before
@@ -10,5 +10,7 @@ returns-clause-before c rising =
 
 pub returns-clause-behind : goal.returns-clause-behind
 returns-clause-behind c rising =
-    run_behind (λ (m : ℕ). m) c.args.number c.args.numbers.now (rising_never_fall c.args.numbers.now rising) c.partition_point-start.result c.partition_point-start.ensures.bound
-    (c.partition_point-start.ensures.partitioned (λ m. leb m c.args.number) (always_returns_same _ _ _ (λ a r f k. search (rules, of_calls))))
+    run_past (λ (m : ℕ). m) c.args.number c.args.numbers.now (rising_never_fall c.args.numbers.now rising) c.partition_point-end.result c.past-start.result
+    c.past-start.ensures.from c.past-start.ensures.within
+    (c.partition_point-end.ensures.partitioned (λ m. ltb m c.args.number) (always_returns_same _ _ _ (λ a r f k. search (rules, of_calls))))
+    c.past-start.ensures.run (λ d. c.past-start.ensures.stops d rising)

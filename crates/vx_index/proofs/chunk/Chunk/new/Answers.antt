@@ -11,7 +11,7 @@ loop-place-init c = of_none c.args.regions.now.entries (square c.args.west c.arg
 
 pub loop-place-preserved : goal.loop-place-preserved
 loop-place-preserved c =
-    let shape_is = c.of.ensures ∙ c.shape.ensures in
+    let shape_is = c.of-cut.ensures ∙ c.shape.ensures in
     of_one_more c.args.regions.now.entries (square c.args.west c.args.north) c.loop-place.place _
     c.loop-place.patches.items c.add_patches.new.patches.items c.soundness.ensures.forest.numbered.ascending c.nth.ensures
     c.loop-place.invariant (rw shape_is at c.in_ok-add_patches.ensures.adds) (rw shape_is at c.in_ok-add_patches.ensures.apart)

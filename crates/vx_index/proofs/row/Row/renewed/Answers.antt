@@ -1,53 +1,55 @@
 use Rattle.std.specs.Option.{option_copied}
-use Rattle.std.proofs.Common.{◌≡◌, ◌∙◌, [], ◌∷◌, ◌++◌, List, rules, sym, subst}
-use Rattle.std.specs.List.{All, slice_index_or}
+use Rattle.std.proofs.Common.{◌≡◌, ◌∙◌, [], ◌∷◌, ◌++◌, rules, sym, subst}
+use Rattle.std.specs.List.{All}
 use Rattle.vx_index.specs.Chunks.{TellsOf}
 use Rattle.vx_index.specs.Plots.{LiesAlong}
 use Rattle.vx_index.specs.Shapes.{renewed_at}
-use Rattle.vx_index.specs.Touching.{AreTouched}
-use Rattle.vx_index.specs.declared.chunk.Chunk.{Chunk}
-use Rattle.vx_index.proofs.Along.{along_still, untouched_along}
-use Rattle.vx_index.proofs.Renewing.{renewed_elsewhere}
+use Rattle.vx_index.proofs.Along.{along_still}
 use Rattle.vx_index.proofs.Told.{copy_holds, push_holds}
 use Rattle.vx_index.proofs.row.Row.renewed.Goals as goal
+use Rattle.vx_index.proofs.row.Row.renewed.Goals.{then-is_touched+in_ok-renewed, else-is_touched+in_ok-try_clone}
 
--- neither the shape nor the one before it lies in any chunk of the row
-pub returns-then-not-touches_row : goal.returns-then-not-touches_row
-returns-then-not-touches_row c shapes tell are =
-    let row = c.args.self.now in
+pub loop-plot-preserved : goal.loop-plot-preserved
+loop-plot-preserved c =
+    let shape = option_copied c.args.shape in
+    let n = c.args.number in
+    let plots = c.loop-plot.plots.items in
+    let old = c.plot-item.result in
     let columns = c.self.inside.columns in
-    let along : All (LiesAlong columns) row = subst (λ (cs : List Chunk). All (LiesAlong columns) cs) c.self.view_is c.self.invariant in
-    copy_holds (All (TellsOf (renewed_at shapes c.args.number (option_copied c.args.shape)))) row c.try_clone.result c.try_clone.ensures
-    (λ k d below.
-    let chunk = slice_index_or row k d in
-    let tells : TellsOf shapes chunk = tell k d below in
-    record {
-      patches = renewed_elsewhere shapes chunk.columns c.args.number (option_copied c.args.shape) chunk.patches.items tells.patches
-          c.args.touched.now are
-          (untouched_along c.args.touched.now columns chunk (along k d below) (sym c.touches_row.ensures ∙ c.if-not-touches_row.true));
-      numbers = tells.numbers;
-    })
-
-pub loop-index-preserved : goal.loop-index-preserved
-loop-index-preserved c =
-    let plots = c.loop-index.plots.items in
-    let plot = c.in_ok-renewed.field-0 in
-    let before = c.index.result.now in
-    let columns = c.self.inside.columns in
-    let pushed : c.push.new.self.items ≡ plots ++ plot ∷ [] = search rules in
-    let along : LiesAlong columns before = search rules in (
-      λ shapes tell are.
-          let tells : TellsOf shapes before = search rules in
-          let shape_is = c.as_ref.ensures.value ∙ c.cut_along-cut.ensures in
-          push_holds (TellsOf (renewed_at shapes c.args.number (option_copied c.args.shape))) plots c.push.new.self.items plot pushed
-          (c.loop-index.invariant.0 shapes tell are)
-          (subst (λ o. TellsOf (renewed_at shapes c.args.number o) plot) shape_is
-          (c.in_ok-renewed.ensures.of shapes tells (subst (λ o. AreTouched (shapes c.args.number) o c.args.touched.now) (sym shape_is) are))),
-      push_holds (LiesAlong columns) plots c.push.new.self.items plot pushed c.loop-index.invariant.1
-          (along_still columns before plot c.in_ok-renewed.ensures.columns along),
-    )
+    let along : LiesAlong columns old = search rules in
+    elim c.if-is_touched.branch [
+      | then-is_touched+in_ok-renewed w ↦
+          let new = w.in_ok-renewed.field-0 in
+          let pushed : w.push_reserved.new.self.items ≡ plots ++ new ∷ [] = search rules in
+          rw w.plots-is (
+            λ shapes tell are.
+                let tells : TellsOf shapes old = search rules in
+                push_holds (TellsOf (renewed_at shapes n shape)) plots w.push_reserved.new.self.items new pushed (c.loop-plot.invariant.0 shapes tell are)
+                (subst (λ o. TellsOf (renewed_at shapes n o) new) (w.as_ref.ensures.value ∙ c.loop-plot.invariant.4) (w.in_ok-renewed.ensures.of shapes tells)),
+            push_holds (LiesAlong columns) plots w.push_reserved.new.self.items new pushed c.loop-plot.invariant.1
+                (along_still columns old new w.in_ok-renewed.ensures.columns along),
+            search rules,
+            search rules,
+            search rules,
+          )
+      | else-is_touched+in_ok-try_clone w ↦
+          let copy = w.in_ok-try_clone.field-0 in
+          let same : copy ≡ old = w.in_ok-try_clone.ensures in
+          let pushed : w.push_reserved-else-is_touched.new.self.items ≡ plots ++ copy ∷ [] = search rules in
+          rw w.plots-is (
+            λ shapes tell are.
+                let tells : TellsOf shapes old = search rules in
+                push_holds (TellsOf (renewed_at shapes n shape)) plots w.push_reserved-else-is_touched.new.self.items copy pushed (c.loop-plot.invariant.0 shapes tell are)
+                (subst (TellsOf (renewed_at shapes n shape)) (sym same) (c.is_touched.ensures w.if-is_touched.false shapes n shape tells are)),
+            push_holds (LiesAlong columns) plots w.push_reserved-else-is_touched.new.self.items copy pushed c.loop-plot.invariant.1
+                (subst (LiesAlong columns) (sym same) along),
+            search rules,
+            search rules,
+            search rules,
+          )
+    ]
 
 pub returns : goal.returns
 returns c shapes tell are =
-    copy_holds (All (TellsOf (renewed_at shapes c.args.number (option_copied c.args.shape)))) c.loop-index.plots.items c.made.result c.made.ensures
-    (c.loop-index.invariant.0 shapes tell are)
+    copy_holds (All (TellsOf (renewed_at shapes c.args.number (option_copied c.args.shape)))) c.loop-plot.plots.items c.made.result c.made.ensures
+    (c.loop-plot.invariant.0 shapes tell are)

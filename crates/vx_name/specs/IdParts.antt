@@ -1,38 +1,41 @@
--- The index of ids in parts.
-use Rattle.std.specs.Prelude.{ℕ, ◌+◌, ◌*◌, ◌%◌, List, Option}
+-- Ids in parts, of whatever has ids.
+use Rattle.std.specs.Prelude.{ℕ, ◌+◌, ◌*◌, ◌/◌, ◌%◌, nat_eq, cond, List, map}
 use Rattle.std.specs.List.{fold}
 use Rattle.vx_base.specs.Parts as parts
 use Rattle.vx_base.specs.Parts.{all_of}
 use Rattle.vx_name.specs.declared.id.Id.{Id}
-use Rattle.vx_name.specs.declared.id_numbers.TheConstants.{PARTS}
+use Rattle.vx_name.specs.declared.id_numbers.TheConstants.{HASHES}
+use Rattle.vx_name.specs.declared.parted.TheConstants.{PARTS, INNER}
 use Rattle.vx_name.specs.Ids.{same_id}
-use Rattle.vx_name.specs.IdUpdates.{IsUpdated}
 
--- the number of a part, with one more byte of an id
-abbrev pub part_step : ℕ → ℕ → ℕ
-part_step part byte = (part * 13 + byte) % PARTS
+-- a hash, with one more byte of an id
+abbrev pub hash_step : ℕ → ℕ → ℕ
+hash_step hash byte = (hash * 13 + byte) % HASHES
 
--- the number of the part in which an id of these bytes stands
-unfoldable pub part_of : List ℕ → ℕ
-part_of bytes = fold part_step 0 bytes
+-- the hash of an id of these bytes
+unfoldable pub hash_of : List ℕ → ℕ
+hash_of bytes = fold hash_step 0 bytes
+
+-- the hash of an id
+abbrev pub hash_of_id : Id → ℕ
+hash_of_id id = hash_of id.text.bytes
+
+-- the number of the part in which an id of that hash stands, by the level of the parts
+unfoldable pub part_of : ℕ → ℕ → ℕ
+part_of level hash = cond (nat_eq level INNER) hash (hash / PARTS) % PARTS
 
 -- the number of an id's part
-abbrev pub part_of_id : Id → ℕ
-part_of_id id = part_of id.text.bytes
+abbrev pub part_of_id : ℕ → Id → ℕ
+part_of_id level id = part_of level (hash_of_id id)
 
 -- some ids with their numbers
 abbrev pub IdList : Type 0
 IdList = List (Id × ℕ)
 
 -- the ids of all parts
-abbrev pub ids_of : List IdList → IdList
-ids_of lists = all_of lists
+abbrev pub ids_of : {P : Type 0} → (P → IdList) → List P → IdList
+ids_of ids held = all_of (map ids held)
 
 -- each id stands in its own part alone
-abbrev pub AreParted : List IdList → Type 0
-AreParted lists = parts.AreParted same_id part_of_id PARTS lists
-
--- parts in which the id has this number, or none, and each other id what it had
-pub record HaveChanged (id : Id) (number : Option ℕ) (old new : List IdList) : Type 0 where
-  pub parted : AreParted new
-  pub updated : IsUpdated id number (ids_of old) (ids_of new)
+abbrev pub AreParted : {P : Type 0} → (P → IdList) → ℕ → List P → Type 0
+AreParted ids level held = parts.AreParted same_id (part_of_id level) PARTS (map ids held)

@@ -1,77 +1,76 @@
-ghost use Rattle.std.specs.Prelude.{◌≡◌, [], Some, None, IfOk, OnOk, OnErr};
-ghost use Rattle.std.specs.Arc.{arc_value};
+ghost use Rattle.std.specs.Prelude.{◌≡◌, IfOk};
+ghost use Rattle.std.specs.List.{filter};
 ghost use Rattle.std.specs.Map.{lookup};
 ghost use Rattle.vx_name.specs.Ids.{same_id};
-ghost use Rattle.vx_name.specs.IdUpdates.{IsUpdated};
+ghost use Rattle.vx_name.specs.IdUpdates.{is_other};
 
+use crate::has_ids::HasIds;
 use crate::id::Id;
-use indexmap::IndexMap;
 use std::alloc::{AllocError, Global};
 use std::marker::Model;
 use std::sync::Arc;
 
-/// The numbers of some ids. Copies share them until one of them changes some.
+/// The numbers of a few ids, in a list that copies share. A change makes another list.
 #[derive(Drop)]
 pub(crate) struct IdPart {
     // `None` until there is an id, since an `Arc` takes memory.
-    numbers: Option<Arc<IndexMap<Id, u32>>>,
+    numbers: Option<Arc<Vec<(Id, u32)>>>,
 }
 
 impl Model for IdPart {
-    ghost use Rattle.std.specs.Prelude.{List, [], ℕ};
+    ghost use Rattle.std.specs.Prelude.{[], ℕ};
     ghost use Rattle.std.specs.Arc.{arc_value};
+    ghost use Rattle.std.specs.Global.{Vec as Numbers};
     ghost use Rattle.std.specs.Option.{option_map_or};
-    ghost use Rattle.indexmap.specs.IndexMap.{IndexMap as Numbers};
+    ghost use Rattle.vx_name.specs.IdParts.{IdList};
     ghost use Rattle.vx_name.specs.declared.id.Id.{Id as AnyId};
 
-    ghost Value = { List (AnyId × ℕ) };
+    ghost Value = { IdList };
 
     ghost view = { λ a. option_map_or
-        (λ n. (arc_value {X = Numbers AnyId ℕ _} n).entries) a.numbers [] };
+        (λ n. (arc_value {X = Numbers (AnyId × ℕ)} n).items) a.numbers [] };
 }
 
-impl IdPart {
-    /// No id has a number.
-    pub(crate) fn new() -> IdPart
-        ensures { result ≡ [] }
-    {
+impl HasIds for IdPart {
+    ghost ids = { λ part. part };
+
+    ghost copied = { λ part copy same. same };
+
+    fn none() -> IdPart {
         IdPart { numbers: None }
     }
 
-    /// The number of that id.
-    pub(crate) fn get(&self, id: &Id) -> Option<u32>
-        ensures { result ≡ lookup (same_id id.now) self.now }
-    {
-        let Some(numbers) = &self.numbers else {
-            return None;
-        };
-        numbers.get(id).copied()
+    fn get(&self, _hash: usize, id: &Id) -> Option<u32> {
+        number_of(self.as_slice(), id)
     }
 
-    /// Gives the id this number.
-    pub(crate) fn add(&mut self, alloc: Global, id: Id, number: u32) -> Result<(), AllocError>
-        ensures ok { OnOk result (IsUpdated id (Some number) self.old self.new) }
-        ensures err { OnErr result (self.new ≡ self.old) }
-    {
-        match &mut self.numbers {
-            Some(shared) => put(shared, id, number),
-            None => {
-                self.numbers = Some(first(alloc, id, number)?);
-                Ok(())
-            }
-        }
+    fn add(&mut self, alloc: Global, _hash: usize, id: Id, number: u32) -> Result<(), AllocError> {
+        let mut numbers = others(alloc, self.as_slice(), &id)?;
+        numbers.push((id, number))?;
+        self.numbers = Some(Arc::new(alloc, numbers)?);
+        Ok(())
     }
 
-    /// Takes the number from the id.
-    pub(crate) fn remove(&mut self, id: &Id) -> Result<(), AllocError>
-        ensures ok { OnOk result (IsUpdated id.now None self.old self.new) }
-        ensures err { OnErr result (self.new ≡ self.old) }
-    {
-        let Some(shared) = &mut self.numbers else {
+    fn remove(&mut self, _hash: usize, id: &Id) -> Result<(), AllocError> {
+        let Some(shared) = &self.numbers else {
             return Ok(());
         };
-        let _number = Arc::make_mut(shared)?.swap_remove(id);
+        let alloc = *shared.allocator();
+        let numbers = others(alloc, self.as_slice(), id)?;
+        self.numbers = Some(Arc::new(alloc, numbers)?);
         Ok(())
+    }
+}
+
+impl IdPart {
+    // The ids with their numbers.
+    fn as_slice(&self) -> &[(Id, u32)]
+        ensures { result.now ≡ self.now }
+    {
+        match &self.numbers {
+            Some(numbers) => numbers.as_slice(),
+            None => &[],
+        }
     }
 }
 
@@ -80,7 +79,7 @@ impl Clone for IdPart {
 
     fn clone(&self) -> Result<IdPart, AllocError> {
         let Some(numbers) = &self.numbers else {
-            return Ok(IdPart::new());
+            return Ok(IdPart::none());
         };
         Ok(IdPart {
             numbers: Some(Arc::try_clone(numbers)?),
@@ -88,23 +87,37 @@ impl Clone for IdPart {
     }
 }
 
-// Gives the id this number among those that copies may share.
-fn put(shared: &mut Arc<IndexMap<Id, u32>>, id: Id, number: u32) -> Result<(), AllocError>
-    ensures ok { OnOk result (IsUpdated id (Some number)
-        (arc_value shared.old).entries (arc_value shared.new).entries) }
-    ensures err { OnErr result
-        ((arc_value shared.new).entries ≡ (arc_value shared.old).entries) }
+// The number of that id among these, which are looked at one by one.
+fn number_of(numbers: &[(Id, u32)], id: &Id) -> Option<u32>
+    ensures { result ≡ lookup (same_id id.now) numbers.now }
 {
-    let _replaced = Arc::make_mut(shared)?.insert(id, number)?;
-    Ok(())
+    for entry in numbers {
+        if is_same(id, &entry.0) {
+            return Some(entry.1);
+        }
+    }
+    None
 }
 
-// The number of the first id.
-fn first(alloc: Global, id: Id, number: u32) -> Result<Arc<IndexMap<Id, u32>>, AllocError>
-    ensures { IfOk result (λ numbers. IsUpdated id (Some number)
-        [] (arc_value numbers).entries) }
+// These but for that id, and room for one more.
+fn others(alloc: Global, numbers: &[(Id, u32)], id: &Id) -> Result<Vec<(Id, u32)>, AllocError>
+    ensures { IfOk result (λ others. others.items ≡ filter (is_other id.now) numbers.now) }
 {
-    let mut numbers = IndexMap::new(alloc);
-    let _replaced = numbers.insert(id, number)?;
-    Ok(Arc::new(alloc, numbers)?)
+    let mut others = Vec::with_capacity(alloc, numbers.len() + 1)?;
+    for entry in numbers {
+        if !is_same(id, &entry.0) {
+            others.push(*entry)?;
+        }
+    }
+    Ok(others)
+}
+
+// Whether both are one id. Their last letters are compared first, since these tell most ids of a
+// part apart, for less than all letters cost.
+fn is_same(id: &Id, other: &Id) -> bool
+    ensures { result ≡ same_id id.now other.now }
+{
+    let these = id.as_str().as_bytes();
+    let those = other.as_str().as_bytes();
+    these.last() == those.last() && these == those
 }

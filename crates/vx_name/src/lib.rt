@@ -2,12 +2,14 @@
 //! ids, both of which copies share.
 #![tactic(auto)]
 
+mod has_ids;
 mod id;
 mod id_numbers;
 mod id_part;
 mod laws;
 mod name;
 mod name_set;
+mod parted;
 mod word;
 
 pub use id::{BadId, Id};

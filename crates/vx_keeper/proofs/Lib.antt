@@ -1,3 +1,4 @@
+pub mod Among
 pub mod Beginning
 pub mod Closing
 pub mod Giving
@@ -5,5 +6,6 @@ pub mod Knowing
 pub mod Marking
 pub mod Nexts
 pub mod Parts
+pub mod Renewing
 pub mod Resting
 pub mod Versions

@@ -15,7 +15,7 @@ use Rattle.vx_keeper.specs.declared.next_window.NextWindow.{NextWindow}
 use Rattle.vx_keeper.proofs.Giving.{given_beside, given_last}
 
 -- the cells of one number with what changed of them
-changed_at : (cs : List SectorCells) (ys : List (Option SectorCells)) (n : ℕ) (c : SectorCells) (y : Option SectorCells)
+pub changed_at : (cs : List SectorCells) (ys : List (Option SectorCells)) (n : ℕ) (c : SectorCells) (y : Option SectorCells)
     → n < length cs → length ys ≡ length cs → get_or cs n c ≡ c → y ≡ get_or ys n y
     → slice_get (with_changes cs ys) n ≡ Some (unwrap_or y c)
 changed_at [] ys n c y within many here change = absurd (omega (arith, within))

@@ -1,3 +1,4 @@
+pub mod Busy
 pub mod Keepers
 pub mod Marks
 pub mod Readiness

@@ -1,8 +1,8 @@
 -- What is made before the windows of sectors are closed.
 use Rattle.std.specs.List.{All}
-use Rattle.std.specs.Prelude.{◌≡◌, ℕ, ◌<◌, ◌≤◌, Bool, true, false, List, [], length, map, slice_get, slice_index_or, vec_capacity, Option, None, Some}
+use Rattle.std.specs.Prelude.{◌≡◌, ℕ, ◌<◌, ◌≤◌, Bool, true, false, List, [], length, map, replicate, slice_get, slice_index_or, vec_capacity, Option, None, Some}
 use Rattle.vx_cells.specs.SectorCells.{SectorCells}
-use Rattle.vx_cells.specs.Maps.{AreSectors}
+use Rattle.vx_cells.specs.Maps.{AreSectors, MapData}
 use Rattle.vx_cells.specs.Wholes.{with_cells_on}
 use Rattle.vx_geom.specs.Sizes.{Sizes}
 use Rattle.vx_policy.specs.declared.version.Version.{Version}
@@ -10,12 +10,14 @@ use Rattle.vx_region.specs.Regions.{Regions}
 use Rattle.vx_sector.specs.SectorData.{SectorData}
 use Rattle.vx_still.specs.Watching.{IsWatch}
 use Rattle.vx_record.specs.Kept.{busy_count}
-use Rattle.vx_windows.specs.Sectors.{AreQuiet, cells_of, entries_of, map_changed, nexts, window_over, with_changes}
-use Rattle.vx_keeper.specs.Keepers.{KeeperData, map_by, map_next, fates_next, resting, version_next}
+use Rattle.vx_windows.specs.Sectors.{AreQuiet, cells_of, entries_in, entries_of, map_changed, nexts, window_over, with_changes}
+use Rattle.vx_keeper.specs.Busy.{AreNextOf, resting_but, with_each}
+use Rattle.vx_keeper.specs.Keepers.{KeeperData, map_by, map_next, fates_next, version_next}
 use Rattle.vx_keeper.specs.Marks.{AreLed, WorldData, is_given}
 use Rattle.vx_keeper.specs.declared.next_window.NextWindow.{NextWindow}
 use Rattle.vx_keeper.specs.declared.ready.Ready.{Ready}
 use Rattle.vx_keeper.specs.declared.ready_at_rest.ReadyAtRest.{ReadyAtRest}
+use Rattle.vx_keeper.specs.declared.ready_for_busy.ReadyForBusy.{ReadyForBusy}
 use Rattle.vx_keeper.specs.declared.work.Work.{Work}
 
 -- what is given for the next windows of these sectors: nothing only where nothing was recorded, and
@@ -70,31 +72,58 @@ AreNext version same cells changes count all =
     × ((n : ℕ) → n < count → is_given n all ≡ false
     → (slice_index_or changes n None ≡ None) × (same ≡ true))
 
--- it is of this work on a world whose sectors all rest, and whose next windows this version judges
-pub record IsReadyAtRest (world : WorldData) (work : Work) (next : Version) (ready : ReadyAtRest)
-    : Type 0 where
+-- it is of this work on this map, which these windows have left of the world that is known, and whose
+-- next windows this version judges
+pub record IsReadyAtRest (world : WorldData) (now : MapData) (work : Work) (next : Version)
+    (ready : ReadyAtRest) : Type 0 where
   pub version : ready.version ≡ next
   pub fates : ready.fates.items ≡ work.plan.fates.items
   pub told : ready.told.items ≡ work.plan.fates.items
   pub watch : ready.watch ≡ work.watch
   pub few : length ready.changes.items ≤ length world.map.sectors
   pub after : map_by world.map.sizes (with_changes world.map.sectors ready.changes.items)
-      ≡ with_cells_on world.map work.plan.puts.items
+      ≡ with_cells_on now work.plan.puts.items
   pub led : AreLed (length world.map.sectors) world
-      (record { map = with_cells_on world.map work.plan.puts.items; version = next })
+      (record { map = with_cells_on now work.plan.puts.items; version = next })
       ready.next.items
 
--- what was made suits the tick of a world whose sectors all rest: it has the map after the tick, and
--- the version that the tick fixes
-pub record CanCloseAtRest (first : Regions) (k : KeeperData) (ready : ReadyAtRest) : Type 0 where
+-- what was made suits the tick that closes the windows of these sectors: it leads from the world that
+-- is known to the map after the tick and the version that the tick fixes
+pub record CanLead (first : Regions) (k : KeeperData) (sectors : List SectorData)
+    (ready : ReadyAtRest) : Type 0 where
   pub few : length ready.changes.items ≤ length k.world.map.sectors
   pub after : map_by k.world.map.sizes (with_changes k.world.map.sectors ready.changes.items)
-      ≡ map_next k (resting k)
+      ≡ map_next k sectors
   pub placed : AreSectors k.world.map.sizes
       (with_changes k.world.map.sectors ready.changes.items)
-  pub fates : ready.fates.items ≡ fates_next k (resting k)
-  pub told : ready.told.items ≡ fates_next k (resting k)
-  pub watch : IsWatch (map_next k (resting k)) ready.watch
+  pub fates : ready.fates.items ≡ fates_next k sectors
+  pub told : ready.told.items ≡ fates_next k sectors
+  pub watch : IsWatch (map_next k sectors) ready.watch
   pub version : ready.version ≡ version_next first k
   pub led : AreLed (length k.world.map.sectors) k.world
-      (record { map = map_next k (resting k); version = version_next first k }) ready.next.items
+      (record { map = map_next k sectors; version = version_next first k }) ready.next.items
+
+-- there is a window without entries for each sector of so many, and room for the windows of these,
+-- which begin their next ones over their parts of these cells, judged by this version
+pub record CanRenew (count : ℕ) (cells : List SectorCells) (version : Version)
+    (sectors : List SectorData) (ready : ReadyForBusy) : Type 0 where
+  pub fresh : AreNextOf cells version sectors ready.fresh.items
+  pub none : map entries_in ready.windows.items ≡ replicate count []
+  pub none_kept : ready.kept.items ≡ []
+  pub room_kept : length sectors ≤ vec_capacity ready.kept
+
+-- it is of this work on a world in which nothing is recorded but in these sectors, and whose next
+-- windows this version judges
+pub record IsReadyForBusy (world : WorldData) (sectors : List SectorData) (work : Work)
+    (next : Version) (ready : ReadyForBusy) : Type 0 where
+  pub lead : IsReadyAtRest world
+      (map_by world.map.sizes (with_each cells_of world.map.sectors sectors)) work next ready.lead
+  pub renew : CanRenew (length world.map.sectors)
+      (with_changes world.map.sectors ready.lead.changes.items) next sectors ready
+
+-- what was made suits the tick of a world in which nothing is recorded but in these sectors
+pub record CanCloseBusy (first : Regions) (k : KeeperData) (sectors : List SectorData)
+    (ready : ReadyForBusy) : Type 0 where
+  pub lead : CanLead first k (resting_but k sectors) ready.lead
+  pub renew : CanRenew (length k.counts) (map_next k (resting_but k sectors)).sectors
+      (version_next first k) sectors ready

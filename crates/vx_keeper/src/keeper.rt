@@ -10,18 +10,21 @@ ghost use Rattle.vx_tick.specs.Leaving.{IsPlanned};
 ghost use Rattle.vx_sector.specs.Windows.{count_of};
 ghost use Rattle.vx_record.specs.Records.{chronicle_in};
 ghost use Rattle.vx_record.specs.Settling.{AreKnown, BeganWith, IsKnown, IsTorn};
+ghost use Rattle.vx_keeper.specs.Busy.{AreBusyOf, resting_but};
 ghost use Rattle.vx_keeper.specs.Keepers.{IsKeeper, KnowsAsBefore, keeper_data, known, version_next, map_now, map_next, fates_next, chronicle_next, resting};
 ghost use Rattle.vx_keeper.specs.Marks.{AreBegun, AreParts, IsBegun, IsMarkOf, IsPartOf, IsQuietAt, renumbered};
-ghost use Rattle.vx_keeper.specs.Readiness.{CanClose, CanCloseAtRest};
+ghost use Rattle.vx_keeper.specs.Readiness.{CanClose, CanCloseBusy, CanLead};
 ghost use Rattle.vx_keeper.specs.Torn.{IsNoWork};
 ghost use Rattle.vx_keeper.specs.declared.tick_error.TickError.TheVariants.{HistoryFull, NoMemory, NoView, Torn};
 
+use crate::busy::{cells_but, number_of, renew_busy};
 use crate::known::Known;
 use crate::marked::Marked;
 use crate::next_window::NextWindow;
 use crate::places::Places;
 use crate::ready::Ready;
 use crate::ready_at_rest::ReadyAtRest;
+use crate::ready_for_busy::ReadyForBusy;
 use crate::sector_marks::SectorMarks;
 use crate::sound::{are_sectors, is_sector};
 use crate::tick_error::TickError;
@@ -364,7 +367,7 @@ impl<A: Places> Keeper<A> {
         gate: &G,
     ) -> Result<ReadyAtRest, TickError>
         requires workers { (0 < workers) × (workers ≤ MAX_WORKERS) }
-        ensures ready { IfOk result (CanCloseAtRest A.first self.new) }
+        ensures ready { IfOk result (CanLead A.first self.new (resting self.new)) }
         ensures room { OnOk result (self.new.is_roomy ≡ true) }
         ensures kept { KnowsAsBefore self.old self.new }
         ensures refused { IfErr result (λ error. (error ≡ NoView) ⊎ (error ≡ NoMemory)) }
@@ -395,7 +398,7 @@ impl<A: Places> Keeper<A> {
     ) -> (Vec<(Pos, Fate)>, Vec<NextWindow>)
         requires more { length self.old.chronicle.ticks < most_ticks }
         requires room { self.old.is_roomy ≡ true }
-        requires ready { CanCloseAtRest A.first self.old ready }
+        requires ready { CanLead A.first self.old (resting self.old) ready }
         ensures chronicle { self.new.chronicle ≡ chronicle_next self.old (resting self.old) }
         ensures counts { self.new.counts ≡ self.old.counts }
         ensures world { self.new.world ≡ record {
@@ -422,6 +425,118 @@ impl<A: Places> Keeper<A> {
             number: before + 1,
             version: was,
             windows: ClosedWindows::none(alloc, sectors),
+            fates,
+        });
+        self.watch = Some(watch);
+        let mark = self.stamper.mark(&self.known);
+        self.marks.give_led(&next, &mark);
+        (told, next)
+    }
+
+    /// Whether each of these sectors is what the keeper has of the sector of its number. Those that
+    /// are said to have begun with their parts of what the keeper knows are not compared, but for
+    /// their numbers and records.
+    pub fn knows_each(&self, sectors: &[Sector], are_parts: &[bool]) -> bool
+        requires parts { AreParts self.now.world are_parts.now sectors.now }
+        ensures { result ≡ true → AreBusyOf self.now sectors.now }
+    {
+        self.soundness();
+        for (at, sector) in sectors.iter().enumerate() {
+            let number = number_of(sector);
+            if self.archive.counts().len() <= number || !self.knows(number, sector, are_parts[at]) {
+                return false;
+            }
+        }
+        true
+    }
+
+    /// Makes all that the tick takes of a world in which nothing is recorded since the last one but
+    /// in these sectors. It costs what was recorded and what the machines put down, and a place in
+    /// some lists for each sector. The sectors are worked by 1 to 8 threads.
+    pub fn ready_for_busy<R: Threads + Sync, G: Gate + Sync>(
+        &mut self,
+        rt: &R,
+        alloc: Global,
+        busy: &[Sector],
+        workers: usize,
+        gate: &G,
+    ) -> Result<ReadyForBusy, TickError>
+        requires workers { (0 < workers) × (workers ≤ MAX_WORKERS) }
+        requires known { AreBusyOf self.old busy.now }
+        ensures ready { IfOk result (CanCloseBusy A.first self.new busy.now) }
+        ensures room { OnOk result (self.new.is_roomy ≡ true) }
+        ensures kept { KnowsAsBefore self.old self.new }
+        ensures refused { IfErr result (λ error. (error ≡ NoView) ⊎ (error ≡ NoMemory)) }
+    {
+        let version = self.fix()?;
+        let archive = &mut self.archive;
+        archive.reserve()?;
+        let (plan, watch) = self.planned_but(rt, alloc, busy, workers, gate)?;
+        self.soundness();
+        are_sectors(busy);
+        let is_same_policy = self.known.version().edits == version.edits;
+        Ok(ReadyForBusy::new(
+            alloc,
+            &self.known,
+            busy,
+            version,
+            is_same_policy,
+            Work { plan, watch },
+        )?)
+    }
+
+    /// Makes the tick of a world in which nothing is recorded since the last one but in these
+    /// sectors: adds it to the chronicle, with their windows and one without entries for each other
+    /// sector, goes on to the map after it, and begins the next windows of these sectors. It hands
+    /// out what becomes of the moves, and what the next windows of sectors begin with, these among
+    /// them. The window of a sector for which the list has nothing goes on as it is. It takes no
+    /// memory.
+    pub fn close_busy(
+        &mut self,
+        busy: &mut [Sector],
+        ready: ReadyForBusy,
+    ) -> (Vec<(Pos, Fate)>, Vec<NextWindow>)
+        requires known { AreBusyOf self.old busy.old }
+        requires more { length self.old.chronicle.ticks < most_ticks }
+        requires room { self.old.is_roomy ≡ true }
+        requires ready { CanCloseBusy A.first self.old busy.old ready }
+        ensures chronicle { self.new.chronicle
+            ≡ chronicle_next self.old (resting_but self.old busy.old) }
+        ensures counts { self.new.counts ≡ map count_of (resting_but self.old busy.old) }
+        ensures world { self.new.world ≡ record {
+          map = map_next self.old (resting_but self.old busy.old);
+          version = version_next A.first self.old;
+        } }
+        ensures seen { self.new.seen ≡ self.old.seen }
+        ensures fates { result.0.items ≡ fates_next self.old (resting_but self.old busy.old) }
+        ensures begun { AreBegun self.new.world result.1.items }
+        ensures parts { All (IsPartOf self.new.world) busy.new }
+        ensures kept { map count_of busy.new ≡ map count_of busy.old }
+    {
+        self.soundness();
+        are_sectors(busy);
+        let ReadyForBusy {
+            lead,
+            fresh,
+            windows,
+            kept,
+        } = ready;
+        let ReadyAtRest {
+            version,
+            fates,
+            told,
+            watch,
+            changes,
+            next,
+        } = lead;
+        let before = self.archive.ticks().len() as u64;
+        let was = self.known.go_on(changes, version);
+        let mut windows = windows;
+        renew_busy(busy, fresh, &mut windows);
+        self.archive.add(Tick {
+            number: before + 1,
+            version: was,
+            windows: ClosedWindows::new(windows, kept),
             fates,
         });
         self.watch = Some(watch);
@@ -566,6 +681,40 @@ impl<A: Places> Keeper<A> {
         )
     }
 
+    // Plans the next tick of a world in which nothing was recorded since the last one but in these
+    // sectors. It uses up what was kept of the map.
+    fn planned_but<R: Threads + Sync, G: Gate + Sync>(
+        &mut self,
+        rt: &R,
+        alloc: Global,
+        busy: &[Sector],
+        workers: usize,
+        gate: &G,
+    ) -> Result<(Plan, Watch), AllocError>
+        requires workers { (0 < workers) × (workers ≤ MAX_WORKERS) }
+        requires known { AreBusyOf self.old busy.now }
+        ensures same { self.new ≡ self.old }
+        ensures planned { IfOk result (IsPlanned self.old.world.version.policy
+            (map_now self.old (resting_but self.old busy.now))) }
+    {
+        self.soundness();
+        are_sectors(busy);
+        let watch = self.take_watch();
+        let cells = cells_but(alloc, &self.known, busy)?;
+        let written = written(alloc, busy)?;
+        let map = Frozen::apart(self.known.bounds(), &cells);
+        plan_parts(
+            rt,
+            alloc,
+            &map,
+            self.known.version(),
+            watch,
+            written.as_slice(),
+            workers,
+            gate,
+        )
+    }
+
     // What the next tick does by what was kept of the map, where all sectors are what the keeper
     // has of them.
     fn worked<R: Threads + Sync, G: Gate + Sync>(
@@ -609,13 +758,6 @@ fn is_quiet(sector: &Sector, at: usize) -> bool
 {
     is_sector(sector);
     sector.entries().is_empty() && is_at(sector, at)
-}
-
-// The number of the sector.
-fn number_of(sector: &Sector) -> usize
-    ensures { result ≡ sector.now.base.sector }
-{
-    sector.base().sector() as usize
 }
 
 // Whether the sector is one of a world of this size.

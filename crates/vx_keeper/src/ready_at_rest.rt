@@ -1,4 +1,7 @@
 ghost use Rattle.std.specs.Prelude.{◌≡◌, true, None, IfOk, length, map, replicate};
+ghost use Rattle.vx_cells.specs.Maps.{AreSectors};
+ghost use Rattle.vx_windows.specs.Sectors.{with_changes};
+ghost use Rattle.vx_keeper.specs.Keepers.{map_by};
 ghost use Rattle.vx_keeper.specs.Readiness.{AreNext, IsReadyAtRest};
 
 use crate::known::Known;
@@ -41,11 +44,11 @@ impl ReadyAtRest {
     ) -> Result<ReadyAtRest, AllocError>
         requires { is_same_policy ≡ true
             → record known.now.version { tick = version.tick } ≡ version }
-        ensures { IfOk result (IsReadyAtRest known.now work version) }
+        ensures { IfOk result (IsReadyAtRest known.now known.now.map work version) }
     {
-        let Work { plan, watch } = work;
-        let told = plan.fates.as_slice().to_vec(alloc)?;
-        if is_same_policy && plan.puts.is_empty() {
+        if is_same_policy && work.plan.puts.is_empty() {
+            let Work { plan, watch } = work;
+            let told = plan.fates.as_slice().to_vec(alloc)?;
             return Ok(ReadyAtRest {
                 version,
                 fates: plan.fates,
@@ -57,9 +60,37 @@ impl ReadyAtRest {
         }
         known.soundness();
         let cells = known.cells(alloc)?;
-        let mut changes = nothing(alloc, cells.len())?;
-        put_in_changes(known.bounds(), &cells, &mut changes, plan.puts.as_slice())?;
-        let next = all_next(alloc, &cells, &changes, &version, is_same_policy)?;
+        let changes = nothing(alloc, cells.len())?;
+        ReadyAtRest::over(alloc, known, &cells, changes, version, is_same_policy, work)
+    }
+
+    /// What the tick takes that was worked of the world that is known with these changes of its
+    /// cells, whose next windows this version judges.
+    pub(crate) fn over(
+        alloc: Global,
+        known: &Known,
+        cells: &[&Cells],
+        changes: Vec<Option<Cells>>,
+        version: Version,
+        is_same_policy: bool,
+        work: Work,
+    ) -> Result<ReadyAtRest, AllocError>
+        requires cells { map (λ c. c.now) cells.now ≡ known.now.map.sectors }
+        requires each { length changes.items ≡ length known.now.map.sectors }
+        requires placed { AreSectors known.now.map.sizes
+            (with_changes known.now.map.sectors changes.items) }
+        requires same { is_same_policy ≡ true
+            → record known.now.version { tick = version.tick } ≡ version }
+        ensures ready { IfOk result (IsReadyAtRest known.now (map_by known.now.map.sizes
+            (with_changes known.now.map.sectors changes.items)) work version) }
+        ensures each { IfOk result (λ ready.
+            length ready.changes.items ≡ length known.now.map.sectors) }
+    {
+        let Work { plan, watch } = work;
+        let told = plan.fates.as_slice().to_vec(alloc)?;
+        let mut changes = changes;
+        put_in_changes(known.bounds(), cells, &mut changes, plan.puts.as_slice())?;
+        let next = all_next(alloc, cells, &changes, &version, is_same_policy)?;
         Ok(ReadyAtRest {
             version,
             fates: plan.fates,
@@ -78,8 +109,8 @@ impl ReadyAtRest {
     }
 }
 
-// Nothing for so many sectors.
-fn nothing(alloc: Global, count: usize) -> Result<Vec<Option<Cells>>, AllocError>
+/// Nothing for so many sectors.
+pub(crate) fn nothing(alloc: Global, count: usize) -> Result<Vec<Option<Cells>>, AllocError>
     ensures { IfOk result (λ changes. changes.items ≡ replicate count None) }
 {
     let mut changes = Vec::with_capacity(alloc, count)?;

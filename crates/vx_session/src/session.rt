@@ -8,7 +8,7 @@ ghost use Rattle.vx_session.specs.Sessions.{IsSession, Does, Stays, opening_of, 
 
 use crate::calling::{called, cause_of};
 use crate::fronts::is_next;
-use crate::marking::{call_mark, sector_at};
+use crate::marking::{busy_sectors, call_mark, sector_at};
 use crate::player::Player;
 use crate::session_error::SessionError;
 use std::alloc::Global;
@@ -186,14 +186,15 @@ impl<A: Places, B: Seats> Session<A, B> {
         ensures edits { self.new.edits ≡ self.old.edits }
     {
         self.marks.reserve(1)?;
-        let is_quiet = is_quiet(&self.marks);
+        let sectors = self.bounds.sectors() as usize;
+        let busy = busy_sectors(alloc, &self.marks, sectors);
         let fates = self.world.tick_alone(
             rt,
             alloc,
             &mut self.keeper,
             self.workers,
             &NoGate,
-            is_quiet,
+            busy.as_deref(),
         )?;
         self.marks.push_reserved(Mark::Tick);
         Ok(fates)
@@ -231,17 +232,4 @@ impl<A: Places, B: Seats> Session<A, B> {
         } = self;
         (world, keeper, players, last, marks)
     }
-}
-
-// Whether no command was carried out since the last tick, by the marks of what was done. No clause
-// tells the answer: if it were wrong, the settlement would say so in the end.
-fn is_quiet(marks: &[Mark]) -> bool {
-    for mark in marks.iter().rev() {
-        match mark {
-            Mark::Edit => {}
-            Mark::Tick => return true,
-            _ => return false,
-        }
-    }
-    true
 }

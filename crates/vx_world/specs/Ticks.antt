@@ -1,6 +1,7 @@
 -- What a tick leaves in the keeper of a world.
 use mathlib.Core.List.{IsPrefix}
-use Rattle.std.specs.Prelude.{◌≡◌, ℕ, ◌+◌, List, length, map, Some}
+use Rattle.std.specs.List.{All}
+use Rattle.std.specs.Prelude.{◌≡◌, ℕ, ◌+◌, ◌<◌, ◌≤◌, List, length, map, Some}
 use Rattle.vx_geom.specs.declared.pos.Pos.{Pos}
 use Rattle.vx_region.specs.Regions.{Regions}
 use Rattle.vx_sector.specs.SectorData.{SectorData}
@@ -27,3 +28,7 @@ pub record IsTickOf (first : Regions) (all : ℕ) (before : KeeperData) (sectors
 abbrev pub HasTicked : Regions → ℕ → KeeperData → List (Pos × Fate) → KeeperData → Type 0
 HasTicked first all before fates after = (sectors : List SectorData)
     × IsTickOf first all before sectors after × (fates ≡ fates_next before sectors)
+
+-- numbers of so many sectors, no more of them than there are sectors
+abbrev pub AreNumbers : ℕ → List ℕ → Type 0
+AreNumbers count numbers = (length numbers ≤ count) × All (λ n. n < count) numbers

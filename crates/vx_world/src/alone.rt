@@ -1,11 +1,13 @@
 //! Ticks of a world that one thread has to itself.
-ghost use Rattle.std.specs.Prelude.{◌≡◌, ◌≢◌, ℕ, ◌↔◌, ◌<◌, ◌≤◌, [], length, vec_len, Err, IfOk, OnErr};
+ghost use Rattle.std.specs.Prelude.{◌≡◌, ◌≢◌, ℕ, ◌⊎◌, ◌↔◌, ◌<◌, ◌≤◌, [], length, vec_len, true, Err, IfErr, IfNone, IfOk, IfSome, OnErr, OnSome};
 ghost use Rattle.vx_step.specs.declared.workers.TheConstants.{MAX_WORKERS};
 ghost use Rattle.vx_windows.specs.Limits.{most_ticks};
+ghost use Rattle.vx_keeper.specs.Busy.{AreBusyOf};
 ghost use Rattle.vx_keeper.specs.Keepers.{KnowsAsBefore};
 ghost use Rattle.vx_keeper.specs.Marks.{AreBegun, AreParts, IsBegun};
-ghost use Rattle.vx_keeper.specs.declared.tick_error.TickError.TheVariants.{HistoryFull, Torn};
-ghost use Rattle.vx_world.specs.Ticks.{HasTicked};
+ghost use Rattle.vx_keeper.specs.Readiness.{CanCloseBusy};
+ghost use Rattle.vx_keeper.specs.declared.tick_error.TickError.TheVariants.{HistoryFull, NoMemory, NoView, Torn};
+ghost use Rattle.vx_world.specs.Ticks.{AreNumbers, HasTicked};
 
 use crate::home::Home;
 use crate::seats::Seats;
@@ -17,18 +19,20 @@ use std::alloc::Global;
 use std::sync::{Condvar, Mutex, Wait};
 use std::thread::Threads;
 use vx_geom::Pos;
-use vx_keeper::{Keeper, NextWindow, Places, TickError};
+use vx_keeper::{Keeper, NextWindow, Places, ReadyForBusy, TickError};
 use vx_sector::Fresh;
 use vx_step::Gate;
 use vx_tick::Fate;
 
 impl<A: Places, B: Seats> World<A, B> {
     /// Makes a tick as `tick` does. Since no other thread can reach the world meanwhile, no lock is
-    /// taken. Where it is said that nothing was recorded since the last tick all sectors stay in
-    /// their places, and only those are looked at whose next windows begin with other cells or by
-    /// another policy. The window of any other goes on, and is numbered when it is taken out next,
-    /// or by `catch_up`. A call that was recorded all the same, in a sector that goes on so, stands
-    /// in the window after the tick.
+    /// taken. Where it is said in which sectors something was recorded since the last tick, by their
+    /// numbers in ascending order, all others stay in their places, and only those of them are
+    /// looked at whose next windows begin with other cells or by another policy. The window of any
+    /// other goes on, and is numbered when it is taken out next, or by `catch_up`. If the numbers
+    /// are wrong, a call that was recorded in a sector that goes on so stands in the window after
+    /// the tick, and the settlement says so in the end; a sector in which nothing was recorded may
+    /// be named. Where nothing is said each sector is taken out of its place.
     pub fn tick_alone<R: Threads + Wait + Sync, G: Gate + Sync>(
         &mut self,
         rt: &R,
@@ -36,7 +40,7 @@ impl<A: Places, B: Seats> World<A, B> {
         keeper: &mut Keeper<A>,
         workers: usize,
         gate: &G,
-        is_quiet: bool,
+        busy: Option<&[usize]>,
     ) -> Result<Vec<(Pos, Fate)>, TickError>
         requires workers { (0 < workers) × (workers ≤ MAX_WORKERS) }
         ensures ok { IfOk result (λ fates.
@@ -50,10 +54,13 @@ impl<A: Places, B: Seats> World<A, B> {
         if keeper.is_full() {
             return Err(TickError::HistoryFull);
         }
-        if is_quiet {
+        let Some(numbers) = busy else {
+            return self.tick_each(rt, alloc, keeper, workers, gate);
+        };
+        if numbers.is_empty() {
             return self.tick_at_rest(rt, alloc, keeper, workers, gate);
         }
-        self.tick_each(rt, alloc, keeper, workers, gate)
+        self.tick_some(rt, alloc, keeper, workers, gate, numbers)
     }
 
     /// Gives each sector the number of the version that judges the open windows, where the keeper
@@ -97,6 +104,108 @@ impl<A: Places, B: Seats> World<A, B> {
         Ok(fates)
     }
 
+    // Makes the tick of sectors in which nothing was recorded but in those of these numbers, and
+    // takes these alone out of their places. If they are no numbers of sectors, if one of them is
+    // not what the keeper has of it, or if another that begins its next window with something is
+    // not known to rest, each is taken out all the same.
+    fn tick_some<R: Threads + Wait + Sync, G: Gate + Sync>(
+        &mut self,
+        rt: &R,
+        alloc: Global,
+        keeper: &mut Keeper<A>,
+        workers: usize,
+        gate: &G,
+        numbers: &[usize],
+    ) -> Result<Vec<(Pos, Fate)>, TickError>
+        requires workers { (0 < workers) × (workers ≤ MAX_WORKERS) }
+        requires more { length keeper.old.chronicle.ticks < most_ticks }
+        ensures ok { IfOk result (λ fates.
+            HasTicked A.first A.all keeper.old fates.items keeper.new) }
+        ensures err { OnErr result (KnowsAsBefore keeper.old keeper.new) }
+        ensures full { result ≢ Err HistoryFull }
+        ensures torn { (k : ℕ) → result ≡ Err (Torn k) → k < A.all }
+        ensures bounds { self.new.bounds ≡ self.old.bounds }
+    {
+        if !are_numbers(numbers, self.slots.len()) {
+            return self.tick_each(rt, alloc, keeper, workers, gate);
+        }
+        let mut taken = Taken::with_room(alloc, self.slots.len())?;
+        self.take_some(rt, keeper, &mut taken, numbers);
+        let made = self.make_some(rt, alloc, keeper, &mut taken, workers, gate);
+        self.put_some(keeper, taken, numbers);
+        match made? {
+            Some(fates) => Ok(fates),
+            None => self.tick_each(rt, alloc, keeper, workers, gate),
+        }
+    }
+
+    // Makes the tick of the sectors that were taken, and of the others as they rest in their places.
+    // None is made where it takes each sector.
+    fn make_some<R: Threads + Sync, G: Gate + Sync>(
+        &mut self,
+        rt: &R,
+        alloc: Global,
+        keeper: &mut Keeper<A>,
+        taken: &mut Taken<A>,
+        workers: usize,
+        gate: &G,
+    ) -> Result<Option<Vec<(Pos, Fate)>>, TickError>
+        requires workers { (0 < workers) × (workers ≤ MAX_WORKERS) }
+        requires more { length keeper.old.chronicle.ticks < most_ticks }
+        requires parts { AreParts keeper.old.world taken.old.are_parts.items
+            taken.old.sectors.items }
+        ensures ok { IfOk result (λ made. IfSome made (λ fates.
+            HasTicked A.first A.all keeper.old fates.items keeper.new)) }
+        ensures none { IfOk result (λ made. IfNone made (KnowsAsBefore keeper.old keeper.new)) }
+        ensures err { OnErr result (KnowsAsBefore keeper.old keeper.new) }
+        ensures refused { IfErr result (λ error. (error ≡ NoView) ⊎ (error ≡ NoMemory)) }
+        ensures count { vec_len taken.new.sectors ≡ vec_len taken.old.sectors }
+        ensures parts { AreParts keeper.new.world taken.new.are_parts.items
+            taken.new.sectors.items }
+        ensures bounds { self.new.bounds ≡ self.old.bounds }
+    {
+        let Some(ready) = self.ready_some(rt, alloc, keeper, taken, workers, gate)? else {
+            return Ok(None);
+        };
+        let (fates, next) = close_some(keeper, taken, ready);
+        self.renew_each(keeper, next);
+        Ok(Some(fates))
+    }
+
+    // Makes all that the tick takes of the sectors that were taken and of the others as they rest in
+    // their places; nothing where one of those that were taken is not what the keeper has of it, or
+    // where another that begins its next window with something is not known to rest.
+    fn ready_some<R: Threads + Sync, G: Gate + Sync>(
+        &mut self,
+        rt: &R,
+        alloc: Global,
+        keeper: &mut Keeper<A>,
+        taken: &Taken<A>,
+        workers: usize,
+        gate: &G,
+    ) -> Result<Option<ReadyForBusy>, TickError>
+        requires workers { (0 < workers) × (workers ≤ MAX_WORKERS) }
+        requires parts { AreParts keeper.old.world taken.now.are_parts.items
+            taken.now.sectors.items }
+        ensures known { IfOk result (λ made.
+            OnSome made (AreBusyOf keeper.new taken.now.sectors.items)) }
+        ensures ready { IfOk result (λ made.
+            IfSome made (CanCloseBusy A.first keeper.new taken.now.sectors.items)) }
+        ensures room { IfOk result (λ made. OnSome made (keeper.new.is_roomy ≡ true)) }
+        ensures kept { KnowsAsBefore keeper.old keeper.new }
+        ensures refused { IfErr result (λ error. (error ≡ NoView) ⊎ (error ≡ NoMemory)) }
+        ensures bounds { self.new.bounds ≡ self.old.bounds }
+    {
+        if !keeper.knows_each(&taken.sectors, &taken.are_parts) {
+            return Ok(None);
+        }
+        let ready = keeper.ready_for_busy(rt, alloc, &taken.sectors, workers, gate)?;
+        if !self.all_rest(keeper, ready.next()) {
+            return Ok(None);
+        }
+        Ok(Some(ready))
+    }
+
     // Makes the tick of the sectors, each taken out of its place.
     fn tick_each<R: Threads + Wait + Sync, G: Gate + Sync>(
         &mut self,
@@ -122,8 +231,9 @@ impl<A: Places, B: Seats> World<A, B> {
         made
     }
 
-    // Whether all sectors for which the list has something are known to rest. No clause tells the
-    // answer: one that did not rest would stay as it is, and be torn to the next tick.
+    // Whether all sectors for which the list has something are known to rest, but for those that
+    // were taken out of their places. No clause tells the answer: one that did not rest would stay
+    // as it is, and be torn to the next tick.
     fn all_rest(&mut self, keeper: &Keeper<A>, next: &[NextWindow]) -> bool
         ensures { self.new.bounds ≡ self.old.bounds }
     {
@@ -135,7 +245,7 @@ impl<A: Places, B: Seats> World<A, B> {
         true
     }
 
-    // Whether the sector of that number is known to rest.
+    // Whether the sector of that number is known to rest, or is not in its place.
     fn rests_at(&mut self, at: usize, keeper: &Keeper<A>) -> bool
         ensures { self.new.bounds ≡ self.old.bounds }
     {
@@ -145,7 +255,7 @@ impl<A: Places, B: Seats> World<A, B> {
         rests_in(&mut self.slots[at], keeper)
     }
 
-    // Has each sector for which the list has something begin its next window with that.
+    // Has each sector in its place for which the list has something begin its next window with that.
     fn renew_each(&mut self, keeper: &Keeper<A>, next: Vec<NextWindow>)
         requires { AreBegun keeper.now.world next.items }
         ensures { self.new.bounds ≡ self.old.bounds }
@@ -155,7 +265,7 @@ impl<A: Places, B: Seats> World<A, B> {
         }
     }
 
-    // Has the sector of that number, if there is one, begin its next window with this.
+    // Has the sector of that number, if it is in its place, begin its next window with this.
     fn renew_at(&mut self, at: usize, keeper: &Keeper<A>, fresh: Fresh)
         requires { IsBegun keeper.now.world at fresh }
         ensures { self.new.bounds ≡ self.old.bounds }
@@ -179,6 +289,44 @@ impl<A: Places, B: Seats> World<A, B> {
         }
     }
 
+    // Takes the sectors of these numbers out of their places, in this order.
+    fn take_some<R: Wait>(
+        &mut self,
+        rt: &R,
+        keeper: &Keeper<A>,
+        taken: &mut Taken<A>,
+        numbers: &[usize],
+    )
+        requires none { taken.old.sectors.items ≡ [] }
+        requires numbers { AreNumbers A.all numbers.now }
+        ensures count { vec_len taken.new.sectors ≡ length numbers.now }
+        ensures parts { AreParts keeper.now.world taken.new.are_parts.items
+            taken.new.sectors.items }
+        ensures bounds { self.new.bounds ≡ self.old.bounds }
+    {
+        for at in numbers {
+            let home = home_in(rt, &self.came, &mut self.slots[*at]);
+            taken.add(keeper, home);
+        }
+    }
+
+    // Puts the sectors of these numbers back, as `put_each` does each.
+    fn put_some(&mut self, keeper: &Keeper<A>, taken: Taken<A>, numbers: &[usize])
+        requires numbers { AreNumbers A.all numbers.now }
+        requires count { vec_len taken.sectors ≡ length numbers.now }
+        requires parts { AreParts keeper.now.world taken.are_parts.items taken.sectors.items }
+        ensures bounds { self.new.bounds ≡ self.old.bounds }
+    {
+        let mut taken = taken;
+        for at in numbers.iter().rev() {
+            let Some(home) = taken.pop_home(keeper) else {
+                unreachable!()
+            };
+            put_in(&mut self.slots[*at], home);
+        }
+        taken.end();
+    }
+
     // Puts each sector back, with the mark of what the keeper knows where its window began with its
     // part of that.
     fn put_each(&mut self, keeper: &Keeper<A>, taken: Taken<A>)
@@ -197,6 +345,44 @@ impl<A: Places, B: Seats> World<A, B> {
     }
 }
 
+// Whether these are numbers of so many sectors, each above the one before it.
+fn are_numbers(numbers: &[usize], count: usize) -> bool
+    ensures { result ≡ true → AreNumbers count numbers.now }
+{
+    let mut least = 0;
+    for number in numbers {
+        if *number < least || count <= *number {
+            return false;
+        }
+        least = *number + 1;
+    }
+    true
+}
+
+// Makes the tick of the sectors that were taken, and of all others as they rest. It hands out what
+// becomes of the moves, and what the next windows of sectors begin with.
+fn close_some<A: Places>(
+    keeper: &mut Keeper<A>,
+    taken: &mut Taken<A>,
+    ready: ReadyForBusy,
+) -> (Vec<(Pos, Fate)>, Vec<NextWindow>)
+    requires known { AreBusyOf keeper.old taken.old.sectors.items }
+    requires more { length keeper.old.chronicle.ticks < most_ticks }
+    requires room { keeper.old.is_roomy ≡ true }
+    requires ready { CanCloseBusy A.first keeper.old taken.old.sectors.items ready }
+    ensures ticked { HasTicked A.first A.all keeper.old result.0.items keeper.new }
+    ensures begun { AreBegun keeper.new.world result.1.items }
+    ensures count { vec_len taken.new.sectors ≡ vec_len taken.old.sectors }
+    ensures parts { AreParts keeper.new.world taken.new.are_parts.items
+        taken.new.sectors.items }
+{
+    keeper.soundness();
+    let Taken { sectors, .. } = taken;
+    let closed = keeper.close_busy(sectors, ready);
+    taken.are_all_parts();
+    closed
+}
+
 // Takes a sector out of its place. One that is away is waited for; between two ticks none is.
 fn home_in<A: Places, R: Wait>(rt: &R, came: &Condvar, slot: &mut Mutex<Slot<A>>) -> Home<A> {
     match slot.get_mut().home.take() {
@@ -210,7 +396,7 @@ fn put_in<A: Places>(slot: &mut Mutex<Slot<A>>, home: Home<A>) {
     slot.get_mut().put(home);
 }
 
-// Whether the sector in its place is known to rest.
+// Whether the sector in this place, if one is there, is known to rest.
 fn rests_in<A: Places>(slot: &mut Mutex<Slot<A>>, keeper: &Keeper<A>) -> bool {
     slot.get_mut().rests(keeper)
 }

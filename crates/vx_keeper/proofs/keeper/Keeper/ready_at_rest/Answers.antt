@@ -19,7 +19,7 @@ returns-clause-ready g c =
     let plan = c.in_ok-plan.plan in
     let rs = k.world.version.policy in
     let keeper = c.soundness.ensures in
-    let is = subst (λ w. IsReadyAtRest w (record { plan = plan; watch = c.in_ok-plan.watch }) c.in_ok-version.version ready)
+    let is = subst (λ w. IsReadyAtRest w w.map (record { plan = plan; watch = c.in_ok-plan.watch }) c.in_ok-version.version ready)
     (ap (λ (k : KeeperData). k.world) c.self-2.view_is) c.in_ok-new.ensures in
     let planned = subst (λ (k : KeeperData). IsPlanned k.world.version.policy k.world.map (plan, c.in_ok-plan.watch))
     (sym c.in_ok-plan.ensures.same) c.in_ok-plan.ensures.planned in

@@ -108,6 +108,8 @@ impl<A: Places, B: Seats> World<A, B> {
     // takes these alone out of their places. If they are no numbers of sectors, if one of them is
     // not what the keeper has of it, or if another that begins its next window with something is
     // not known to rest, each is taken out all the same.
+    // Not inlined, so that a tick in which nothing was recorded is not held up by it.
+    #[inline(never)]
     fn tick_some<R: Threads + Wait + Sync, G: Gate + Sync>(
         &mut self,
         rt: &R,

@@ -8,8 +8,8 @@ use Rattle.vx_sector.specs.SectorData.{FreshData, SectorData}
 use Rattle.vx_record.specs.Settling.{IsKnown}
 use Rattle.vx_keeper.specs.Keepers.{KeeperData, known, resting}
 
--- what a list has for the sectors of a world, by their numbers, with what is told of these sectors in
--- the places of theirs
+-- what a list has for the sectors of a world, by their numbers, with what is told of these sectors
+-- in the places of theirs
 abbrev pub with_each : {X : Type 0} → (SectorData → X) → List X → List SectorData → List X
 with_each f xs [] = xs
 with_each f xs (s ∷ busy) = with_each f (slice_set xs s.base.sector (f s)) busy

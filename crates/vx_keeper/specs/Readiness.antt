@@ -72,8 +72,8 @@ AreNext version same cells changes count all =
     × ((n : ℕ) → n < count → is_given n all ≡ false
     → (slice_index_or changes n None ≡ None) × (same ≡ true))
 
--- it is of this work on this map, which these windows have left of the world that is known, and whose
--- next windows this version judges
+-- it is of this work on this map, which these windows have left of the world that is known, and
+-- whose next windows this version judges
 pub record IsReadyAtRest (world : WorldData) (now : MapData) (work : Work) (next : Version)
     (ready : ReadyAtRest) : Type 0 where
   pub version : ready.version ≡ next
@@ -87,8 +87,8 @@ pub record IsReadyAtRest (world : WorldData) (now : MapData) (work : Work) (next
       (record { map = with_cells_on now work.plan.puts.items; version = next })
       ready.next.items
 
--- what was made suits the tick that closes the windows of these sectors: it leads from the world that
--- is known to the map after the tick and the version that the tick fixes
+-- what was made suits the tick that closes the windows of these sectors: it leads from the world
+-- that is known to the map after the tick and the version that the tick fixes
 pub record CanLead (first : Regions) (k : KeeperData) (sectors : List SectorData)
     (ready : ReadyAtRest) : Type 0 where
   pub few : length ready.changes.items ≤ length k.world.map.sectors

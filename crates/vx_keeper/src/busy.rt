@@ -19,8 +19,8 @@ pub(crate) fn number_of(sector: &Sector) -> usize
     sector.base().sector() as usize
 }
 
-/// The cells of all sectors that are known, where they stand, those of these sectors in the places of
-/// theirs: none are copied.
+/// The cells of all sectors that are known, where they stand, those of these sectors in the places
+/// of theirs: none are copied.
 pub(crate) fn cells_but<'a>(
     alloc: Global,
     known: &'a Known,

@@ -435,7 +435,7 @@ impl<A: Places> Keeper<A> {
 
     /// Whether each of these sectors is what the keeper has of the sector of its number. Those that
     /// are said to have begun with their parts of what the keeper knows are not compared, but for
-    /// their numbers and records.
+    /// their numbers and records. Only costs rest on a no.
     pub fn knows_each(&self, sectors: &[Sector], are_parts: &[bool]) -> bool
         requires parts { AreParts self.now.world are_parts.now sectors.now }
         ensures { result ≡ true → AreBusyOf self.now sectors.now }

@@ -32,8 +32,8 @@ pub struct ReadyForBusy {
 impl ReadyForBusy {
     /// What the tick takes that was worked of the world that is known, but for these sectors, whose
     /// next windows this version judges. If it is the one that judges their windows, but for its
-    /// number, what is made costs what was recorded and what the tick puts down, and a place in three
-    /// lists for each sector.
+    /// number, what is made costs what was recorded and what the tick puts down, and a place in
+    /// three lists for each sector.
     pub(crate) fn new(
         alloc: Global,
         known: &Known,

@@ -6,8 +6,8 @@ use std::alloc::{AllocError, Global};
 use vx_audit::Mark;
 use vx_geom::{Bounds, Pos};
 
-// A busy sector costs more where it alone is taken out of its place: with fewer sectors than so many
-// for each that is busy it costs less to take out all.
+// A busy sector costs more where it alone is taken out of its place: with fewer sectors than so
+// many for each that is busy it costs less to take out all.
 const SECTORS_FOR_EACH_BUSY: usize = 8;
 
 /// The number of the sector that holds the position; none outside the world.
@@ -33,10 +33,10 @@ pub(crate) fn call_mark(seat: u8, sector: Option<u32>) -> Mark
     }
 }
 
-/// The numbers of those of so many sectors of which the calls since the last tick speak, in ascending
-/// order, by the marks of what was done. It tells none where it costs less to take out all sectors,
-/// or for want of memory. No clause tells the answer: if it were wrong, the settlement would say so
-/// in the end.
+/// The numbers of those of so many sectors of which the calls since the last tick speak, in
+/// ascending order, by the marks of what was done. It tells none where it costs less to take out
+/// all sectors, or for want of memory. No clause tells the answer: if it were wrong, the
+/// settlement would say so in the end.
 pub(crate) fn busy_sectors(alloc: Global, marks: &[Mark], sectors: usize) -> Option<Vec<usize>> {
     let mut busy = Vec::new(alloc);
     for mark in marks.iter().rev() {

@@ -25,14 +25,15 @@ use vx_step::Gate;
 use vx_tick::Fate;
 
 impl<A: Places, B: Seats> World<A, B> {
-    /// Makes a tick as `tick` does. Since no other thread can reach the world meanwhile, no lock is
-    /// taken. Where it is said in which sectors something was recorded since the last tick, by their
-    /// numbers in ascending order, all others stay in their places, and only those of them are
-    /// looked at whose next windows begin with other cells or by another policy. The window of any
-    /// other goes on, and is numbered when it is taken out next, or by `catch_up`. If the numbers
-    /// are wrong, a call that was recorded in a sector that goes on so stands in the window after
-    /// the tick, and the settlement says so in the end; a sector in which nothing was recorded may
-    /// be named. Where nothing is said each sector is taken out of its place.
+    /// Makes a tick as `tick` does. Since no other thread can reach the world meanwhile, no lock
+    /// is taken. Where the numbers are given, in ascending order, of the sectors in which
+    /// something was recorded since the last tick, all others stay in their places, and only
+    /// those of them are looked at whose next windows begin with other cells or by another
+    /// policy. The window of any other goes on, and is numbered when it is taken out next, or by
+    /// `catch_up`. If the numbers are wrong, a call that was recorded in a sector that goes on so
+    /// stands in the window after the tick, and the settlement says so in the end; a sector in
+    /// which nothing was recorded may be among them. Where no numbers are given each sector is
+    /// taken out of its place.
     pub fn tick_alone<R: Threads + Wait + Sync, G: Gate + Sync>(
         &mut self,
         rt: &R,
@@ -141,8 +142,8 @@ impl<A: Places, B: Seats> World<A, B> {
         }
     }
 
-    // Makes the tick of the sectors that were taken, and of the others as they rest in their places.
-    // None is made where it takes each sector.
+    // Makes the tick of the sectors that were taken, and of the others, which rest in their places.
+    // None is made where that takes each sector.
     fn make_some<R: Threads + Sync, G: Gate + Sync>(
         &mut self,
         rt: &R,
@@ -174,9 +175,9 @@ impl<A: Places, B: Seats> World<A, B> {
         Ok(Some(fates))
     }
 
-    // Makes all that the tick takes of the sectors that were taken and of the others as they rest in
-    // their places; nothing where one of those that were taken is not what the keeper has of it, or
-    // where another that begins its next window with something is not known to rest.
+    // Makes all that the tick takes of the sectors that were taken and of the others, which rest;
+    // nothing where one of those that were taken is not what the keeper has of it, or where another
+    // that begins its next window with something is not known to rest.
     fn ready_some<R: Threads + Sync, G: Gate + Sync>(
         &mut self,
         rt: &R,
@@ -257,7 +258,7 @@ impl<A: Places, B: Seats> World<A, B> {
         rests_in(&mut self.slots[at], keeper)
     }
 
-    // Has each sector in its place for which the list has something begin its next window with that.
+    // Has each sector in its place for which the list has something begin its next window with it.
     fn renew_each(&mut self, keeper: &Keeper<A>, next: Vec<NextWindow>)
         requires { AreBegun keeper.now.world next.items }
         ensures { self.new.bounds ≡ self.old.bounds }

@@ -48,8 +48,8 @@ impl<A: Places> Slot<A> {
         }
     }
 
-    /// Whether the sector, if it is at home, is known to rest. Of one that is away nothing is asked:
-    /// a tick that has taken it out begins its next window. Only costs rest on the answer.
+    /// Whether the sector, if it is at home, is known to rest. Nothing is asked of one that is
+    /// away: a tick that has taken it out begins its next window. Only costs rest on the answer.
     pub fn rests(&self, keeper: &Keeper<A>) -> bool {
         match &self.home {
             Some(home) => home.rests(keeper),

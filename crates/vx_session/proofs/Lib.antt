@@ -1,6 +1,7 @@
 mod Asking
 mod AtOnce
 mod Begun
+mod Carried
 mod Doing
 mod Ending
 mod LastEdits

@@ -40,7 +40,7 @@ asked_still seat i requests d within other =
     ∙ append-nil (asked_of seat (take i requests))
 
 -- with an answer to one request more there is one call more
-calls_more : (requests : List Request) (answers : List (Result Reply Refusal)) (r : Request) (a : Result Reply Refusal)
+pub calls_more : (requests : List Request) (answers : List (Result Reply Refusal)) (r : Request) (a : Result Reply Refusal)
     → length answers ≡ length requests
     → calls_of (requests ++ r ∷ []) (answers ++ a ∷ []) ≡ calls_of requests answers ++ record { cmd = r.cmd; answer = a } ∷ []
 calls_more [] [] r a even = refl
@@ -50,7 +50,7 @@ calls_more (q ∷ requests) (b ∷ answers) r a even =
     ap (λ cs. record { cmd = q.cmd; answer = b } ∷ cs) (calls_more requests answers r a (omega (arith, even)))
 
 -- calls and then one more
-called_more : (sizes : Sizes) (before now next : List (List Call)) (calls : List Call) (call : Call)
+pub called_more : (sizes : Sizes) (before now next : List (List Call)) (calls : List Call) (call : Call)
     → AreCalled sizes before calls now → IsCalled (sector_of sizes (place_of call.cmd)) now call next
     → AreCalled sizes before (calls ++ call ∷ []) next
 called_more sizes before now next [] call same called =
@@ -111,6 +111,18 @@ as_many seat (q ∷ requests) (b ∷ answers) even =
         ≡ length (cond t (q ∷ asked_of seat requests) (asked_of seat requests))
     of_seat true rest = ap (λ n. suc n) rest
     of_seat false rest = rest
+
+-- so it is with the next request of a list, and the seat that it names
+pub answers_next : (k i : ℕ) (requests : List Request) (d : Request) (answers : List (Result Reply Refusal)) (a : Result Reply Refusal) (seat : ℕ)
+    → i < length requests → seat ≡ (get_or requests i d).seat → length answers ≡ i
+    → answers_to k (take (i + 1) requests) (answers ++ a ∷ [])
+    ≡ answers_to k (take i requests) answers ++ cond (eqb seat k) (a ∷ []) []
+answers_next k i requests d answers a seat within own many =
+    let front = take i requests in
+    let even : length answers ≡ length front = many ∙ sym (length-take-le i requests (omega (arith, within))) in
+    ap (λ qs. answers_to k qs (answers ++ a ∷ [])) (take_more requests i d within)
+    ∙ answers_more k front answers (get_or requests i d) a even
+    ∙ ap (λ n. answers_to k front answers ++ cond (eqb n k) (a ∷ []) []) (sym own)
 
 -- where a request of the seat is left, those before it are fewer
 pub asked_left : (i : ℕ) (requests : List Request) (d : Request) → i < length requests

@@ -12,7 +12,7 @@ use Rattle.vx_sector.specs.declared.refusal.Refusal.{Refusal}
 use Rattle.vx_session.specs.Blocks.{PlayerData, asked_of, calls_of, answers_to, AreAsked, AreCalled, AreCarriedOut, AreTold, HasPlayed, HaveAllPlayed, HaveAnswers, HavePasses}
 use Rattle.vx_session.specs.Sessions.{PassData}
 use Rattle.vx_session.specs.declared.request.Request.{Request}
-use Rattle.vx_session.proofs.Requested.{answers_more, as_many, asked_left}
+use Rattle.vx_session.proofs.Requested.{answers_next, as_many, asked_left}
 
 -- the pass of a player
 abbrev pub pass_of : PlayerData → PassData
@@ -39,15 +39,9 @@ one_told requests i d answers a old now seat was is within own many told there h
     front : List Request
     front = take i requests
 
-    even : length answers ≡ length front
-    even = many ∙ sym (length-take-le i requests (omega (arith, within)))
-
     all_told : (k : ℕ) → answers_to k (take (i + 1) requests) (answers ++ a ∷ [])
         ≡ answers_to k front answers ++ cond (eqb seat k) (a ∷ []) []
-    all_told k =
-        ap (λ qs. answers_to k qs (answers ++ a ∷ [])) (take_more requests i d within)
-        ∙ answers_more k front answers (get_or requests i d) a even
-        ∙ ap (λ n. answers_to k front answers ++ cond (eqb n k) (a ∷ []) []) (sym own)
+    all_told k = answers_next k i requests d answers a seat within own many
 
     rest : (k : ℕ) (e : PlayerData) → k < length now
         → ((eqb seat k ≡ true) × (seat ≡ k)) ⊎ ((eqb seat k ≡ false) × (seat ≢ k))

@@ -6,6 +6,7 @@ ghost use Rattle.vx_sector.specs.SectorData.{EntryData};
 ghost use Rattle.vx_session.specs.Blocks.{marks_asked, player_data, AreAsked, AreCarriedOut, AreMade, AreTold, HasPlayed, HaveAllPlayed, HaveAnswers, HavePasses};
 ghost use Rattle.vx_session.specs.Sessions.{Does, Stays, names_of, pass_in, player_in};
 
+use crate::calling::called;
 use crate::halving::at_once;
 use crate::marking::{call_mark, sector_at};
 use crate::player::Player;
@@ -21,10 +22,14 @@ use vx_keeper::Places;
 use vx_sector::{Refusal, Reply};
 use vx_world::{Seats, World};
 
+// A thread that carries out fewer requests than so many costs more than it saves.
+const WORTH_A_THREAD: usize = 256;
+
 impl<A: Places + Send + Sync, B: Seats + Send + Sync> Session<A, B> {
-    /// Carries out what is asked for, on a thread for each player of whom something is asked. Each
-    /// does what is asked of him in its order, and between players there is no order. The answers
-    /// are told in the order of the requests.
+    /// Carries out what is asked for, and tells the answers in the order of the requests. Where
+    /// much is asked for, each player of whom much is asked has a thread of his own: each does what
+    /// is asked of him in its order, and between players there is no order. Few requests are
+    /// carried out in their order, without threads.
     pub fn together<T: Threads + Wait + Sync>(
         &mut self,
         rt: &T,
@@ -53,7 +58,8 @@ impl<A: Places + Send + Sync, B: Seats + Send + Sync> Session<A, B> {
     }
 }
 
-// Has the players do what is asked for, and tells the answers in the order of the requests.
+// Has the players do what is asked for, at once where threads are worth it, and tells the answers in
+// the order of the requests.
 fn answers_of<A: Places + Send + Sync, B: Seats + Send + Sync, T: Threads + Wait + Sync>(
     rt: &T,
     alloc: Global,
@@ -72,10 +78,65 @@ fn answers_of<A: Places + Send + Sync, B: Seats + Send + Sync, T: Threads + Wait
 {
     // Before the calls: where they are answered, their answers have room.
     let mut answers = Vec::with_capacity(alloc, requests.len())?;
+    if requests.len() < 2 * WORTH_A_THREAD {
+        answer_each(rt, bounds, world, players, requests, &mut answers)?;
+    } else {
+        answer_at_once(rt, bounds, world, players, requests, &mut answers)?;
+    }
+    Ok(answers)
+}
+
+// Has the players do what is asked for, one request after another, and tells the answers.
+fn answer_each<A: Places, B: Seats>(
+    rt: &impl Wait,
+    bounds: &Bounds,
+    world: &World<A, B>,
+    players: &mut [Player<A, B>],
+    requests: &[Request],
+    answers: &mut Vec<Result<Reply, Refusal>>,
+) -> Result<(), SessionError>
+    requires bounds { world.now.bounds ≡ bounds.now }
+    requires named { All (λ request. request.seat < length players.old) requests.now }
+    requires none { answers.old.items ≡ [] }
+    requires room { length requests.now ≤ vec_capacity answers.old }
+    ensures seats { map (λ player. (player_in player).seat) players.new
+        ≡ map (λ player. (player_in player).seat) players.old }
+    ensures each { OnOk result (length answers.new.items ≡ length requests.now) }
+    ensures carried_out { OnOk result (AreCarriedOut bounds.now requests.now answers.new.items
+        (map player_in players.old) (map player_in players.new)) }
+{
+    for request in requests {
+        let player = &mut players[usize::from(request.seat)];
+        let sector = sector_at(bounds, request.cmd.place());
+        let answer = called(bounds, world, rt, &mut player.pass, sector, &request.cmd)?;
+        answers.push_reserved(answer);
+    }
+    Ok(())
+}
+
+// Has the players do what is asked for at once, and tells the answers in the order of the requests.
+fn answer_at_once<A: Places + Send + Sync, B: Seats + Send + Sync, T: Threads + Wait + Sync>(
+    rt: &T,
+    bounds: &Bounds,
+    world: &World<A, B>,
+    players: &mut [Player<A, B>],
+    requests: &[Request],
+    answers: &mut Vec<Result<Reply, Refusal>>,
+) -> Result<(), SessionError>
+    requires bounds { world.now.bounds ≡ bounds.now }
+    requires named { All (λ request. request.seat < length players.old) requests.now }
+    requires none { answers.old.items ≡ [] }
+    requires room { length requests.now ≤ vec_capacity answers.old }
+    ensures seats { map (λ player. (player_in player).seat) players.new
+        ≡ map (λ player. (player_in player).seat) players.old }
+    ensures each { OnOk result (length answers.new.items ≡ length requests.now) }
+    ensures carried_out { OnOk result (AreCarriedOut bounds.now requests.now answers.new.items
+        (map player_in players.old) (map player_in players.new)) }
+{
     ask_all(players, requests)?;
     play_all(rt, bounds, world, players, requests)?;
-    tell_all(players, requests, &mut answers);
-    Ok(answers)
+    tell_all(players, requests, answers);
+    Ok(())
 }
 
 // Asks of each player what is asked for from his seat, and nothing else.
@@ -139,7 +200,7 @@ fn play_all<A: Places + Send + Sync, B: Seats + Send + Sync, T: Threads + Wait +
     }
 }
 
-// Has them play at once, where something is asked of several. Who stopped is left to be seen.
+// Has them play at once, as far as threads are worth it. Who stopped is left to be seen.
 fn play_each<A: Places + Send + Sync, B: Seats + Send + Sync, T: Threads + Wait + Sync>(
     rt: &T,
     bounds: &Bounds,
@@ -157,15 +218,19 @@ fn play_each<A: Places + Send + Sync, B: Seats + Send + Sync, T: Threads + Wait 
 {
     at_once(
         rt,
-        &|some| is_any_asked(some),
+        &|some| is_worth_a_thread(some),
         &|player| player.play(rt, bounds, world),
         players,
     );
 }
 
-// Whether something is asked of one of these players.
-fn is_any_asked<A: Places, B: Seats>(players: &[Player<A, B>]) -> bool {
-    players.iter().any(|player| !player.asked.is_empty())
+// Whether so much is asked of these players that they are worth a thread.
+fn is_worth_a_thread<A: Places, B: Seats>(players: &[Player<A, B>]) -> bool {
+    let mut wanting = WORTH_A_THREAD;
+    for player in players {
+        wanting = wanting.saturating_sub(player.asked.len());
+    }
+    wanting == 0
 }
 
 // Why the first of the players stopped who did, if one did.

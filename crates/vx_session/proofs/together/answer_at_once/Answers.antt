@@ -3,7 +3,7 @@ use Rattle.std.proofs.lemmas.Simd.{map-map}
 use Rattle.vx_session.specs.Blocks.{AreCarriedOut, player_data}
 use Rattle.vx_session.specs.Sessions.{player_in}
 use Rattle.vx_session.proofs.Told.{pass_of, carried_out, have_answers, seats_by_passes}
-use Rattle.vx_session.proofs.together.answers_of.Goals as goal
+use Rattle.vx_session.proofs.together.answer_at_once.Goals as goal
 
 pub tell_all-requires-clause-answered : goal.tell_all-requires-clause-answered
 tell_all-requires-clause-answered g c =

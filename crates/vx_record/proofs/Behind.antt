@@ -5,14 +5,14 @@ use Rattle.std.proofs.lemmas.Bool.{cases_eq, eq-eqb, ne_eqb}
 use Rattle.std.proofs.lemmas.List.{append_cancel_left, get_or-take, length-take-le}
 use Rattle.std.proofs.lemmas.List.Elements.{All-contains, All-more}
 use Rattle.std.proofs.lemmas.List.Sums.{sum_by-cons, get_or-le-sum_by}
-use Rattle.vx_sector.specs.SectorData.{EntryData}
+use Rattle.vx_sector.specs.SectorData.{SectorData, EntryData}
 use Rattle.vx_record.specs.Chronicles.{TickData}
 use Rattle.vx_record.specs.Calls.{call_in}
-use Rattle.vx_record.specs.Said.{calls_of, window_at, closed_at, said_of}
-use Rattle.vx_record.specs.Settling.{CallerData, callers_at, IsEachOnce}
-use Rattle.vx_record.specs.Rests.{AreBehind, IsAstray, AreSaid, IsUnsaid, Tells, SomeTellsNot}
+use Rattle.vx_record.specs.Said.{calls_of, window_at, closed_at}
+use Rattle.vx_record.specs.Settling.{CallerData, callers_at, IsEachOnce, sector_in, open_entries, Agrees, SomeDiffers}
+use Rattle.vx_record.specs.Rests.{AreBehind, IsAstray, AreSaid, IsUnsaid}
 use Rattle.vx_record.specs.declared.call.Call.{Call}
-use Rattle.vx_record.proofs.Fronts.{calls_joined, closed_joined, goes_on, stops, stops_last}
+use Rattle.vx_record.proofs.Fronts.{calls_joined, closed_joined, goes_on, stops}
 
 -- an entry of another seat has no call of this one
 none_of : (seat : ℕ) (e : EntryData) → e.seat.number ≢ seat → calls_of seat (e ∷ []) ≡ []
@@ -72,45 +72,57 @@ astray_at seats calls rests k before tick after seat begun astray =
     (astray_more seats calls rests (closed_at k before) (window_at k tick) (closed_at k after) seat
     begun astray)
 
--- calls that don't begin with those in the closed windows are not what the record says
-pub unsaid_closed : (seats : ℕ) (calls : List (List Call)) (k : ℕ) (ticks : List TickData)
-    (window : List EntryData) (seat : ℕ) → IsAstray seats calls (closed_at k ticks) seat
-    → IsUnsaid seats calls k ticks window seat
-unsaid_closed seats calls k ticks window seat astray = record {
+-- so they are not those among the entries, whatever follows these
+pub unsaid_front : (seats : ℕ) (calls : List (List Call)) (front next : List EntryData) (seat : ℕ)
+    → IsAstray seats calls front seat → IsUnsaid seats calls (front ++ next) seat
+unsaid_front seats calls front next seat astray = record {
   below = astray.below;
   differs = λ same.
-      astray.differs (calls_of seat window) (same ∙ calls_joined seat (closed_at k ticks) window);
+      astray.differs (calls_of seat next) (same ∙ calls_joined seat front next);
 }
 
--- nor are those that don't go on with those in the open one
-pub unsaid_open : (seats : ℕ) (calls rests : List (List Call)) (k : ℕ) (ticks : List TickData)
-    (window : List EntryData) (seat : ℕ) → AreBehind seats calls (closed_at k ticks) rests
-    → IsAstray seats rests window seat → IsUnsaid seats calls k ticks window seat
-unsaid_open seats calls rests k ticks window seat begun astray = record {
+-- nor where nothing does
+pub unsaid_all : (seats : ℕ) (calls : List (List Call)) (entries : List EntryData) (seat : ℕ)
+    → IsAstray seats calls entries seat → IsUnsaid seats calls entries seat
+unsaid_all seats calls entries seat astray = record {
   below = astray.below;
-  differs =
-      stops_last seat (closed_at k ticks) window (get_or calls seat []) (get_or rests seat [])
-      (begun seat astray.below) astray.differs;
+  differs = λ same. astray.differs [] (same ∙ sym (append-nil (calls_of seat entries)));
 }
 
 -- what is left in the end tells whether they are
-pub told_by_rests : (seats : ℕ) (calls rests left : List (List Call)) (k : ℕ)
-    (ticks : List TickData) (window : List EntryData) (found : Option ℕ)
-    → AreBehind seats calls (closed_at k ticks) rests → AreBehind seats rests window left
+pub told_by_rests : (seats : ℕ) (calls left : List (List Call)) (entries : List EntryData)
+    (found : Option ℕ) → AreBehind seats calls entries left
     → MatchOption found ((seat : ℕ) → seat < seats → get_or left seat [] ≡ [])
     (λ seat. (seat < seats) × (get_or left seat [] ≢ []))
-    → MatchOption found (AreSaid seats calls k ticks window)
-    (λ seat. IsUnsaid seats calls k ticks window seat)
-told_by_rests seats calls rests left k ticks window None begun more none = λ seat below.
-    behind_more seats calls rests left (closed_at k ticks) window begun more seat below
-    ∙ ap (λ cs. said_of seat k ticks window ++ cs) (none seat below)
-    ∙ append-nil (said_of seat k ticks window)
-told_by_rests seats calls rests left k ticks window (Some seat) begun more some = record {
+    → MatchOption found (AreSaid seats calls entries) (λ seat. IsUnsaid seats calls entries seat)
+told_by_rests seats calls left entries None begun none = λ seat below.
+    begun seat below ∙ ap (λ cs. calls_of seat entries ++ cs) (none seat below)
+    ∙ append-nil (calls_of seat entries)
+told_by_rests seats calls left entries (Some seat) begun some = record {
   below = some.0;
   differs = λ same.
-      some.1 (append_cancel_left (said_of seat k ticks window) (get_or left seat []) []
-      (sym (behind_more seats calls rests left (closed_at k ticks) window begun more seat some.0)
-      ∙ same ∙ sym (append-nil (said_of seat k ticks window))));
+      some.1 (append_cancel_left (calls_of seat entries) (get_or left seat []) []
+      (sym (begun seat some.0) ∙ same ∙ sym (append-nil (calls_of seat entries))));
+}
+
+-- calls behind some entries that are those among others are those among all of them
+pub said_more : (seats : ℕ) (calls rests : List (List Call)) (front next : List EntryData)
+    → AreBehind seats calls front rests → AreSaid seats rests next
+    → AreSaid seats calls (front ++ next)
+said_more seats calls rests front next begun said = λ seat below.
+    begun seat below ∙ ap (λ cs. calls_of seat front ++ cs) (said seat below)
+    ∙ sym (calls_joined seat front next)
+
+-- and those that are not, are not
+pub unsaid_more : (seats : ℕ) (calls rests : List (List Call)) (front next : List EntryData)
+    (seat : ℕ) → AreBehind seats calls front rests → IsUnsaid seats rests next seat
+    → IsUnsaid seats calls (front ++ next) seat
+unsaid_more seats calls rests front next seat begun unsaid = record {
+  below = unsaid.below;
+  differs = λ same.
+      unsaid.differs (append_cancel_left (calls_of seat front) (get_or rests seat [])
+      (calls_of seat next)
+      (sym (begun seat unsaid.below) ∙ same ∙ calls_joined seat front next));
 }
 
 -- how much a caller counts for a seat
@@ -219,36 +231,31 @@ put_more cs table k i c within here one room so_far =
         get_or-set_other table c.seat (get_or (take i cs) j d).seat (get_or c.lists k []) [] apart
         ∙ so_far j d below
 
--- a table of the lists of all callers tells which of them are what the record says
-pub told_by_table : (seats : ℕ) (cs : List CallerData) (table : List (List Call)) (k : ℕ)
-    (ticks : List TickData) (window : List EntryData) (found : Option ℕ)
-    → IsEachOnce seats cs → All (IsPut table k) cs
-    → MatchOption found (AreSaid seats table k ticks window)
-    (λ seat. IsUnsaid seats table k ticks window seat)
-    → MatchOption found (All (Tells k ticks window) cs)
-    (λ seat. SomeTellsNot k ticks window cs seat)
-told_by_table seats cs table k ticks window None once put said = λ j d below.
+-- a table of the lists of all callers, whose calls are what the record says, tells that these are
+pub all_told : (seats : ℕ) (cs : List CallerData) (table : List (List Call)) (k : ℕ)
+    (ticks : List TickData) (places : List (Option SectorData)) → IsEachOnce seats cs
+    → All (IsPut table k) cs
+    → AreSaid seats table (closed_at k ticks ++ open_entries (sector_in places k))
+    → All (λ (c : CallerData). Agrees ticks places c k) cs
+all_told seats cs table k ticks places once put said = λ j d below.
     sym (put j d below) ∙ said (get_or cs j d).seat (once.only j d below)
-told_by_table seats cs table k ticks window (Some seat) once put unsaid =
+
+-- and one in which the calls of a seat are not, that its caller's are not
+pub one_told : (seats : ℕ) (cs : List CallerData) (table : List (List Call)) (k : ℕ)
+    (ticks : List TickData) (places : List (Option SectorData)) (seat : ℕ) → IsEachOnce seats cs
+    → All (IsPut table k) cs → k < length places
+    → IsUnsaid seats table (closed_at k ticks ++ open_entries (sector_in places k)) seat
+    → SomeDiffers ticks places cs seat k
+one_told seats cs table k ticks places seat once put within unsaid =
     let has = caller_of seat cs (once.once seat unsaid.below) in
     let among : Contains cs has.caller = (has.place, has.within, has.there) in
     record {
       caller = has.caller;
       among = among;
       seated = has.seated;
-      differs = λ tells.
-          unsaid.differs (subst (λ n. get_or table n [] ≡ said_of n k ticks window) has.seated
-          (All-contains (IsPut table k) cs has.caller put among ∙ tells));
+      there = within;
+      differs = λ agrees.
+          unsaid.differs (subst (λ n. get_or table n []
+          ≡ calls_of n (closed_at k ticks ++ open_entries (sector_in places k))) has.seated
+          (All-contains (IsPut table k) cs has.caller put among ∙ agrees));
     }
-
--- what is told of ticks is told of others in which the same entries of the sector are closed
-pub told_alike : (seats : ℕ) (table : List (List Call)) (k : ℕ) (ticks others : List TickData)
-    (window : List EntryData) (result : Option ℕ) → closed_at k ticks ≡ closed_at k others
-    → MatchOption result (AreSaid seats table k ticks window) (λ seat. IsUnsaid seats table k ticks window seat)
-    → MatchOption result (AreSaid seats table k others window) (λ seat. IsUnsaid seats table k others window seat)
-told_alike seats table k ticks others window None same said =
-    λ seat below. said seat below ∙ ap (λ es. calls_of seat (es ++ window)) same
-told_alike seats table k ticks others window (Some seat) same is = record {
-  below = is.below;
-  differs = λ equal. is.differs (equal ∙ ap (λ es. calls_of seat (es ++ window)) (sym same));
-}

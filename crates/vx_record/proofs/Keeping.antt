@@ -1,5 +1,5 @@
 -- Windows of which those with entries are kept.
-use Rattle.std.proofs.Common.{◌≡◌, ◌≢◌, ℕ, zero, suc, ◌+◌, ◌<◌, true, false, List, [], ◌∷◌, ◌++◌, Vec, Global, length, map, get_or, set, replicate, take, cond, zero-add, refl, inl, inr, sym, ap, subst, ◌∙◌, arith}
+use Rattle.std.proofs.Common.{◌≡◌, ◌≢◌, ℕ, zero, suc, ◌+◌, ◌<◌, ◌≤◌, true, false, List, [], ◌∷◌, ◌++◌, Vec, Global, length, map, get_or, set, replicate, take, drop, cond, zero-add, refl, inl, inr, sym, ap, subst, ◌∙◌, arith}
 use Rattle.std.specs.List.{All, count_by, enumerate_from, filter}
 use Rattle.std.specs.List.Sorted.{IsNonDecreasingBy, IsPartitionPoint}
 use Rattle.std.proofs.Math.Dec.{ltb}
@@ -81,6 +81,54 @@ not_kept sectors kept at i order parted other k d within = elim (cases_lt k i) [
       let after = never_fall sectors kept order i k d late within in
       omega (arith, other d there)
 ]
+
+-- those from a number on are in order
+pub order_from : (sectors : ℕ) (kept : List KeptWindow) (i : ℕ) → AreInOrder sectors kept
+    → AreInOrder sectors (drop i kept)
+order_from sectors kept zero order = order
+order_from sectors [] (suc i) order = order
+order_from sectors (first ∷ kept) (suc i) order =
+    order_from sectors kept i (order_after sectors first kept order)
+
+-- of each sector that none of the first is of, they have the window
+pub kept_behind : (sectors : ℕ) (kept : List KeptWindow) (i at : ℕ)
+    → ((j : ℕ) (d : KeptWindow) → j < i → j < length kept → (get_or kept j d).sector ≢ at)
+    → get_or (windows_kept sectors kept) at [] ≡ get_or (windows_kept sectors (drop i kept)) at []
+kept_behind sectors kept zero at others = refl
+kept_behind sectors [] (suc i) at others = refl
+kept_behind sectors (window ∷ kept) (suc i) at others =
+    get_or-set_other (windows_kept sectors kept) window.sector at (entries_in window.entries) []
+    (λ same. others 0 window (omega arith) (omega arith) (sym same))
+    ∙ kept_behind sectors kept i at
+    (λ j d before within. others (suc j) d (omega (arith, before)) (omega (arith, within)))
+
+-- what is put in one place of windows that are alike there or elsewhere leaves them so
+set_alike : (xs ys : List (List EntryData)) (k at : ℕ) (entries : List EntryData)
+    → length xs ≡ length ys → get_or xs at [] ≡ get_or ys at []
+    → get_or (set xs k entries) at [] ≡ get_or (set ys k entries) at []
+set_alike [] [] k at entries long same = refl
+set_alike [] (y ∷ ys) k at entries long same = absurd (omega (arith, long))
+set_alike (x ∷ xs) [] k at entries long same = absurd (omega (arith, long))
+set_alike (x ∷ xs) (y ∷ ys) zero zero entries long same = refl
+set_alike (x ∷ xs) (y ∷ ys) zero (suc at) entries long same = same
+set_alike (x ∷ xs) (y ∷ ys) (suc k) zero entries long same = same
+set_alike (x ∷ xs) (y ∷ ys) (suc k) (suc at) entries long same =
+    set_alike xs ys k at entries (omega (arith, long)) same
+
+-- of each sector that none is of from a number on, those before have the window
+pub kept_before : (sectors : ℕ) (kept : List KeptWindow) (i at : ℕ)
+    → ((j : ℕ) (d : KeptWindow) → i ≤ j → j < length kept → (get_or kept j d).sector ≢ at)
+    → get_or (windows_kept sectors kept) at [] ≡ get_or (windows_kept sectors (take i kept)) at []
+kept_before sectors kept zero at others =
+    empty_at sectors kept at (λ j d within. others j d (omega arith) within)
+    ∙ sym (none_at sectors at)
+kept_before sectors [] (suc i) at others = refl
+kept_before sectors (window ∷ kept) (suc i) at others =
+    set_alike (windows_kept sectors kept) (windows_kept sectors (take i kept)) window.sector at
+    (entries_in window.entries)
+    (as_many sectors kept ∙ sym (as_many sectors (take i kept)))
+    (kept_before sectors kept i at
+    (λ j d after within. others (suc j) d (omega (arith, after)) (omega (arith, within))))
 
 -- a window with entries is busy
 pub busy_one : (entries : List Entry) → length entries ≢ 0 → is_busy (map entry_of entries) ≡ true

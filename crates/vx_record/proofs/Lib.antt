@@ -11,3 +11,4 @@ pub mod Owning
 pub mod Recording
 pub mod Showing
 pub mod Stepped
+pub mod Tables

@@ -1,11 +1,13 @@
 -- What is left of the calls of each seat behind entries of the record.
-use Rattle.std.specs.Prelude.{◌≡◌, ◌≢◌, ℕ, ◌<◌, List, [], ◌++◌, slice_index_or}
-use Rattle.std.specs.List.{Contains}
+use Rattle.std.specs.Prelude.{◌≡◌, ◌≢◌, ℕ, ◌+◌, ◌<◌, List, [], ◌++◌, length, map, slice_index_or}
 use Rattle.vx_sector.specs.SectorData.{EntryData}
-use Rattle.vx_record.specs.Chronicles.{TickData}
-use Rattle.vx_record.specs.Said.{calls_of, said_of}
-use Rattle.vx_record.specs.Settling.{CallerData}
+use Rattle.vx_record.specs.Said.{calls_of}
 use Rattle.vx_record.specs.declared.call.Call.{Call}
+use Rattle.vx_record.specs.declared.call_table.CallTable.{CallTable}
+
+-- the calls in a table
+abbrev pub calls_in : CallTable → List (List Call)
+calls_in table = map (λ calls. calls.now) table.calls
 
 -- the calls of each of so many seats are those among the entries, and then those that are left
 abbrev pub AreBehind : ℕ → List (List Call) → List EntryData → List (List Call) → Type 0
@@ -19,28 +21,38 @@ pub record IsAstray (seats : ℕ) (calls : List (List Call)) (entries : List Ent
   pub differs : (more : List Call)
       → slice_index_or calls seat [] ≢ calls_of seat entries ++ more
 
--- the calls of each of so many seats are what the record says of it in sector k, where the open
--- window has these entries
-abbrev pub AreSaid : ℕ → List (List Call) → ℕ → List TickData → List EntryData → Type 0
-AreSaid seats calls k ticks window = (seat : ℕ) → seat < seats
-    → slice_index_or calls seat [] ≡ said_of seat k ticks window
+-- of each sector from that number on which has a table, the calls of the seats are those among its
+-- entries, and then those that are left
+abbrev pub AreAllBehind : ℕ → ℕ → List (List (List Call)) → (ℕ → List EntryData)
+    → List (List (List Call)) → Type 0
+AreAllBehind seats first tables entries rests = (at : ℕ) → at < length tables
+    → AreBehind seats (slice_index_or tables at []) (entries (first + at)) (slice_index_or rests at [])
+
+-- in the table of that place, the calls of a seat don't begin with those among its sector's entries
+pub record IsAstrayAt (seats first : ℕ) (tables : List (List (List Call)))
+    (entries : ℕ → List EntryData) (seat at : ℕ) : Type 0 where
+  pub there : at < length tables
+  pub astray : IsAstray seats (slice_index_or tables at []) (entries (first + at)) seat
+
+-- the calls of each of so many seats are those among the entries
+abbrev pub AreSaid : ℕ → List (List Call) → List EntryData → Type 0
+AreSaid seats calls entries =
+    (seat : ℕ) → seat < seats → slice_index_or calls seat [] ≡ calls_of seat entries
 
 -- the calls of one of so many seats are not
-pub record IsUnsaid (seats : ℕ) (calls : List (List Call)) (k : ℕ) (ticks : List TickData)
-    (window : List EntryData) (seat : ℕ) : Type 0 where
+pub record IsUnsaid (seats : ℕ) (calls : List (List Call)) (entries : List EntryData) (seat : ℕ)
+    : Type 0 where
   pub below : seat < seats
-  pub differs : slice_index_or calls seat [] ≢ said_of seat k ticks window
+  pub differs : slice_index_or calls seat [] ≢ calls_of seat entries
 
--- the caller's list for sector k is what the record says of its seat there, where the open window
--- has these entries
-abbrev pub Tells : ℕ → List TickData → List EntryData → CallerData → Type 0
-Tells k ticks window caller =
-    slice_index_or caller.lists k [] ≡ said_of caller.seat k ticks window
+-- of each sector from that number on which has a table, the calls of the seats are those among its
+-- entries
+abbrev pub AreAllSaid : ℕ → ℕ → List (List (List Call)) → (ℕ → List EntryData) → Type 0
+AreAllSaid seats first tables entries = (at : ℕ) → at < length tables
+    → AreSaid seats (slice_index_or tables at []) (entries (first + at))
 
--- the list for sector k of some caller with that seat is not
-pub record SomeTellsNot (k : ℕ) (ticks : List TickData) (window : List EntryData)
-    (callers : List CallerData) (seat : ℕ) : Type 0 where
-  pub caller : CallerData
-  pub among : Contains callers caller
-  pub seated : caller.seat ≡ seat
-  pub differs : ¬ Tells k ticks window caller
+-- in the table of that place, the calls of a seat are not those among its sector's entries
+pub record IsUnsaidAt (seats first : ℕ) (tables : List (List (List Call)))
+    (entries : ℕ → List EntryData) (seat at : ℕ) : Type 0 where
+  pub there : at < length tables
+  pub unsaid : IsUnsaid seats (slice_index_or tables at []) (entries (first + at)) seat

@@ -1,10 +1,10 @@
 ghost use Rattle.std.specs.List.{All};
-ghost use Rattle.std.specs.Prelude.{◌≡◌, ◌≤◌, true, map, length, replicate, slice_index_or, vec_capacity, []};
+ghost use Rattle.std.specs.Prelude.{◌≡◌, ℕ, ◌≤◌, true, map, length, replicate, slice_index_or, vec_capacity, []};
 ghost use Rattle.vx_sector.specs.SectorData.{entry_of};
 ghost use Rattle.vx_sector.specs.Windows.{most_entries};
 ghost use Rattle.vx_windows.specs.Sectors.{entries_in};
 ghost use Rattle.vx_record.specs.Archives.{next_counts};
-ghost use Rattle.vx_record.specs.Kept.{busy_count};
+ghost use Rattle.vx_record.specs.Kept.{busy_count, windows_kept, AreInOrder};
 
 use crate::kept_window::KeptWindow;
 use std::alloc::Global;
@@ -86,6 +86,18 @@ impl ClosedWindows {
             Some(window) if window.sector == at => &window.entries,
             _ => &[],
         }
+    }
+
+    /// The windows that are kept from that sector on, in order of their sectors; no other from there
+    /// on has entries.
+    pub(crate) fn kept_from(&self, first: usize) -> &[KeptWindow]
+        ensures order { AreInOrder (length self.now) result.now }
+        ensures from { All (λ window. first ≤ window.sector) result.now }
+        ensures windows { (k : ℕ) → first ≤ k → slice_index_or self.now k []
+            ≡ slice_index_or (windows_kept (length self.now) result.now) k [] }
+    {
+        let before = self.kept.partition_point(|window| window.sector < first);
+        &self.kept[before..]
     }
 
     /// Puts the entries of each window in the place of its number, where as many places are empty.

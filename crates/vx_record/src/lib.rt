@@ -5,6 +5,7 @@
 mod archive;
 mod busy;
 mod call;
+mod call_table;
 mod caller;
 mod chronicle;
 mod closed_windows;

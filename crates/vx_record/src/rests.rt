@@ -1,57 +1,90 @@
-//! What is left of the calls of each seat behind entries of the record. The calls are in a table by
-//! the numbers of the seats, so that one walk over the entries serves all.
+//! What is left of the calls of each seat behind entries of the record. The calls in a sector are in
+//! a table by the numbers of the seats, so that one walk over its entries serves all seats, and one
+//! over the ticks serves as many sectors as have tables.
 ghost use Rattle.std.specs.Prelude.{◌≡◌, ◌≢◌, ℕ, ◌<◌, ◌≤◌, [], ◌∷◌, true, false, length, map, slice_index_or, MatchOption};
 ghost use Rattle.vx_sector.specs.SectorData.{entry_of};
+ghost use Rattle.vx_windows.specs.declared.limits.TheConstants.{MAX_PLAYERS};
 ghost use Rattle.vx_record.specs.Records.{tick_in};
-ghost use Rattle.vx_record.specs.Said.{closed_at};
-ghost use Rattle.vx_record.specs.Rests.{AreBehind, IsAstray, AreSaid, IsUnsaid};
+ghost use Rattle.vx_record.specs.Said.{window_at, closed_at};
+ghost use Rattle.vx_record.specs.Rests.{calls_in, AreBehind, IsAstray, AreAllBehind, IsAstrayAt, AreSaid, IsUnsaid};
 
 use crate::call::Call;
-use crate::saying::{rest_after_one, window_of};
+use crate::call_table::CallTable;
+use crate::saying::rest_after_one;
 use crate::tick::Tick;
 use vx_sector::Entry;
 
-// One of so many seats whose calls are not what the record says of it in a sector: those in its
-// windows that the ticks closed, and then those in the open window. The calls are taken on the way.
-pub(crate) fn unsaid(
-    rests: &mut [&[Call]],
+// Takes the calls in the windows that the ticks closed, of the sectors from `first` on that have
+// tables. Where a seat's calls in a sector don't begin with those: the seat, and the place of the
+// table.
+pub(crate) fn take_closed(
+    tables: &mut [CallTable],
     seats: u8,
-    at: usize,
+    first: usize,
     ticks: &[Tick],
-    window: &[Entry],
-) -> Option<u8>
-    requires { seats ≤ length rests.old }
+) -> Option<(u8, usize)>
+    requires { seats ≤ MAX_PLAYERS }
     ensures { MatchOption result
-        (AreSaid seats (map (λ rest. rest.now) rests.old) at (map tick_in ticks.now)
-        (map entry_of window.now))
-        (λ seat. IsUnsaid seats (map (λ rest. rest.now) rests.old) at (map tick_in ticks.now)
-        (map entry_of window.now) seat) }
-{
-    if let Some(seat) = take_closed(rests, seats, at, ticks) {
-        return Some(seat);
-    }
-    if let Some(seat) = take_all(rests, seats, window) {
-        return Some(seat);
-    }
-    first_left(rests, seats)
-}
-
-// Takes the calls in a sector's windows that the ticks closed; a seat whose calls don't begin with
-// those, if there is one.
-fn take_closed(rests: &mut [&[Call]], seats: u8, at: usize, ticks: &[Tick]) -> Option<u8>
-    requires { seats ≤ length rests.old }
-    ensures { MatchOption result
-        (AreBehind seats (map (λ rest. rest.now) rests.old)
-        (closed_at at (map tick_in ticks.now)) (map (λ rest. rest.now) rests.new))
-        (λ seat. IsAstray seats (map (λ rest. rest.now) rests.old)
-        (closed_at at (map tick_in ticks.now)) seat) }
+        (AreAllBehind seats first (map calls_in tables.old)
+        (λ k. closed_at k (map tick_in ticks.now))
+        (map calls_in tables.new))
+        (λ d. IsAstrayAt seats first (map calls_in tables.old)
+        (λ k. closed_at k (map tick_in ticks.now)) d.0 d.1) }
 {
     for tick in ticks {
-        if let Some(seat) = take_all(rests, seats, window_of(tick, at)) {
-            return Some(seat);
+        if let Some(found) = take_tick(tables, seats, first, tick) {
+            return Some(found);
         }
     }
     None
+}
+
+// Takes the calls in a tick's windows. It goes to those alone that have entries.
+fn take_tick(tables: &mut [CallTable], seats: u8, first: usize, tick: &Tick) -> Option<(u8, usize)>
+    requires { seats ≤ MAX_PLAYERS }
+    ensures { MatchOption result
+        (AreAllBehind seats first (map calls_in tables.old)
+        (λ k. window_at k (tick_in tick.now))
+        (map calls_in tables.new))
+        (λ d. IsAstrayAt seats first (map calls_in tables.old)
+        (λ k. window_at k (tick_in tick.now)) d.0 d.1) }
+{
+    for window in tick.windows.kept_from(first) {
+        let at = window.sector - first;
+        // No later window is of an earlier sector.
+        if tables.len() <= at {
+            return None;
+        }
+        if let Some(seat) = take_from(&mut tables[at], seats, &window.entries) {
+            return Some((seat, at));
+        }
+    }
+    None
+}
+
+// One of so many seats whose calls in a table are not those among the entries. The calls are taken
+// on the way.
+pub(crate) fn unsaid(table: &mut CallTable, seats: u8, entries: &[Entry]) -> Option<u8>
+    requires { seats ≤ MAX_PLAYERS }
+    ensures { MatchOption result (AreSaid seats (calls_in table.old) (map entry_of entries.now))
+        (λ seat. IsUnsaid seats (calls_in table.old) (map entry_of entries.now) seat) }
+{
+    if let Some(seat) = take_from(table, seats, entries) {
+        return Some(seat);
+    }
+    first_left(&table.calls, seats)
+}
+
+// Takes the calls in the entries from a table; a seat whose calls don't begin with those, if there
+// is one.
+#[inline(always)]
+fn take_from(table: &mut CallTable, seats: u8, entries: &[Entry]) -> Option<u8>
+    requires { seats ≤ MAX_PLAYERS }
+    ensures { MatchOption result
+        (AreBehind seats (calls_in table.old) (map entry_of entries.now) (calls_in table.new))
+        (λ seat. IsAstray seats (calls_in table.old) (map entry_of entries.now) seat) }
+{
+    take_all(&mut table.calls, seats, entries)
 }
 
 // Takes the calls in the entries; a seat whose calls don't begin with those, if there is one.

@@ -31,7 +31,7 @@ pub fn says(calls: &[Call], seat: u8, at: usize, ticks: &[Tick], window: &[Entry
 
 // The entries of a sector in a tick's windows.
 #[inline(always)]
-pub(crate) fn window_of(tick: &Tick, at: usize) -> &[Entry]
+fn window_of(tick: &Tick, at: usize) -> &[Entry]
     ensures { map entry_of result.now ≡ window_at at (tick_in tick.now) }
 {
     tick.windows.window(at)

@@ -1,23 +1,28 @@
 //! Whether the passes of a world, its sectors and its keeper agree in the end.
 ghost use Rattle.std.specs.Bool.{Decides};
 ghost use Rattle.std.specs.List.{All};
-ghost use Rattle.std.specs.Prelude.{◌≡◌, ℕ, ◌<◌, ◌≤◌, ◌^◌, [], length, map, slice_index_or, MatchOption};
-ghost use Rattle.vx_record.specs.Settling.{IsEachOnce, callers_at, AreKnown, IsTorn, open_entries, AllAgree, SomeDiffers, IsFound};
+ghost use Rattle.std.specs.Prelude.{◌≡◌, ℕ, ◌+◌, ◌<◌, ◌≤◌, ◌^◌, [], true, length, map, slice_index_or, MatchOption};
+ghost use Rattle.vx_record.specs.Settling.{IsEachOnce, callers_at, AreKnown, IsTorn, sector_in, open_entries, Agrees, AllAgree, SomeDiffers, IsFound};
 ghost use Rattle.vx_record.specs.Records.{tick_in};
-ghost use Rattle.vx_record.specs.Rests.{Tells, SomeTellsNot};
+ghost use Rattle.vx_record.specs.Rests.{calls_in, AreAllSaid, IsUnsaidAt};
 ghost use Rattle.vx_record.specs.Said.{closed_at};
 ghost use Rattle.vx_sector.specs.SectorData.{entry_of};
 ghost use Rattle.vx_windows.specs.declared.limits.TheConstants.{MAX_PLAYERS};
 
 use crate::archive::Archive;
 use crate::call::Call;
+use crate::call_table::CallTable;
 use crate::caller::Caller;
 use crate::fault::Fault;
 use crate::place::Place;
-use crate::rests::unsaid;
+use crate::rests::{take_closed, unsaid};
 use crate::tick::Tick;
 use vx_sector::Entry;
 use vx_windows::MAX_PLAYERS;
+
+// How many sectors one walk over the ticks serves: ticks in which nothing happens then cost each of
+// them little, and their tables, 64 KiB, still fit on the stack.
+const SECTORS_A_WALK: usize = 64;
 
 /// Why a world is not settled, if it is not: a pass is missing, or else a sector differs from what
 /// its keeper has of it, or else a list differs from what the record says. It takes no memory.
@@ -103,8 +108,8 @@ fn first_torn<S: Place>(places: &[S], keeper: &S::Keeper) -> Option<u32>
     None
 }
 
-// A seat and a sector of which a list differs from what the record says. It goes over the entries
-// of each sector once, however many seats there are.
+// A seat and a sector of which a list differs from what the record says. It goes over the ticks once
+// for many sectors, and over the entries of each sector once, however many seats there are.
 fn first_difference<P: Caller, S: Place>(
     callers: &[P],
     seats: u8,
@@ -121,50 +126,119 @@ fn first_difference<P: Caller, S: Place>(
         (λ d. SomeDiffers archive.now.chronicle.ticks (map S.sector places.now)
         (map P.caller callers.now) d.0 d.1) }
 {
-    for (at, place) in places.iter().enumerate() {
-        if let Some(seat) = differing_seat(callers, seats, at, place, archive) {
+    let none = CallTable {
+        calls: [&[]; MAX_PLAYERS],
+    };
+    let mut room = [none; SECTORS_A_WALK];
+    let mut first = 0;
+    while first < places.len() {
+        let count = SECTORS_A_WALK.min(places.len() - first);
+        let tables = &mut room[..count];
+        if let Some((seat, at)) = differing_among(tables, callers, seats, first, places, archive) {
             return Some((seat, at as u32));
+        }
+        first += count;
+    }
+    None
+}
+
+// A seat and a sector of which a list differs from what the record says, of as many sectors from
+// `first` on as there are tables. It puts their calls into these, and takes them from there.
+fn differing_among<'a, P: Caller, S: Place>(
+    tables: &mut [CallTable<'a>],
+    callers: &'a [P],
+    seats: u8,
+    first: usize,
+    places: &[S],
+    archive: &Archive,
+) -> Option<(u8, usize)>
+    requires seats { seats ≤ MAX_PLAYERS }
+    requires once { IsEachOnce seats (map P.caller callers.now) }
+    requires lists { All (λ p. length (P.caller p).lists ≡ length places.now) callers.now }
+    requires few { length places.now < 2 ^ 32 }
+    requires within { first + length tables.old ≤ length places.now }
+    ensures { MatchOption result
+        ((k : ℕ) → first ≤ k → k < first + length tables.old
+        → All (λ c. Agrees archive.now.chronicle.ticks (map S.sector places.now) c k)
+        (map P.caller callers.now))
+        (λ d. SomeDiffers archive.now.chronicle.ticks (map S.sector places.now)
+        (map P.caller callers.now) d.0 d.1) }
+{
+    put_calls(tables, callers, seats, first);
+    let ticks = ticks_with(archive, first, first + tables.len());
+    if let Some((seat, at)) = take_closed(tables, seats, first, ticks) {
+        return Some((seat, first + at));
+    }
+    if let Some((seat, at)) = first_unsaid(tables, seats, first, places) {
+        return Some((seat, first + at));
+    }
+    None
+}
+
+// Puts the calls in the sectors from `first` on into their tables, by the seats of their callers.
+fn put_calls<'a, P: Caller>(tables: &mut [CallTable<'a>], callers: &'a [P], seats: u8, first: usize)
+    requires seats { seats ≤ MAX_PLAYERS }
+    requires once { IsEachOnce seats (map P.caller callers.now) }
+    requires lists { All (λ p. first + length tables.old ≤ length (P.caller p).lists) callers.now }
+    requires few { first + length tables.old < 2 ^ 32 }
+    ensures { (at : ℕ) → at < length tables.old → All (λ c. slice_index_or
+        (slice_index_or (map calls_in tables.new) at []) c.seat []
+        ≡ slice_index_or c.lists (first + at) []) (map P.caller callers.now) }
+{
+    for at in 0..tables.len() {
+        tables[at] = CallTable {
+            calls: calls_at(callers, seats, first + at),
+        };
+    }
+}
+
+// Where the calls of a seat, in a sector from `first` on that has a table, are not those in its open
+// window: the seat, and the place of the table. The calls are taken on the way.
+fn first_unsaid<S: Place>(
+    tables: &mut [CallTable],
+    seats: u8,
+    first: usize,
+    places: &[S],
+) -> Option<(u8, usize)>
+    requires seats { seats ≤ MAX_PLAYERS }
+    requires within { first + length tables.old ≤ length places.now }
+    ensures { MatchOption result
+        (AreAllSaid seats first (map calls_in tables.old)
+        (λ k. open_entries (sector_in (map S.sector places.now) k)))
+        (λ d. IsUnsaidAt seats first (map calls_in tables.old)
+        (λ k. open_entries (sector_in (map S.sector places.now) k)) d.0 d.1) }
+{
+    for at in 0..tables.len() {
+        if let Some(seat) = unsaid(&mut tables[at], seats, window_in(&places[first + at])) {
+            return Some((seat, at));
         }
     }
     None
 }
 
-// A seat of which the list for a sector differs from what the record says.
-fn differing_seat<P: Caller, S: Place>(
-    callers: &[P],
-    seats: u8,
-    at: usize,
-    place: &S,
-    archive: &Archive,
-) -> Option<u8>
-    requires seats { seats ≤ MAX_PLAYERS }
-    requires once { IsEachOnce seats (map P.caller callers.now) }
-    requires lists { All (λ p. at < length (P.caller p).lists) callers.now }
-    ensures { MatchOption result
-        (All (Tells at archive.now.chronicle.ticks (open_entries (S.sector place.now)))
-        (map P.caller callers.now))
-        (λ seat. SomeTellsNot at archive.now.chronicle.ticks (open_entries (S.sector place.now))
-        (map P.caller callers.now) seat) }
+// The ticks, where entries of any sector from `first` on, before `end`, are closed in them; else
+// none, so that no tick is looked at for sectors in which nothing was recorded.
+fn ticks_with(archive: &Archive, first: usize, end: usize) -> &[Tick]
+    ensures { (k : ℕ) → first ≤ k → k < end
+        → closed_at k (map tick_in result.now) ≡ closed_at k archive.now.chronicle.ticks }
 {
-    let mut rests = calls_at(callers, seats, at);
-    unsaid(
-        &mut rests,
-        seats,
-        at,
-        ticks_with(archive, at),
-        window_in(place),
-    )
-}
-
-// The ticks, where entries of the sector of that number are closed in them; else none, so that no
-// tick is looked at for a sector in which nothing was recorded.
-fn ticks_with(archive: &Archive, at: usize) -> &[Tick]
-    ensures { closed_at at (map tick_in result.now) ≡ closed_at at archive.now.chronicle.ticks }
-{
-    if at < archive.counts().len() && archive.count(at) == 0 {
+    if is_untouched(archive, first, end) {
         return &[];
     }
     archive.ticks()
+}
+
+// Whether it is known that no entry of the sectors from `first` on, before `end`, is closed.
+fn is_untouched(archive: &Archive, first: usize, end: usize) -> bool
+    ensures { result ≡ true → (k : ℕ) → first ≤ k → k < end
+        → closed_at k archive.now.chronicle.ticks ≡ [] }
+{
+    for at in first..end {
+        if archive.counts().len() <= at || archive.count(at) != 0 {
+            return false;
+        }
+    }
+    true
 }
 
 // The entries of a sector's open window; none where no sector is there.

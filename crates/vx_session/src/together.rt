@@ -106,9 +106,9 @@ fn answer_each<A: Places, B: Seats>(
         (map player_in players.old) (map player_in players.new)) }
 {
     for request in requests {
-        let player = &mut players[usize::from(request.seat)];
+        let caller = &mut players[usize::from(request.seat)];
         let sector = sector_at(bounds, request.cmd.place());
-        let answer = called(bounds, world, rt, &mut player.pass, sector, &request.cmd)?;
+        let answer = called(bounds, world, rt, &mut caller.pass, sector, &request.cmd)?;
         answers.push_reserved(answer);
     }
     Ok(())

@@ -1,12 +1,11 @@
 -- Sectors in which something was recorded, among those that rest.
-use Rattle.std.proofs.Common.{◌≡◌, ℕ, zero, suc, ◌+◌, ◌<◌, ◌≤◌, Bool, true, false, cond, List, [], ◌∷◌, length, map, set, get_or, slice_get, replicate, Option, Some, None, unwrap_or, refl, sym, ap, ◌∙◌, subst, inl, inr, arith}
+use Rattle.std.proofs.Common.{◌≡◌, ℕ, zero, suc, ◌<◌, List, [], ◌∷◌, length, map, set, get_or, slice_get, replicate, Option, Some, None, unwrap_or, refl, sym, ap, ◌∙◌, subst, inl, inr, arith}
 use Rattle.std.specs.List.{All, AllByRecursion}
 use Rattle.std.proofs.Math.Seq.{map-set}
 use Rattle.std.proofs.lemmas.Bool.{cases_eq}
 use Rattle.std.proofs.lemmas.Grind.{get_or-set_at}
 use Rattle.std.proofs.lemmas.List.{get_or-set_other, length-map, length-set}
 use Rattle.std.proofs.lemmas.List.Elements.{All-from_recursion, All-head, All-set, All-tail}
-use Rattle.std.proofs.lemmas.List.Sums.{sum_by-cons}
 use Rattle.std.proofs.lemmas.Option.{slice_get-get_or}
 use Rattle.vx_cells.specs.Maps.{AreFrom, MapData}
 use Rattle.vx_cells.specs.SectorCells.{SectorCells, only_air}
@@ -14,12 +13,11 @@ use Rattle.vx_cells.proofs.MapLemmas.{placed_at}
 use Rattle.vx_geom.specs.declared.pos.Pos.{Pos}
 use Rattle.vx_region.specs.Regions.{Regions}
 use Rattle.vx_policy.specs.declared.version.Version.{Version}
-use Rattle.vx_sector.specs.SectorData.{EntryData, FreshData, SectorData}
+use Rattle.vx_sector.specs.SectorData.{FreshData, SectorData}
 use Rattle.vx_sector.specs.Windows.{IsSector, count_of, renewed}
 use Rattle.vx_sector.proofs.Places.{after_bounds, after_sector}
 use Rattle.vx_windows.specs.Sectors.{AreOf, IsOf, cells_of, entries_of, renewed_each, with_changes}
 use Rattle.vx_windows.specs.Writing.{IsSpared}
-use Rattle.vx_record.specs.Kept.{busy_count, is_busy}
 use Rattle.vx_record.specs.Settling.{AreKnown, IsKnown, KnownData}
 use Rattle.vx_keeper.specs.Busy.{AreBusyOf, AreNextOf, resting_but, with_each}
 use Rattle.vx_keeper.specs.Keepers.{IsKeeper, KeeperData, all_at_rest, known, map_by, map_now, resting}
@@ -98,42 +96,6 @@ changed_each cs ys (s ∷ busy) many =
     changed_each cs (set ys s.base.sector (Some s.cells)) busy (length-set ys s.base.sector (Some s.cells) ∙ many)
     ∙ ap (λ ds. with_each cells_of ds busy) (changed_set cs ys s.base.sector s.cells many)
 
--- one window in the place of another makes at most one more with entries
-busy_set : (ws : List (List EntryData)) (n : ℕ) (w : List EntryData) → busy_count (set ws n w) ≤ busy_count ws + 1
-busy_set [] n w = omega arith
-busy_set (v ∷ ws) zero w =
-    omega (
-      arith,
-      sum_by-cons (λ window. cond (is_busy window) 1 0) w ws,
-      sum_by-cons (λ window. cond (is_busy window) 1 0) v ws,
-      at_most (is_busy w),
-    )
-  where
-    at_most : (b : Bool) → cond b 1 0 ≤ 1
-    at_most true = omega arith
-    at_most false = omega arith
-busy_set (v ∷ ws) (suc n) w =
-    omega (
-      arith,
-      sum_by-cons (λ window. cond (is_busy window) 1 0) v (set ws n w),
-      sum_by-cons (λ window. cond (is_busy window) 1 0) v ws,
-      busy_set ws n w,
-    )
-
-busy_each : (ws : List (List EntryData)) (busy : List SectorData)
-    → busy_count (with_each entries_of ws busy) ≤ busy_count ws + length busy
-busy_each ws [] = omega arith
-busy_each ws (s ∷ busy) = omega (arith, busy_each (set ws s.base.sector s.entries) busy, busy_set ws s.base.sector s.entries)
-
-none_busy : (n : ℕ) → busy_count (replicate n []) ≡ 0
-none_busy zero = refl
-none_busy (suc n) =
-    omega (arith, sum_by-cons (λ window. cond (is_busy window) 1 0) [] (replicate n []), none_busy n)
-
--- as many have entries as were recorded in, at most
-pub busy_few : (n : ℕ) (busy : List SectorData) → busy_count (with_each entries_of (replicate n []) busy) ≤ length busy
-busy_few n busy = omega (arith, busy_each (replicate n []) busy, none_busy n)
-
 -- those of a keeper
 module _ (first : Regions) (all : ℕ) (k : KeeperData) (keeper : IsKeeper first all k) (busy : List SectorData)
     (are : AreBusyOf k busy) where
@@ -144,7 +106,7 @@ module _ (first : Regions) (all : ℕ) (k : KeeperData) (keeper : IsKeeper first
   but_known =
       known_each (known k) (resting k) busy
       (subst (λ n. All (λ (s : SectorData). (s.base.sector < n) × IsKnown (Some s) (known k s.base.sector)) busy)
-      (keeper.all ∙ sym (rest_each first all k keeper)) are)
+      (keeper.all ∙ sym (rest_each first all k keeper)) are.0)
       (rest_known first all k keeper)
 
   pub but_held : AreAsKnown k.world.version k.chronicle.opening.names k.world.map.sectors k.counts (resting_but k busy)
@@ -155,7 +117,7 @@ module _ (first : Regions) (all : ℕ) (k : KeeperData) (keeper : IsKeeper first
 
   -- they lie where the sectors of the world do
   pub but_there : All (λ (s : SectorData). s.base.sector < length k.world.map.sectors) busy
-  but_there n s within = omega (arith, (are n s within).0, keeper.all, keeper.each)
+  but_there n s within = omega (arith, (are.0 n s within).0, keeper.all, keeper.each)
 
 -- the map after their windows
 pub but_map : (first : Regions) (all : ℕ) (k : KeeperData) → IsKeeper first all k → (busy : List SectorData)
@@ -215,7 +177,8 @@ module _ (first : Regions) (all : ℕ) (k : KeeperData) (keeper : IsKeeper first
       let number : s.cells.sector ≡ n = ap (λ (d : SectorCells). d.sector) is.cells ∙ after_sector s.base s.entries in
       (here.0 ∙ sizes ∙ sym bounds, omega (arith, here.1, number))
 
-  pub all_of : (busy : List SectorData) (fs : List FreshData) → All IsSector busy → AreBusyOf k busy
+  pub all_of : (busy : List SectorData) (fs : List FreshData) → All IsSector busy
+      → All (λ (s : SectorData). (s.base.sector < length k.counts) × IsKnown (Some s) (known k s.base.sector)) busy
       → AreNextOf m.sectors v busy fs → AreOf busy fs
   all_of [] [] is are given = tt
   all_of [] (f ∷ fs) is are given = absurd given

@@ -1,6 +1,6 @@
 -- What is made before the windows of sectors are closed.
 use Rattle.std.specs.List.{All}
-use Rattle.std.specs.Prelude.{◌≡◌, ℕ, ◌<◌, ◌≤◌, Bool, true, false, List, [], length, map, replicate, slice_get, slice_index_or, vec_capacity, Option, None, Some}
+use Rattle.std.specs.Prelude.{◌≡◌, ℕ, ◌<◌, ◌≤◌, Bool, true, false, List, [], length, map, slice_get, slice_index_or, vec_capacity, Option, None, Some}
 use Rattle.vx_cells.specs.SectorCells.{SectorCells}
 use Rattle.vx_cells.specs.Maps.{AreSectors, MapData}
 use Rattle.vx_cells.specs.Wholes.{with_cells_on}
@@ -10,7 +10,7 @@ use Rattle.vx_region.specs.Regions.{Regions}
 use Rattle.vx_sector.specs.SectorData.{SectorData}
 use Rattle.vx_still.specs.Watching.{IsWatch}
 use Rattle.vx_record.specs.Kept.{busy_count}
-use Rattle.vx_windows.specs.Sectors.{AreQuiet, cells_of, entries_in, entries_of, map_changed, nexts, window_over, with_changes}
+use Rattle.vx_windows.specs.Sectors.{AreQuiet, cells_of, entries_of, map_changed, nexts, window_over, with_changes}
 use Rattle.vx_keeper.specs.Busy.{AreNextOf, resting_but, with_each}
 use Rattle.vx_keeper.specs.Keepers.{KeeperData, map_by, map_next, fates_next, version_next}
 use Rattle.vx_keeper.specs.Marks.{AreLed, WorldData, is_given}
@@ -103,12 +103,11 @@ pub record CanLead (first : Regions) (k : KeeperData) (sectors : List SectorData
   pub led : AreLed (length k.world.map.sectors) k.world
       (record { map = map_next k sectors; version = version_next first k }) ready.next.items
 
--- there is a window without entries for each sector of so many, and room for the windows of these,
--- which begin their next ones over their parts of these cells, judged by this version
-pub record CanRenew (count : ℕ) (cells : List SectorCells) (version : Version)
-    (sectors : List SectorData) (ready : ReadyForBusy) : Type 0 where
+-- there is room for the windows of these sectors, which begin their next ones over their parts of
+-- these cells, judged by this version
+pub record CanRenew (cells : List SectorCells) (version : Version) (sectors : List SectorData)
+    (ready : ReadyForBusy) : Type 0 where
   pub fresh : AreNextOf cells version sectors ready.fresh.items
-  pub none : map entries_in ready.windows.items ≡ replicate count []
   pub none_kept : ready.kept.items ≡ []
   pub room_kept : length sectors ≤ vec_capacity ready.kept
 
@@ -118,12 +117,11 @@ pub record IsReadyForBusy (world : WorldData) (sectors : List SectorData) (work 
     (next : Version) (ready : ReadyForBusy) : Type 0 where
   pub lead : IsReadyAtRest world
       (map_by world.map.sizes (with_each cells_of world.map.sectors sectors)) work next ready.lead
-  pub renew : CanRenew (length world.map.sectors)
-      (with_changes world.map.sectors ready.lead.changes.items) next sectors ready
+  pub renew : CanRenew (with_changes world.map.sectors ready.lead.changes.items) next sectors ready
 
 -- what was made suits the tick of a world in which nothing is recorded but in these sectors
 pub record CanCloseBusy (first : Regions) (k : KeeperData) (sectors : List SectorData)
     (ready : ReadyForBusy) : Type 0 where
   pub lead : CanLead first k (resting_but k sectors) ready.lead
-  pub renew : CanRenew (length k.counts) (map_next k (resting_but k sectors)).sectors
-      (version_next first k) sectors ready
+  pub renew : CanRenew (map_next k (resting_but k sectors)).sectors (version_next first k) sectors
+      ready

@@ -1,14 +1,17 @@
 //! Sectors in which something was recorded since the last tick, among all of a world.
 ghost use Rattle.std.specs.List.{All};
-ghost use Rattle.std.specs.Prelude.{◌≡◌, ◌<◌, [], None, Some, IfOk, length, map, replicate, slice_set};
-ghost use Rattle.vx_windows.specs.Sectors.{AreOf, cells_of, entries_in, entries_of, renewed_each, with_changes};
-ghost use Rattle.vx_keeper.specs.Busy.{AreNextOf, with_each};
+ghost use Rattle.std.specs.Prelude.{◌≡◌, ℕ, ◌<◌, ◌≤◌, ◌+◌, [], None, Some, IfOk, length, map, replicate, slice_set};
+ghost use Rattle.std.specs.Vec.{vec_capacity, vec_len};
+ghost use Rattle.vx_windows.specs.Sectors.{AreOf, cells_of, entries_in, renewed_each, with_changes};
+ghost use Rattle.vx_record.specs.Kept.{AreInOrder, windows_kept};
+ghost use Rattle.vx_keeper.specs.Busy.{AreAscending, AreKeptOf, AreNextOf, with_each};
 
 use crate::known::Known;
 use crate::ready_at_rest::nothing;
 use std::alloc::{AllocError, Global};
 use vx_cells::Cells;
 use vx_policy::Version;
+use vx_record::KeptWindow;
 use vx_sector::{Entry, Fresh, Sector};
 use vx_windows::fresh_over;
 
@@ -79,30 +82,41 @@ pub(crate) fn fresh_of(
     Ok(all)
 }
 
-/// A window without entries for each of so many sectors.
-pub(crate) fn no_windows(alloc: Global, count: usize) -> Result<Vec<Vec<Entry>>, AllocError>
-    ensures { IfOk result (λ windows. map entries_in windows.items ≡ replicate count []) }
-{
-    let mut windows = Vec::with_capacity(alloc, count)?;
-    for _ in 0..count {
-        windows.push_reserved(Vec::new(alloc));
-    }
-    Ok(windows)
-}
-
-/// Begins the next window of each of these sectors with this, and puts the record of the one that
-/// this closes in the place of the sector's number. It takes no memory.
-pub(crate) fn renew_busy(busy: &mut [Sector], fresh: Vec<Fresh>, windows: &mut [Vec<Entry>])
-    requires { AreOf busy.old fresh.items }
+/// Begins the next window of each of these sectors with this, and hands out the windows that this
+/// closes, those that have entries, in the list that is handed in. It takes no memory.
+pub(crate) fn renew_busy(
+    busy: &mut [Sector],
+    fresh: Vec<Fresh>,
+    mut kept: Vec<KeptWindow>,
+) -> Vec<KeptWindow>
+    requires fresh { AreOf busy.old fresh.items }
+    requires order { AreAscending busy.old }
+    requires room { (kept.items ≡ []) × (length busy.old ≤ vec_capacity kept) }
     ensures renewed { busy.new ≡ renewed_each busy.old fresh.items }
-    ensures windows { map entries_in windows.new
-        ≡ with_each entries_of (map entries_in windows.old) busy.old }
+    ensures kept { AreKeptOf busy.old result.items }
 {
     for (at, fresh) in fresh.into_iter().enumerate() {
         let sector = &mut busy[at];
         let number = number_of(sector);
         let closed = sector.renew(fresh);
-        put_at(windows, number, closed);
+        keep(&mut kept, number, closed);
+    }
+    kept
+}
+
+// Keeps the window of the sector of that number, which is of a later one than those that are kept,
+// if it has entries.
+fn keep(kept: &mut Vec<KeptWindow>, sector: usize, entries: Vec<Entry>)
+    requires order { AreInOrder sector kept.old.items }
+    requires room { vec_len kept.old < vec_capacity kept.old }
+    ensures order { AreInOrder (sector + 1) kept.new.items }
+    ensures windows { (count : ℕ) → windows_kept count kept.new.items
+        ≡ slice_set (windows_kept count kept.old.items) sector (entries_in entries) }
+    ensures few { vec_len kept.new ≤ vec_len kept.old + 1 }
+    ensures room { vec_capacity kept.new ≡ vec_capacity kept.old }
+{
+    if !entries.is_empty() {
+        kept.push_reserved(KeptWindow { sector, entries });
     }
 }
 

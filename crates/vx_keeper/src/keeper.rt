@@ -433,19 +433,25 @@ impl<A: Places> Keeper<A> {
         (told, next)
     }
 
-    /// Whether each of these sectors is what the keeper has of the sector of its number. Those that
-    /// are said to have begun with their parts of what the keeper knows are not compared, but for
-    /// their numbers and records. Only costs rest on a no.
+    /// Whether each of these sectors is what the keeper has of the sector of its number, and of a
+    /// higher number than the one before it. Those that are said to have begun with their parts of
+    /// what the keeper knows are not compared, but for their numbers and records. Only costs rest on
+    /// a no.
     pub fn knows_each(&self, sectors: &[Sector], are_parts: &[bool]) -> bool
         requires parts { AreParts self.now.world are_parts.now sectors.now }
         ensures { result ≡ true → AreBusyOf self.now sectors.now }
     {
         self.soundness();
+        let mut least = 0;
         for (at, sector) in sectors.iter().enumerate() {
             let number = number_of(sector);
-            if self.archive.counts().len() <= number || !self.knows(number, sector, are_parts[at]) {
+            if number < least
+                || self.archive.counts().len() <= number
+                || !self.knows(number, sector, are_parts[at])
+            {
                 return false;
             }
+            least = number + 1;
         }
         true
     }
@@ -515,12 +521,7 @@ impl<A: Places> Keeper<A> {
     {
         self.soundness();
         are_sectors(busy);
-        let ReadyForBusy {
-            lead,
-            fresh,
-            windows,
-            kept,
-        } = ready;
+        let ReadyForBusy { lead, fresh, kept } = ready;
         let ReadyAtRest {
             version,
             fates,
@@ -530,13 +531,13 @@ impl<A: Places> Keeper<A> {
             next,
         } = lead;
         let before = self.archive.ticks().len() as u64;
+        let sectors = self.archive.counts().len();
         let was = self.known.go_on(changes, version);
-        let mut windows = windows;
-        renew_busy(busy, fresh, &mut windows);
+        let kept = renew_busy(busy, fresh, kept);
         self.archive.add(Tick {
             number: before + 1,
             version: was,
-            windows: ClosedWindows::new(windows, kept),
+            windows: ClosedWindows::of_kept(sectors, kept),
             fates,
         });
         self.watch = Some(watch);

@@ -5,7 +5,7 @@ ghost use Rattle.vx_windows.specs.Sectors.{cells_of};
 ghost use Rattle.vx_keeper.specs.Busy.{with_each};
 ghost use Rattle.vx_keeper.specs.Readiness.{IsReadyForBusy};
 
-use crate::busy::{fresh_of, no_windows, written_cells};
+use crate::busy::{fresh_of, written_cells};
 use crate::known::Known;
 use crate::next_window::NextWindow;
 use crate::ready_at_rest::ReadyAtRest;
@@ -13,7 +13,7 @@ use crate::work::Work;
 use std::alloc::{AllocError, Global};
 use vx_policy::Version;
 use vx_record::KeptWindow;
-use vx_sector::{Entry, Fresh, Sector};
+use vx_sector::{Fresh, Sector};
 
 /// All that the tick takes of a world in which nothing is recorded since the last one but in some
 /// sectors. It is made before the tick, since making it takes memory and closing windows does not.
@@ -23,17 +23,15 @@ pub struct ReadyForBusy {
     pub(crate) lead: ReadyAtRest,
     // For each of those sectors, what its next window begins with.
     pub(crate) fresh: Vec<Fresh>,
-    // A window without entries for each sector of the world, and room for those that have some,
-    // which are kept.
-    pub(crate) windows: Vec<Vec<Entry>>,
+    // No window yet, and room for one of each of them: those that have entries are kept.
     pub(crate) kept: Vec<KeptWindow>,
 }
 
 impl ReadyForBusy {
     /// What the tick takes that was worked of the world that is known, but for these sectors, whose
     /// next windows this version judges. If it is the one that judges their windows, but for its
-    /// number, what is made costs what was recorded and what the tick puts down, and a place in
-    /// three lists for each sector.
+    /// number, what is made costs what was recorded and what the tick puts down, and a place in two
+    /// lists for each sector.
     pub(crate) fn new(
         alloc: Global,
         known: &Known,
@@ -50,18 +48,11 @@ impl ReadyForBusy {
         ensures { IfOk result (IsReadyForBusy known.now busy.now work version) }
     {
         let cells = known.cells(alloc)?;
-        let count = cells.len();
-        let written = written_cells(alloc, count, busy)?;
+        let written = written_cells(alloc, cells.len(), busy)?;
         let lead = ReadyAtRest::over(alloc, known, &cells, written, version, is_same_policy, work)?;
         let fresh = fresh_of(alloc, &cells, &lead.changes, busy, &lead.version)?;
-        let windows = no_windows(alloc, count)?;
         let kept = Vec::with_capacity(alloc, busy.len())?;
-        Ok(ReadyForBusy {
-            lead,
-            fresh,
-            windows,
-            kept,
-        })
+        Ok(ReadyForBusy { lead, fresh, kept })
     }
 
     /// What the next windows of sectors begin with, for those alone that do not go on as they are;

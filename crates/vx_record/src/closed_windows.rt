@@ -51,6 +51,15 @@ impl ClosedWindows {
         ClosedWindows { sectors, kept }
     }
 
+    /// The windows of so many sectors: these, which are kept, and one without entries for each
+    /// other sector. It takes no memory.
+    pub fn of_kept(sectors: usize, kept: Vec<KeptWindow>) -> ClosedWindows
+        requires { AreInOrder sectors kept.items }
+        ensures { result ≡ windows_kept sectors kept.items }
+    {
+        ClosedWindows { sectors, kept }
+    }
+
     /// The windows of so many sectors, of which none has an entry. It takes no memory.
     pub fn none(alloc: Global, sectors: usize) -> ClosedWindows
         ensures { result ≡ replicate sectors [] }

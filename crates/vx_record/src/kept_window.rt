@@ -3,6 +3,6 @@ use vx_sector::Entry;
 /// A window with entries, and the number of its sector.
 #[derive(Drop)]
 pub struct KeptWindow {
-    pub(crate) sector: usize,
-    pub(crate) entries: Vec<Entry>,
+    pub sector: usize,
+    pub entries: Vec<Entry>,
 }

@@ -1,7 +1,5 @@
-use Rattle.std.proofs.Common.{◌≡◌, ℕ, ◌+◌, ◌≤◌, List, [], ◌∷◌, ◌++◌, Vec, Global, length, map, take, drop, replicate, refl, sym, ap, subst, ◌∙◌, arith}
-use Rattle.std.proofs.Math.Seq.{take-append_seam}
+use Rattle.std.proofs.Common.{◌≡◌, ℕ, ◌+◌, ◌<◌, ◌≤◌, List, [], ◌∷◌, ◌++◌, length, map, replicate, refl, sym, ap, subst, ◌∙◌, arith}
 use Rattle.std.specs.List.{All}
-use Rattle.std.specs.Vec.{vec_capacity}
 use Rattle.std.proofs.lemmas.List.{length-map}
 use Rattle.std.proofs.lemmas.List.Elements.{All-from_recursion, All-map, All-same}
 use Rattle.vx_geom.specs.Sizes.{sector_count}
@@ -12,21 +10,21 @@ use Rattle.vx_geom.specs.declared.pos.Pos.{Pos}
 use Rattle.vx_policy.specs.declared.version.Version.{Version}
 use Rattle.vx_tick.specs.declared.fate.Fate.{Fate}
 use Rattle.vx_sector.specs.SectorData.{EntryData, SectorData}
-use Rattle.vx_sector.specs.declared.entry.Entry.{Entry}
 use Rattle.vx_sector.specs.Windows.{IsSector, count_of, most_entries}
 use Rattle.vx_still.specs.Watching.{IsWatch}
-use Rattle.vx_windows.specs.Sectors.{entries_in, entries_of, with_changes}
+use Rattle.vx_windows.specs.Sectors.{entries_of, with_changes}
 use Rattle.vx_record.specs.Chronicles.{TickData, ChronicleData}
-use Rattle.vx_record.specs.Kept.{busy_count}
+use Rattle.vx_record.specs.Kept.{AreInOrder, windows_kept}
+use Rattle.vx_record.specs.declared.kept_window.KeptWindow.{KeptWindow}
 use Rattle.vx_record.specs.Records.{tick_in}
 use Rattle.vx_record.specs.Archives.{IsArchive, IsNextTick, next_counts}
 use Rattle.vx_record.proofs.Counting.{archive_grown, counts_fit, counts_go_on}
-use Rattle.vx_keeper.specs.Busy.{resting_but, with_each}
+use Rattle.vx_keeper.specs.Busy.{AreBusyOf, AreKeptOf, resting_but, with_each}
 use Rattle.vx_keeper.specs.Keepers.{IsKeeper, KeeperData, chronicle_next, fates_next, keeper_data, map_by, map_next, version_next}
 use Rattle.vx_keeper.specs.Marks.{AreGiven, AreLed, AreMarks, IsPartOf}
 use Rattle.vx_keeper.specs.Readiness.{CanLead}
 use Rattle.vx_keeper.specs.declared.ready_at_rest.ReadyAtRest.{ReadyAtRest}
-use Rattle.vx_keeper.proofs.Among.{all_of, but_each, but_held, but_sectors, but_windows, busy_few, counts_again, parts_next}
+use Rattle.vx_keeper.proofs.Among.{all_of, but_each, but_held, but_sectors, but_windows, counts_again, parts_next}
 use Rattle.vx_keeper.proofs.Closing.{is_next, keeps, tick}
 use Rattle.vx_keeper.proofs.Giving.{led_marked}
 use Rattle.vx_keeper.proofs.Knowing.{AreAsKnown}
@@ -51,8 +49,8 @@ next_whole : (first : Regions) (k : KeeperData) (ss : List SectorData) (ready : 
     → IsMap (map_next k ss)
 next_whole first k ss ready can = subst IsMap can.after can.placed
 
-pub renew_busy-requires : goal.renew_busy-requires
-renew_busy-requires g c =
+pub renew_busy-kept-requires-clause-fresh : goal.renew_busy-kept-requires-clause-fresh
+renew_busy-kept-requires-clause-fresh g c =
     let first = g.A.Naming.first in
     let many = g.A.Places.all in
     let k = c.args.self.now in
@@ -60,32 +58,28 @@ renew_busy-requires g c =
     let ss = resting_but k busy in
     let can = c.requires.ready.lead in
     all_of first many k c.soundness.ensures (map_next k ss) (version_next first k) (next_whole first k ss c.args.ready.lead can).each
-    (next_sizes first k ss c.args.ready.lead can) busy c.args.ready.fresh.items c.are_sectors.ensures c.requires.known c.requires.ready.renew.fresh
+    (next_sizes first k ss c.args.ready.lead can) busy c.args.ready.fresh.items c.are_sectors.ensures c.requires.known.0 c.requires.ready.renew.fresh
 
 -- the records that are closed
-windows_are : (first : Regions) (many : ℕ) (k : KeeperData) (keeper : IsKeeper first many k) (busy : List SectorData)
-    (before now : List (Vec Entry Global)) (all : Vec (Vec Entry Global) Global) → all.items ≡ before
-    → map entries_in all.items ≡ replicate (length k.counts) [] → length now ≡ length before → all.len ≡ length all.items
-    → map entries_in now ≡ with_each entries_of (map entries_in before) busy
-    → map entries_in (take all.len (now ++ drop (length now) all.items)) ≡ map entries_of (resting_but k busy)
-windows_are first many k keeper busy before now all was none long own is =
-    let whole : take all.len (now ++ drop (length now) all.items) ≡ now =
-    ap (λ n. take n (now ++ drop (length now) all.items)) (omega (arith, own, ap length was, long))
-    ∙ take-append_seam now (drop (length now) all.items) in
-    ap (map entries_in) whole ∙ is ∙ ap (λ ws. with_each entries_of ws busy) (ap (map entries_in) (sym was) ∙ none)
-    ∙ sym (but_windows first many k keeper busy)
+module _ (first : Regions) (many : ℕ) (k : KeeperData) (keeper : IsKeeper first many k) (busy : List SectorData)
+    (are : AreBusyOf k busy) (kept : List KeptWindow) (is : AreKeptOf busy kept) (n : ℕ) (each : n ≡ length k.counts) where
+  below : All (λ (s : SectorData). s.base.sector < n) busy
+  below i d within = omega (arith, (are.0 i d within).0, each)
 
-pub new-requires-clause-room : goal.new-requires-clause-room
-new-requires-clause-room g c =
-    let first = g.A.Naming.first in
-    let many = g.A.Places.all in
+  in_order : AreInOrder n kept
+  in_order = (is n below).0
+
+  windows_are : windows_kept n kept ≡ map entries_of (resting_but k busy)
+  windows_are =
+      (is n below).1
+      ∙ ap (λ m. with_each entries_of (replicate {A = List EntryData} m []) busy) each
+      ∙ sym (but_windows first many k keeper busy)
+
+pub of_kept-requires : goal.of_kept-requires
+of_kept-requires g c =
     let k = c.args.self.now in
-    let busy = c.args.busy.now in
-    let windows = windows_are first many k c.soundness.ensures busy c.deref_mut.result.now c.renew_busy.new.windows c.args.ready.windows
-    (sym c.deref_mut.ensures.value) c.requires.ready.renew.none c.renew_busy.auto.windows (omega (arith, c.args.ready.windows.ok.0)) c.renew_busy.ensures.windows in
-    let few : busy_count (map entries_of (resting_but k busy)) ≤ vec_capacity c.args.ready.kept =
-    omega (arith, ap busy_count (but_windows first many k c.soundness.ensures busy), busy_few (length k.counts) busy, c.requires.ready.renew.room_kept) in
-    subst (λ ws. busy_count ws ≤ vec_capacity c.args.ready.kept) (sym windows) few
+    in_order g.A.Naming.first g.A.Places.all k c.soundness.ensures c.args.busy.now c.requires.known c.renew_busy-kept.result.items
+    c.renew_busy-kept.ensures.kept _ (ap length c.counts-sectors.ensures ∙ ap (λ (k : KeeperData). length k.counts) c.self.view_is)
 
 -- the tick as it is told
 told_is : (first : Regions) (many : ℕ) (k : KeeperData) (keeper : IsKeeper first many k) (ss : List SectorData)
@@ -97,7 +91,7 @@ told_is first many k keeper ss sectors held n v ws fs number version closed fate
     λ i. record { number = number i + 1; version = version i; windows = closed i; fates = fates i }
 
 -- as the windows are closed
-module _ (g : Over) (c : goal.After-new g) where
+module _ (g : Over) (c : goal.After-of_kept g) where
   now_sectors : All IsSector (resting_but c.args.self.now c.args.busy.now)
   now_sectors =
       but_sectors g.A.Naming.first g.A.Places.all c.args.self.now c.soundness.ensures c.args.busy.now c.requires.known c.are_sectors.ensures
@@ -106,12 +100,12 @@ module _ (g : Over) (c : goal.After-new g) where
       c.args.self.now.counts (resting_but c.args.self.now c.args.busy.now)
   now_held = but_held g.A.Naming.first g.A.Places.all c.args.self.now c.soundness.ensures c.args.busy.now c.requires.known
 
-  now_closed : c.new.result ≡ map entries_of (resting_but c.args.self.now c.args.busy.now)
+  now_closed : c.of_kept.result ≡ map entries_of (resting_but c.args.self.now c.args.busy.now)
   now_closed =
-      c.new.ensures
-      ∙ windows_are g.A.Naming.first g.A.Places.all c.args.self.now c.soundness.ensures c.args.busy.now c.deref_mut.result.now
-      c.renew_busy.new.windows c.args.ready.windows (sym c.deref_mut.ensures.value) c.requires.ready.renew.none c.renew_busy.auto.windows
-      (omega (arith, c.args.ready.windows.ok.0)) c.renew_busy.ensures.windows
+      c.of_kept.ensures
+      ∙ windows_are g.A.Naming.first g.A.Places.all c.args.self.now c.soundness.ensures c.args.busy.now c.requires.known
+      c.renew_busy-kept.result.items c.renew_busy-kept.ensures.kept _
+      (ap length c.counts-sectors.ensures ∙ ap (λ (k : KeeperData). length k.counts) c.self.view_is)
 
 pub add-requires-clause-next : goal.add-requires-clause-next
 add-requires-clause-next g c =
@@ -128,7 +122,7 @@ add-requires-clause-next g c =
     let told : TickData = record {
       number = length c.ticks.result.now + 1;
       version = c.go_on-was.result;
-      windows = c.new.result;
+      windows = c.of_kept.result;
       fates = c.args.ready.lead.fates.items;
     } in
     let is : told ≡ tick first many k keeper ss sectors held =
@@ -177,12 +171,11 @@ module _ (g : Over) (c : goal.Joined-mark g) where
   held : AreAsKnown k.world.version k.chronicle.opening.names k.world.map.sectors k.counts ss
   held = but_held first many k c.soundness.ensures c.args.busy.now c.requires.known
 
-  closed : c.new.result ≡ map entries_of ss
+  closed : c.of_kept.result ≡ map entries_of ss
   closed =
-      c.new.ensures
-      ∙ windows_are first many k c.soundness.ensures c.args.busy.now c.deref_mut.result.now c.renew_busy.new.windows c.args.ready.windows
-      (sym c.deref_mut.ensures.value) c.requires.ready.renew.none c.renew_busy.auto.windows (omega (arith, c.args.ready.windows.ok.0))
-      c.renew_busy.ensures.windows
+      c.of_kept.ensures
+      ∙ windows_are first many k c.soundness.ensures c.args.busy.now c.requires.known c.renew_busy-kept.result.items
+      c.renew_busy-kept.ensures.kept _ (ap length c.counts-sectors.ensures ∙ ap (λ (k : KeeperData). length k.counts) c.self.view_is)
 
   counts_are : c.add.new.self.counts ≡ map count_of ss
   counts_are =
@@ -276,10 +269,10 @@ returns-clause-parts g c =
     let v = version_next (first g c) (k g c) in
     let parts = parts_next m v c.args.busy.now c.args.ready.fresh.items
     (whole g c).each c.requires.ready.renew.fresh in
-    subst (λ w. All (IsPartOf w) c.renew_busy.new.busy) (sym (world_is g c))
-    (subst (All (IsPartOf (record { map = m; version = v }))) (sym c.renew_busy.ensures.renewed)
+    subst (λ w. All (IsPartOf w) c.renew_busy-kept.new.busy) (sym (world_is g c))
+    (subst (All (IsPartOf (record { map = m; version = v }))) (sym c.renew_busy-kept.ensures.renewed)
     (All-from_recursion (IsPartOf (record { map = m; version = v })) _ parts))
 
 pub returns-clause-kept : goal.returns-clause-kept
 returns-clause-kept g c =
-    ap (map count_of) c.renew_busy.ensures.renewed ∙ counts_again c.args.busy.now c.args.ready.fresh.items
+    ap (map count_of) c.renew_busy-kept.ensures.renewed ∙ counts_again c.args.busy.now c.args.ready.fresh.items

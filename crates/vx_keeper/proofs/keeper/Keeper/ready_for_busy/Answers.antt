@@ -1,4 +1,4 @@
-use Rattle.std.proofs.Common.{◌≡◌, ◌+◌, [], length, replicate, sym, ap, subst, ◌∙◌, arith}
+use Rattle.std.proofs.Common.{◌≡◌, ◌+◌, length, sym, ap, subst, ◌∙◌, arith}
 use Rattle.vx_cells.specs.Maps.{AreSectors, MapData}
 use Rattle.vx_cells.specs.Wholes.{IsMap, with_cells_on}
 use Rattle.vx_cells.proofs.Setting.{puts_whole}
@@ -66,7 +66,6 @@ returns-clause-ready g c =
         fresh =
             subst (λ v. AreNextOf (map_next k ss).sectors v busy ready.fresh.items) version
             (subst (λ (m : MapData). AreNextOf m.sectors c.in_ok-version.version busy ready.fresh.items) after is.renew.fresh);
-        none = is.renew.none ∙ ap (λ n. replicate n []) (omega (arith, keeper.each, keeper.all));
         none_kept = is.renew.none_kept;
         room_kept = is.renew.room_kept;
       };

@@ -1,8 +1,8 @@
-use Rattle.std.proofs.Common.{◌≡◌, ℕ, List, [], None, Some, Option, length, map, replicate, sym, ap, ◌∙◌, subst, arith}
+use Rattle.std.proofs.Common.{◌≡◌, ℕ, List, None, Some, Option, length, map, replicate, sym, ap, ◌∙◌, subst, arith}
 use Rattle.std.proofs.lemmas.List.{length-map, length-replicate}
 use Rattle.vx_cells.specs.Maps.{AreSectors}
 use Rattle.vx_cells.specs.SectorCells.{SectorCells}
-use Rattle.vx_sector.specs.SectorData.{EntryData, SectorData}
+use Rattle.vx_sector.specs.SectorData.{SectorData}
 use Rattle.vx_windows.specs.Sectors.{cells_of, with_changes}
 use Rattle.vx_keeper.specs.Busy.{AreNextOf, with_each}
 use Rattle.vx_keeper.specs.Keepers.{map_by}
@@ -34,16 +34,16 @@ pub over-requires-clause-each : goal.over-requires-clause-each
 over-requires-clause-each c =
     let cs = c.args.known.now.map.sectors in
     let cells = c.in_ok-cells.cells in
-    let many = counted (λ d. d.now) cells.items cs c.len-count.result (omega (arith, c.len-count.ensures, cells.ok.0)) c.in_ok-cells.ensures in
-    each cs c.in_ok-written.written.items c.args.busy.now c.len-count.result many c.in_ok-written.ensures
+    let many = counted (λ d. d.now) cells.items cs c.len.result (omega (arith, c.len.ensures, cells.ok.0)) c.in_ok-cells.ensures in
+    each cs c.in_ok-written.written.items c.args.busy.now c.len.result many c.in_ok-written.ensures
 
 pub over-requires-clause-placed : goal.over-requires-clause-placed
 over-requires-clause-placed c =
     let cs = c.args.known.now.map.sectors in
     let cells = c.in_ok-cells.cells in
-    let many = counted (λ d. d.now) cells.items cs c.len-count.result (omega (arith, c.len-count.ensures, cells.ok.0)) c.in_ok-cells.ensures in
+    let many = counted (λ d. d.now) cells.items cs c.len.result (omega (arith, c.len.ensures, cells.ok.0)) c.in_ok-cells.ensures in
     subst (AreSectors c.args.known.now.map.sizes)
-    (sym (put_in cs c.in_ok-written.written.items c.args.busy.now c.len-count.result many c.in_ok-written.ensures))
+    (sym (put_in cs c.in_ok-written.written.items c.args.busy.now c.len.result many c.in_ok-written.ensures))
     c.requires.placed
 
 pub fresh_of-requires-clause-there : goal.fresh_of-requires-clause-there
@@ -62,10 +62,10 @@ returns c =
     let cs = world.map.sectors in
     let busy = c.args.busy.now in
     let cells = c.in_ok-cells.cells in
-    let many = counted (λ d. d.now) cells.items cs c.len-count.result (omega (arith, c.len-count.ensures, cells.ok.0)) c.in_ok-cells.ensures in
+    let many = counted (λ d. d.now) cells.items cs c.len.result (omega (arith, c.len.ensures, cells.ok.0)) c.in_ok-cells.ensures in
     let lead = c.in_ok-lead.lead in
     let led = subst (λ ds. IsReadyAtRest world (map_by world.map.sizes ds) c.args.work c.args.version lead)
-    (put_in cs c.in_ok-written.written.items busy c.len-count.result many c.in_ok-written.ensures) c.in_ok-lead.ensures.ready in
+    (put_in cs c.in_ok-written.written.items busy c.len.result many c.in_ok-written.ensures) c.in_ok-lead.ensures.ready in
     let fresh = c.in_ok-fresh.fresh.items in
     let own = ap (map (λ d. d.now)) c.deref-2.ensures.value ∙ c.in_ok-cells.ensures in
     record {
@@ -74,7 +74,6 @@ returns c =
         fresh =
             subst (λ v. AreNextOf (with_changes cs lead.changes.items) v busy fresh) led.version
             (subst (λ ds. AreNextOf ds lead.version busy fresh) (λ i. with_changes (own i) (c.deref-3.ensures.value i)) c.in_ok-fresh.ensures);
-        none = c.in_ok-windows.ensures ∙ ap (λ n. replicate {A = List EntryData} n []) many;
         none_kept = c.in_ok-kept.ensures.items;
         room_kept = omega (arith, c.in_ok-kept.ensures.capacity);
       };

@@ -388,8 +388,8 @@ impl<A: Places> Keeper<A> {
     }
 
     /// Makes the tick of a world in which nothing is recorded since the last one: adds it to the
-    /// chronicle, with a window without entries for each sector, and goes on to the map after it. It
-    /// hands out what becomes of the moves, and what the next windows of sectors begin with. The
+    /// chronicle, with a window without entries for each sector, and goes on to the map after it.
+    /// It hands out what becomes of the moves, and what the next windows of sectors begin with. The
     /// window of a sector for which the list has nothing goes on as it is. It takes no memory.
     pub fn close_at_rest(
         &mut self,
@@ -435,8 +435,8 @@ impl<A: Places> Keeper<A> {
 
     /// Whether each of these sectors is what the keeper has of the sector of its number, and of a
     /// higher number than the one before it. Those that are said to have begun with their parts of
-    /// what the keeper knows are not compared, but for their numbers and records. Only costs rest on
-    /// a no.
+    /// what the keeper knows are not compared, but for their numbers and records. Only costs rest
+    /// on a no.
     pub fn knows_each(&self, sectors: &[Sector], are_parts: &[bool]) -> bool
         requires parts { AreParts self.now.world are_parts.now sectors.now }
         ensures { result ≡ true → AreBusyOf self.now sectors.now }

@@ -73,7 +73,8 @@ impl<A: Places> Marked<A> {
     }
 
     /// Carries out a command at a position of the sector and puts it on the list of that number, as
-    /// `Lists::carry_out` does. The mark stays, since no command changes with what the window began.
+    /// `Lists::carry_out` does. The mark stays, since no command changes with what the window
+    /// began.
     pub fn carry_out(
         &mut self,
         lists: &mut Lists,

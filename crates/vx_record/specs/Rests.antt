@@ -26,7 +26,8 @@ pub record IsAstray (seats : ℕ) (calls : List (List Call)) (entries : List Ent
 abbrev pub AreAllBehind : ℕ → ℕ → List (List (List Call)) → (ℕ → List EntryData)
     → List (List (List Call)) → Type 0
 AreAllBehind seats first tables entries rests = (at : ℕ) → at < length tables
-    → AreBehind seats (slice_index_or tables at []) (entries (first + at)) (slice_index_or rests at [])
+    → AreBehind seats (slice_index_or tables at []) (entries (first + at))
+    (slice_index_or rests at [])
 
 -- in the table of that place, the calls of a seat don't begin with those among its sector's entries
 pub record IsAstrayAt (seats first : ℕ) (tables : List (List (List Call)))

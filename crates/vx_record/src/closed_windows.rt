@@ -97,8 +97,8 @@ impl ClosedWindows {
         }
     }
 
-    /// The windows that are kept from that sector on, in order of their sectors; no other from there
-    /// on has entries.
+    /// The windows that are kept from that sector on, in order of their sectors; no other from
+    /// there on has entries.
     pub(crate) fn kept_from(&self, first: usize) -> &[KeptWindow]
         ensures order { AreInOrder (length self.now) result.now }
         ensures from { All (λ window. first ≤ window.sector) result.now }

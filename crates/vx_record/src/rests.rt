@@ -1,6 +1,6 @@
-//! What is left of the calls of each seat behind entries of the record. The calls in a sector are in
-//! a table by the numbers of the seats, so that one walk over its entries serves all seats, and one
-//! over the ticks serves as many sectors as have tables.
+//! What is left of the calls of each seat behind entries of the record. The calls in a sector are
+//! in a table by the numbers of the seats, so that one walk over its entries serves all seats, and
+//! one over the ticks serves as many sectors as have tables.
 ghost use Rattle.std.specs.Prelude.{◌≡◌, ◌≢◌, ℕ, ◌<◌, ◌≤◌, [], ◌∷◌, true, false, length, map, slice_index_or, MatchOption};
 ghost use Rattle.vx_sector.specs.SectorData.{entry_of};
 ghost use Rattle.vx_windows.specs.declared.limits.TheConstants.{MAX_PLAYERS};

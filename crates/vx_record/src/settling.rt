@@ -108,8 +108,8 @@ fn first_torn<S: Place>(places: &[S], keeper: &S::Keeper) -> Option<u32>
     None
 }
 
-// A seat and a sector of which a list differs from what the record says. It goes over the ticks once
-// for many sectors, and over the entries of each sector once, however many seats there are.
+// A seat and a sector of which a list differs from what the record says. It goes over the ticks
+// once for many sectors, and over the entries of each sector once, however many seats there are.
 fn first_difference<P: Caller, S: Place>(
     callers: &[P],
     seats: u8,
@@ -192,8 +192,8 @@ fn put_calls<'a, P: Caller>(tables: &mut [CallTable<'a>], callers: &'a [P], seat
     }
 }
 
-// Where the calls of a seat, in a sector from `first` on that has a table, are not those in its open
-// window: the seat, and the place of the table. The calls are taken on the way.
+// Where the calls of a seat, in a sector from `first` on that has a table, are not those in its
+// open window: the seat, and the place of the table. The calls are taken on the way.
 fn first_unsaid<S: Place>(
     tables: &mut [CallTable],
     seats: u8,

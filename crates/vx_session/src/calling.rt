@@ -18,8 +18,8 @@ use vx_step::NoGate;
 use vx_world::{Pass, Seats, World};
 
 /// Carries out a command with the pass, in the world with these bounds, whose sector of that number
-/// holds its position, and tells the answer. Where there is no room or no memory for the record, the
-/// lists of the pass stay as they are.
+/// holds its position, and tells the answer. Where there is no room or no memory for the record,
+/// the lists of the pass stay as they are.
 // Inlined, so that the answer is not moved once more.
 #[inline(always)]
 pub(crate) fn called<A: Places, B: Seats>(

@@ -80,8 +80,8 @@ impl<A: Places, B: Seats> Player<A, B> {
         }
     }
 
-    /// Carries out what is asked of him, in its order, in the world with these bounds, and keeps the
-    /// answers. What is left of an earlier block is let go.
+    /// Carries out what is asked of him, in its order, in the world with these bounds, and keeps
+    /// the answers. What is left of an earlier block is let go.
     pub fn play(&mut self, rt: &impl Wait, bounds: &Bounds, world: &World<A, B>)
         requires { world.now.bounds ≡ bounds.now }
         ensures seat { self.new.pass.seat ≡ self.old.pass.seat }
@@ -110,8 +110,8 @@ impl<A: Places, B: Seats> Player<A, B> {
     }
 }
 
-// Carries out what is asked with the pass, and keeps the answers behind none; ends early where there
-// is no room or no memory.
+// Carries out what is asked with the pass, and keeps the answers behind none; ends early where
+// there is no room or no memory.
 fn carry_out<A: Places, B: Seats>(
     rt: &impl Wait,
     bounds: &Bounds,

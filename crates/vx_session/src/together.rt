@@ -58,8 +58,8 @@ impl<A: Places + Send + Sync, B: Seats + Send + Sync> Session<A, B> {
     }
 }
 
-// Has the players do what is asked for, at once where threads are worth it, and tells the answers in
-// the order of the requests.
+// Has the players do what is asked for, at once where threads are worth it, and tells the answers
+// in the order of the requests.
 fn answers_of<A: Places + Send + Sync, B: Seats + Send + Sync, T: Threads + Wait + Sync>(
     rt: &T,
     alloc: Global,

@@ -5,9 +5,9 @@ use Rattle.vx_record.specs.Said.{calls_of}
 use Rattle.vx_record.specs.declared.call.Call.{Call}
 use Rattle.vx_record.specs.declared.call_table.CallTable.{CallTable}
 
--- the calls in a table
-abbrev pub calls_in : CallTable → List (List Call)
-calls_in table = map (λ calls. calls.now) table.calls
+-- the lists of calls in a table
+abbrev pub lists_in : CallTable → List (List Call)
+lists_in table = map (λ calls. calls.now) table.calls
 
 -- the calls of each of so many seats are those among the entries, and then those that are left
 abbrev pub AreBehind : ℕ → List (List Call) → List EntryData → List (List Call) → Type 0

@@ -6,7 +6,7 @@ ghost use Rattle.vx_sector.specs.SectorData.{entry_of};
 ghost use Rattle.vx_windows.specs.declared.limits.TheConstants.{MAX_PLAYERS};
 ghost use Rattle.vx_record.specs.Records.{tick_in};
 ghost use Rattle.vx_record.specs.Said.{window_at, closed_at};
-ghost use Rattle.vx_record.specs.Rests.{calls_in, AreBehind, IsAstray, AreAllBehind, IsAstrayAt, AreSaid, IsUnsaid};
+ghost use Rattle.vx_record.specs.Rests.{lists_in, AreBehind, IsAstray, AreAllBehind, IsAstrayAt, AreSaid, IsUnsaid};
 
 use crate::call::Call;
 use crate::call_table::CallTable;
@@ -25,10 +25,10 @@ pub(crate) fn take_closed(
 ) -> Option<(u8, usize)>
     requires { seats ≤ MAX_PLAYERS }
     ensures { MatchOption result
-        (AreAllBehind seats first (map calls_in tables.old)
+        (AreAllBehind seats first (map lists_in tables.old)
         (λ k. closed_at k (map tick_in ticks.now))
-        (map calls_in tables.new))
-        (λ d. IsAstrayAt seats first (map calls_in tables.old)
+        (map lists_in tables.new))
+        (λ d. IsAstrayAt seats first (map lists_in tables.old)
         (λ k. closed_at k (map tick_in ticks.now)) d.0 d.1) }
 {
     for tick in ticks {
@@ -43,10 +43,10 @@ pub(crate) fn take_closed(
 fn take_tick(tables: &mut [CallTable], seats: u8, first: usize, tick: &Tick) -> Option<(u8, usize)>
     requires { seats ≤ MAX_PLAYERS }
     ensures { MatchOption result
-        (AreAllBehind seats first (map calls_in tables.old)
+        (AreAllBehind seats first (map lists_in tables.old)
         (λ k. window_at k (tick_in tick.now))
-        (map calls_in tables.new))
-        (λ d. IsAstrayAt seats first (map calls_in tables.old)
+        (map lists_in tables.new))
+        (λ d. IsAstrayAt seats first (map lists_in tables.old)
         (λ k. window_at k (tick_in tick.now)) d.0 d.1) }
 {
     for window in tick.windows.kept_from(first) {
@@ -66,8 +66,8 @@ fn take_tick(tables: &mut [CallTable], seats: u8, first: usize, tick: &Tick) -> 
 // on the way.
 pub(crate) fn unsaid(table: &mut CallTable, seats: u8, entries: &[Entry]) -> Option<u8>
     requires { seats ≤ MAX_PLAYERS }
-    ensures { MatchOption result (AreSaid seats (calls_in table.old) (map entry_of entries.now))
-        (λ seat. IsUnsaid seats (calls_in table.old) (map entry_of entries.now) seat) }
+    ensures { MatchOption result (AreSaid seats (lists_in table.old) (map entry_of entries.now))
+        (λ seat. IsUnsaid seats (lists_in table.old) (map entry_of entries.now) seat) }
 {
     if let Some(seat) = take_from(table, seats, entries) {
         return Some(seat);
@@ -81,8 +81,8 @@ pub(crate) fn unsaid(table: &mut CallTable, seats: u8, entries: &[Entry]) -> Opt
 fn take_from(table: &mut CallTable, seats: u8, entries: &[Entry]) -> Option<u8>
     requires { seats ≤ MAX_PLAYERS }
     ensures { MatchOption result
-        (AreBehind seats (calls_in table.old) (map entry_of entries.now) (calls_in table.new))
-        (λ seat. IsAstray seats (calls_in table.old) (map entry_of entries.now) seat) }
+        (AreBehind seats (lists_in table.old) (map entry_of entries.now) (lists_in table.new))
+        (λ seat. IsAstray seats (lists_in table.old) (map entry_of entries.now) seat) }
 {
     take_all(&mut table.calls, seats, entries)
 }

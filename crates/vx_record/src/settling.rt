@@ -4,7 +4,7 @@ ghost use Rattle.std.specs.List.{All};
 ghost use Rattle.std.specs.Prelude.{◌≡◌, ℕ, ◌+◌, ◌<◌, ◌≤◌, ◌^◌, [], true, length, map, slice_index_or, MatchOption};
 ghost use Rattle.vx_record.specs.Settling.{IsEachOnce, callers_at, AreKnown, IsTorn, sector_in, open_entries, Agrees, AllAgree, SomeDiffers, IsFound};
 ghost use Rattle.vx_record.specs.Records.{tick_in};
-ghost use Rattle.vx_record.specs.Rests.{calls_in, AreAllSaid, IsUnsaidAt};
+ghost use Rattle.vx_record.specs.Rests.{lists_in, AreAllSaid, IsUnsaidAt};
 ghost use Rattle.vx_record.specs.Said.{closed_at};
 ghost use Rattle.vx_sector.specs.SectorData.{entry_of};
 ghost use Rattle.vx_windows.specs.declared.limits.TheConstants.{MAX_PLAYERS};
@@ -182,7 +182,7 @@ fn put_calls<'a, P: Caller>(tables: &mut [CallTable<'a>], callers: &'a [P], seat
     requires lists { All (λ p. first + length tables.old ≤ length (P.caller p).lists) callers.now }
     requires few { first + length tables.old < 2 ^ 32 }
     ensures { (at : ℕ) → at < length tables.old → All (λ c. slice_index_or
-        (slice_index_or (map calls_in tables.new) at []) c.seat []
+        (slice_index_or (map lists_in tables.new) at []) c.seat []
         ≡ slice_index_or c.lists (first + at) []) (map P.caller callers.now) }
 {
     for at in 0..tables.len() {
@@ -203,9 +203,9 @@ fn first_unsaid<S: Place>(
     requires seats { seats ≤ MAX_PLAYERS }
     requires within { first + length tables.old ≤ length places.now }
     ensures { MatchOption result
-        (AreAllSaid seats first (map calls_in tables.old)
+        (AreAllSaid seats first (map lists_in tables.old)
         (λ k. open_entries (sector_in (map S.sector places.now) k)))
-        (λ d. IsUnsaidAt seats first (map calls_in tables.old)
+        (λ d. IsUnsaidAt seats first (map lists_in tables.old)
         (λ k. open_entries (sector_in (map S.sector places.now) k)) d.0 d.1) }
 {
     for at in 0..tables.len() {

@@ -4,7 +4,7 @@ use Rattle.std.specs.List.{All}
 use Rattle.std.proofs.Math.Seq.{map-set_same}
 use Rattle.std.proofs.lemmas.Bool.Decides.{eqb_tells}
 use Rattle.std.proofs.lemmas.Grind.{get_or-set_at}
-use Rattle.std.proofs.lemmas.List.{get_or-map, get_or-set_other, get_or_default, length-map, length-set, length-take-le, map-set, nil_from_length, take_more}
+use Rattle.std.proofs.lemmas.List.{get_or-map, get_or-set_other, get_or_default, length-map, length-set, length-take-le, map-set, nil_from_length}
 use Rattle.std.proofs.lemmas.Simd.{map-map}
 use Rattle.vx_geom.specs.Sizes.{Sizes}
 use Rattle.vx_sector.specs.declared.reply.Reply.{Reply}

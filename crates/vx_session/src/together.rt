@@ -224,7 +224,7 @@ fn play_each<A: Places + Send + Sync, B: Seats + Send + Sync, T: Threads + Wait 
     );
 }
 
-// Whether so much is asked of these players that they are worth a thread.
+// Whether so much is asked of these players that they are worth a thread. Only costs rest on it.
 fn is_worth_a_thread<A: Places, B: Seats>(players: &[Player<A, B>]) -> bool {
     let mut wanting = WORTH_A_THREAD;
     for player in players {

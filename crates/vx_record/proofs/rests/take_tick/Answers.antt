@@ -6,7 +6,7 @@ use Rattle.vx_windows.specs.Sectors.{entries_in}
 use Rattle.vx_record.specs.Records.{tick_in}
 use Rattle.vx_record.specs.Said.{window_at}
 use Rattle.vx_record.specs.Kept.{windows_kept}
-use Rattle.vx_record.specs.Rests.{calls_in, AreBehind, IsAstray, AreAllBehind}
+use Rattle.vx_record.specs.Rests.{lists_in, AreBehind, IsAstray, AreAllBehind}
 use Rattle.vx_record.specs.declared.kept_window.KeptWindow.{KeptWindow}
 use Rattle.vx_record.proofs.Keeping.{never_fall}
 use Rattle.vx_record.proofs.Tables.{behind_alike, astray_alike, window_more, window_astray, windows_ended}
@@ -21,8 +21,8 @@ returns-then-tables-at c =
     let given = c.kept_from-window-items.ensures in
     let k = c.loop-window.window-index in
     let window = c.window-item.result in
-    let tables = map calls_in c.args.tables.now in
-    let rests = map calls_in c.loop-window.tables in
+    let tables = map lists_in c.args.tables.now in
+    let rests = map lists_in c.loop-window.tables in
     let far : (j : ℕ) (d : KeptWindow) → k ≤ j → j < length items
     → first + length tables ≤ (get_or items j d).sector =
     λ j d after near.
@@ -36,7 +36,7 @@ returns-then-tables-at c =
       sector,
       c.if-tables-at.true,
       c.loop-window.auto.tables,
-      length-map c.args.tables.now calls_in,
+      length-map c.args.tables.now lists_in,
     ) in
     behind_alike seats first tables rests
     (λ k. get_or (windows_kept (length windows) items) k []) (λ k. window_at k (tick_in c.args.tick.now))
@@ -54,15 +54,15 @@ returns-in-Some c =
     let window = c.window-item.result in
     let at = window.sector - first in
     let seat = c.in-Some.seat in
-    let tables = map calls_in c.args.tables.now in
-    let rests = map calls_in c.loop-window.tables in
+    let tables = map lists_in c.args.tables.now in
+    let rests = map lists_in c.loop-window.tables in
     let from : first ≤ window.sector =
     subst (λ (w : KeptWindow). first ≤ w.sector) (sym c.window-item.is)
     (given.from k window c.loop-window-test.true) in
     let there : at < length tables =
-    omega (arith, c.if-tables-at.false, c.loop-window.auto.tables, length-map c.args.tables.now calls_in) in
-    let here : get_or rests at [] ≡ calls_in (get_or c.loop-window.tables at c.index-tables-at.result) =
-    get_or-map calls_in c.loop-window.tables at c.index-tables-at.result [] c.if-tables-at.false in
+    omega (arith, c.if-tables-at.false, c.loop-window.auto.tables, length-map c.args.tables.now lists_in) in
+    let here : get_or rests at [] ≡ lists_in (get_or c.loop-window.tables at c.index-tables-at.result) =
+    get_or-map lists_in c.loop-window.tables at c.index-tables-at.result [] c.if-tables-at.false in
     let entries : map entry_of c.deref.result.now ≡ entries_in window.entries =
     ap (map entry_of) c.deref.ensures.value in
     let astray : IsAstray seats (get_or rests at []) (entries_in window.entries) seat =
@@ -84,16 +84,16 @@ loop-window-preserved c =
     let k = c.loop-window.window-index in
     let window = c.window-item.result in
     let at = window.sector - first in
-    let tables = map calls_in c.args.tables.now in
-    let rests = map calls_in c.loop-window.tables in
-    let left = calls_in c.take_from.new.table in
+    let tables = map lists_in c.args.tables.now in
+    let rests = map lists_in c.loop-window.tables in
+    let left = lists_in c.take_from.new.table in
     let from : first ≤ window.sector =
     subst (λ (w : KeptWindow). first ≤ w.sector) (sym c.window-item.is)
     (given.from k window c.loop-window-test.true) in
     let room : at < length rests =
-    omega (arith, c.if-tables-at.false, length-map c.loop-window.tables calls_in) in
-    let here : get_or rests at [] ≡ calls_in (get_or c.loop-window.tables at c.index-tables-at.result) =
-    get_or-map calls_in c.loop-window.tables at c.index-tables-at.result [] c.if-tables-at.false in
+    omega (arith, c.if-tables-at.false, length-map c.loop-window.tables lists_in) in
+    let here : get_or rests at [] ≡ lists_in (get_or c.loop-window.tables at c.index-tables-at.result) =
+    get_or-map lists_in c.loop-window.tables at c.index-tables-at.result [] c.if-tables-at.false in
     let entries : map entry_of c.deref.result.now ≡ entries_in window.entries =
     ap (map entry_of) c.deref.ensures.value in
     let taken : AreBehind seats (get_or rests at []) (entries_in window.entries) left =
@@ -101,7 +101,7 @@ loop-window-preserved c =
     (subst (λ cs. AreBehind seats cs (map entry_of c.deref.result.now) left) (sym here) c.in_default.ensures) in
     subst (λ ts. AreAllBehind seats first tables
     (λ s. get_or (windows_kept (length windows) (take (k + 1) items)) s []) ts)
-    (sym (map-set calls_in c.loop-window.tables at c.take_from.new.table))
+    (sym (map-set lists_in c.loop-window.tables at c.take_from.new.table))
     (window_more seats first (length windows) tables rests items k window left at given.order
     c.loop-window-test.true c.window-item.is (omega (arith, from)) room c.loop-window.invariant taken)
 
@@ -112,8 +112,8 @@ returns c =
     let windows = c.args.tick.now.windows in
     let items = c.kept_from-window-items.result.now in
     let given = c.kept_from-window-items.ensures in
-    let tables = map calls_in c.args.tables.now in
-    let rests = map calls_in c.loop-window.tables in
+    let tables = map lists_in c.args.tables.now in
+    let rests = map lists_in c.loop-window.tables in
     behind_alike seats first tables rests
     (λ k. get_or (windows_kept (length windows) items) k []) (λ k. window_at k (tick_in c.args.tick.now))
     (λ k from. unwrap_or-slice_get windows k [] ∙ given.windows k from)

@@ -16,12 +16,12 @@
 #   clocks    1,000 ticks of 3,200 dust, repeaters and lamps in 16 sectors, under 25 clocks
 #   commands  400,000 commands without regions, among 50, and a fifth of them for chests; 100,000
 #             among 500
-#   sweeps    eleven, each with a row a point: regions at a place, regions over pistons, edits between
+#   sweeps    twelve, each with a row a point: regions at a place, regions over pistons, edits between
 #             ticks, members of a region whose priority and flags are edited, members of one that
-#             gains and loses a name, sectors, dust that is awake, and ten times as much of it,
-#             rings of dust whose source goes out, pistons, chests in a sector; or one of them:
-#             place, pistons, edits_a_tick, members, names, sectors, awake, awake_of_many, loops,
-#             machines, storage
+#             gains and loses a name, sectors, sectors with an edit before each tick, dust that is
+#             awake, and ten times as much of it, rings of dust whose source goes out, pistons,
+#             chests in a sector; or one of them: place, pistons, edits_a_tick, members, names,
+#             sectors, edited, awake, awake_of_many, loops, machines, storage
 # Options:
 #   --server  the program to measure; without it the built server of this repository
 #   --plain   the program beside it; without it bench/plain.rs is compiled (rustc -O)
@@ -45,7 +45,7 @@ old=
 plots=
 workloads=
 sweeps=
-all_sweeps="place pistons edits_a_tick members names sectors awake awake_of_many loops machines storage"
+all_sweeps="place pistons edits_a_tick members names sectors edited awake awake_of_many loops machines storage"
 while [ $# -gt 0 ]; do
   case $1 in
     --server) server=$2; shift ;;
@@ -54,7 +54,7 @@ while [ $# -gt 0 ]; do
     --plots) plots=$2; shift ;;
     crowded | plots | works | edits | idle | building | placed | dust | clocks | commands) workloads="$workloads $1" ;;
     sweeps) sweeps=$all_sweeps ;;
-    place | pistons | edits_a_tick | members | names | sectors | awake | awake_of_many | loops | machines | storage)
+    place | pistons | edits_a_tick | members | names | sectors | edited | awake | awake_of_many | loops | machines | storage)
       sweeps="$sweeps $1"
       ;;
     *) echo "no such workload or option: $1" >&2; exit 2 ;;
@@ -148,6 +148,7 @@ sweep_named() {
     members) sweep members sweep_members "members of a region, 20,000 other edits of it" 1 10 100 1000 5000 ;;
     names) sweep names sweep_names "members of a region, 2,000 edits that add or drop one" 1 10 100 1000 5000 ;;
     sectors) sweep sectors sweep_sectors "sectors, 40,000 idle ticks" 1 4 16 36 64 ;;
+    edited) sweep edited sweep_edited "sectors, 10,000 ticks, each behind an edit" 1 4 16 64 256 ;;
     awake) sweep awake sweep_awake "% of 4,800 dust awake, 1,000 ticks or more" 0.1 0.3 1 3 10 30 100 ;;
     awake_of_many) sweep awake_of_many sweep_awake_of_many "% of 48,000 dust awake, 200 ticks or more" 0.1 0.3 1 3 10 30 100 ;;
     loops) sweep loops sweep_loops "of 961 rings of 24 dust run, 200 ticks or more" 1 4 16 64 256 961 ;;

@@ -337,6 +337,12 @@ def sweep_sectors(r, count):
     return world(int(count ** 0.5)) + ["tick"], ticks(40_000)
 
 
+def sweep_edited(r, count):
+    """So many sectors, and 10,000 ticks, each behind an edit of a flag of the world."""
+    flags = [f"region flag __global__ build {'deny' if n % 2 else 'allow'}" for n in range(10_000)]
+    return world(int(count ** 0.5)) + ["tick"], [line for edit in flags for line in (edit, "tick")]
+
+
 def sweep_awake(r, share):
     """960 rings of five dust, of which so many of a hundred run, and 1,000 ticks or more."""
     tiles = [(4 * k, 1, 4 * j) for j in range(30) for k in range(32)]
@@ -406,6 +412,7 @@ SCRIPTS = {
     "sweep_members": sweep_members,
     "sweep_names": sweep_names,
     "sweep_sectors": sweep_sectors,
+    "sweep_edited": sweep_edited,
     "sweep_awake": sweep_awake,
     "sweep_awake_of_many": sweep_awake_of_many,
     "sweep_loops": sweep_loops,

@@ -6,7 +6,7 @@ use Rattle.std.proofs.lemmas.List.{get_or_past}
 use Rattle.std.proofs.lemmas.List.Folds.{list_any-append}
 use Rattle.vx_sector.specs.SectorData.{SectorData}
 use Rattle.vx_policy.specs.declared.version.Version.{Version}
-use Rattle.vx_keeper.specs.Marks.{AreGiven, AreLed, AreMarks, GoesOn, IsMarkOf, IsPartOf, WorldData, is_given}
+use Rattle.vx_keeper.specs.Marks.{AreAllGiven, AreGiven, AreLed, AreMarks, GoesOn, IsMarkOf, IsPartOf, IsSamePolicy, WorldData, is_given}
 use Rattle.vx_keeper.specs.declared.next_window.NextWindow.{NextWindow}
 
 -- the list has something for the sector that is added to it
@@ -69,14 +69,14 @@ from_itself world n (Some m) is = (world, is, (refl, refl))
 
 -- where all have the mark of the world they are marks of it
 pub all_marked : (marks given : List (Option (Option WorldData))) (mark : Option (Option WorldData)) (world : WorldData)
-    → length marks ≡ length world.map.sectors → length given ≡ length marks
-    → ((n : ℕ) → n < length marks → get_or given n None ≡ mark) → IfSome mark (λ m. m ≡ Some world) → AreMarks given world
-all_marked marks given mark world each long all is = (
-  long ∙ each,
+    → length marks ≡ length world.map.sectors → AreAllGiven marks mark given → IfSome mark (λ m. m ≡ Some world)
+    → AreMarks given world
+all_marked marks given mark world each all is = (
+  all.0 ∙ each,
   λ n. elim (cases_lt n (length marks)) [
-    | inl within ↦ from_itself world n (get_or given n None) (subst (λ o. IfSome o (λ m. m ≡ Some world)) (sym (all n within)) is)
+    | inl within ↦ from_itself world n (get_or given n None) (subst (λ o. IfSome o (λ m. m ≡ Some world)) (sym (all.1 n within)) is)
     | inr past ↦ subst (λ o. IfSome o (λ m. (before : WorldData) × (m ≡ Some before) × GoesOn before world n))
-        (sym (get_or_past given n None (omega (arith, past, long)))) tt
+        (sym (get_or_past given n None (omega (arith, past, all.0)))) tt
   ],
 )
 
@@ -89,17 +89,32 @@ given_is before after n was mark true old is led = from_itself after n mark is
 given_is before after n None mark false old is led = tt
 given_is before after n (Some m) mark false old is led = (old.0, old.1, goes_on old.0 before after n old.2 (led refl))
 
--- marks of a world with those that are given as its sectors are led to the next are marks of that
-pub led_marked : (marks given : List (Option (Option WorldData))) (next : List NextWindow)
+-- marks of a world with those that are given as its sectors are led to the next, which the same
+-- policy judges, are marks of that
+led_marked : (marks given : List (Option (Option WorldData))) (next : List NextWindow)
     (mark : Option (Option WorldData)) (before after : WorldData) → AreMarks marks before
     → length after.map.sectors ≡ length before.map.sectors → AreLed (length before.map.sectors) before after next
-    → IfSome mark (λ m. m ≡ Some after) → AreGiven marks next mark given → AreMarks given after
-led_marked marks given next mark before after are many led is done = (
+    → IsSamePolicy before.version after.version → IfSome mark (λ m. m ≡ Some after) → AreGiven marks next mark given
+    → AreMarks given after
+led_marked marks given next mark before after are many led policy is done = (
   done.0 ∙ are.0 ∙ sym many,
   λ n. elim (cases_lt n (length marks)) [
     | inl within ↦ subst (λ o. IfSome o (λ m. (first : WorldData) × (m ≡ Some first) × GoesOn first after n)) (sym (done.1 n within))
-        (given_is before after n (get_or marks n None) mark (is_given n next) (are.1 n) is (led.1 n (omega (arith, within, are.0))))
+        (given_is before after n (get_or marks n None) mark (is_given n next) (are.1 n) is
+        (λ none. (led.1 n (omega (arith, within, are.0)) none, policy)))
     | inr past ↦ subst (λ o. IfSome o (λ m. (first : WorldData) × (m ≡ Some first) × GoesOn first after n))
         (sym (get_or_past given n None (omega (arith, past, done.0)))) tt
   ],
 )
+
+-- so are they where all are given one unless the policy stays
+pub next_marked : (same : Bool) (marks given : List (Option (Option WorldData))) (next : List NextWindow)
+    (mark : Option (Option WorldData)) (before after : WorldData) → AreMarks marks before
+    → length after.map.sectors ≡ length before.map.sectors → AreLed (length before.map.sectors) before after next
+    → (same ≡ true → IsSamePolicy before.version after.version) → IfSome mark (λ m. m ≡ Some after)
+    → (same ≡ true → AreGiven marks next mark given) → (same ≡ false → AreAllGiven marks mark given)
+    → AreMarks given after
+next_marked true marks given next mark before after are many led policy is some all =
+    led_marked marks given next mark before after are many led (policy refl) is (some refl)
+next_marked false marks given next mark before after are many led policy is some all =
+    all_marked marks given mark after (are.0 ∙ sym many) (all refl) is

@@ -1,5 +1,5 @@
 -- What sectors begin their next windows with, one after another.
-use Rattle.std.proofs.Common.{◌≡◌, ℕ, zero, suc, ◌+◌, ◌<◌, Bool, true, List, [], ◌∷◌, ◌++◌, length, get_or, slice_get, replicate, Option, Some, None, unwrap_or, inl, inr, refl, sym, ap, ◌∙◌, subst, arith}
+use Rattle.std.proofs.Common.{◌≡◌, ℕ, zero, suc, ◌+◌, ◌<◌, List, [], ◌∷◌, ◌++◌, length, get_or, slice_get, replicate, Option, Some, None, unwrap_or, inl, inr, refl, sym, ap, ◌∙◌, subst, arith}
 use Rattle.std.specs.Prelude.{slice_index_or}
 use Rattle.std.proofs.lemmas.Bool.{cases_lt, true≢false}
 use Rattle.std.proofs.lemmas.List.Elements.{All-nil, All-push}
@@ -32,12 +32,12 @@ stays_at (c ∷ cs) [] n none = refl
 stays_at (c ∷ cs) (y ∷ ys) zero none = ap (λ o. Some (unwrap_or o c)) none
 stays_at (c ∷ cs) (y ∷ ys) (suc n) none = stays_at cs ys n none
 
-module _ (v : Version) (same : Bool) (cs : List SectorCells) (ys : List (Option SectorCells)) where
+module _ (v : Version) (cs : List SectorCells) (ys : List (Option SectorCells)) where
   -- the next sector is given a window
   pub one_next : (k : ℕ) (all : List NextWindow) (c : SectorCells) (y : Option SectorCells) (f : FreshData)
-      → AreNext v same cs ys k all → k < length cs → length ys ≡ length cs → get_or cs k c ≡ c → y ≡ get_or ys k y
+      → AreNext v cs ys k all → k < length cs → length ys ≡ length cs → get_or cs k c ≡ c → y ≡ get_or ys k y
       → f ≡ window_over v (unwrap_or y c)
-      → AreNext v same cs ys (k + 1) (all ++ record { number = k; fresh = f } ∷ [])
+      → AreNext v cs ys (k + 1) (all ++ record { number = k; fresh = f } ∷ [])
   one_next k all c y f are within many cells change fresh =
       let w : NextWindow = record { number = k; fresh = f } in
       let here = changed_at cs ys k c y within many cells change ∙ ap (λ (g : FreshData). Some g.cells) (sym fresh) in (
@@ -56,21 +56,20 @@ none_change (c ∷ cs) zero = refl
 none_change (c ∷ cs) (suc n) = ap (λ ds. c ∷ ds) (none_change cs n)
 
 -- so the sectors of a world are led to the next one
-pub led_by : (world : WorldData) (v : Version) (same : Bool) (ys : List (Option SectorCells)) (all : List NextWindow)
+pub led_by : (world : WorldData) (v : Version) (ys : List (Option SectorCells)) (all : List NextWindow)
     (m : MapData) → map_by world.map.sizes (with_changes world.map.sectors ys) ≡ m
-    → (same ≡ true → record world.version { tick = v.tick } ≡ v)
-    → AreNext v same world.map.sectors ys (length world.map.sectors) all
+    → AreNext v world.map.sectors ys (length world.map.sectors) all
     → AreLed (length world.map.sectors) world (record { map = m; version = v }) all
-led_by world v same ys all m after policy are =
+led_by world v ys all m after are =
     subst (λ k. AreLed (length world.map.sectors) world (record { map = k; version = v }) all) after (
       are.0,
-      λ n within none. let stays = are.1 n within none in (stays_at world.map.sectors ys n stays.0, policy stays.1),
+      λ n within none. stays_at world.map.sectors ys n (are.1 n within none),
     )
 
--- where nothing is given, all go on
-pub all_go_on : (world : WorldData) (v : Version) (m : MapData) → world.map ≡ m → record world.version { tick = v.tick } ≡ v
+-- where nothing is given, all keep their cells
+pub all_keep : (world : WorldData) (v : Version) (m : MapData) → world.map ≡ m
     → AreLed (length world.map.sectors) world (record { map = m; version = v }) []
-all_go_on world v m same policy = (
+all_keep world v m same = (
   All-nil (λ (w : NextWindow). IsBegun (record { map = m; version = v }) w.number w.fresh),
-  λ n within none. (ap (λ (k : MapData). slice_get k.sectors n) (sym same), policy),
+  λ n within none. ap (λ (k : MapData). slice_get k.sectors n) (sym same),
 )

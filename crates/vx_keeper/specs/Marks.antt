@@ -38,12 +38,18 @@ renumbered s tick = record s { version = record s.version { tick = tick } }
 abbrev pub IsQuietAt : SectorData → ℕ → Type 0
 IsQuietAt s n = (s.base.sector ≡ n) × (s.entries ≡ []) × (s.cells ≡ s.base)
 
+-- the versions are by the same policy, though they may have different numbers
+abbrev pub IsSamePolicy : Version → Version → Type 0
+IsSamePolicy before after = record before { tick = after.tick } ≡ after
+
+-- from one world to the next the sector of number n keeps its cells
+abbrev pub KeepsCells : WorldData → WorldData → ℕ → Type 0
+KeepsCells before after n = slice_get after.map.sectors n ≡ slice_get before.map.sectors n
+
 -- from one world to the next the sector of number n goes on over its cells, judged by the same
 -- policy under another number
 abbrev pub GoesOn : WorldData → WorldData → ℕ → Type 0
-GoesOn before after n =
-    (slice_get after.map.sectors n ≡ slice_get before.map.sectors n)
-    × (record before.version { tick = after.version.tick } ≡ after.version)
+GoesOn before after n = KeepsCells before after n × IsSamePolicy before.version after.version
 
 -- the marks of all sectors of the world, each, if there is one, of a world from which the sector of
 -- that number goes on to this one
@@ -67,11 +73,11 @@ abbrev pub is_given : ℕ → List NextWindow → Bool
 is_given n all = list_any (λ next. nat_eq next.number n) all
 
 -- each of so many sectors is led from one world to the next by what the list has for it, or else
--- goes on
+-- keeps its cells
 abbrev pub AreLed : ℕ → WorldData → WorldData → List NextWindow → Type 0
 AreLed count before after all =
     AreBegun after all
-    × ((n : ℕ) → n < count → is_given n all ≡ false → GoesOn before after n)
+    × ((n : ℕ) → n < count → is_given n all ≡ false → KeepsCells before after n)
 
 -- these are the marks after one was given to each sector for which the list has something; the
 -- others have the ones that they had
@@ -81,3 +87,10 @@ AreGiven marks next mark given =
     (length given ≡ length marks)
     × ((n : ℕ) → n < length marks → slice_index_or given n None
     ≡ (if is_given n next then mark else slice_index_or marks n None))
+
+-- these are the marks after one was given to each sector
+abbrev pub AreAllGiven : List (Option (Option WorldData)) → Option (Option WorldData)
+    → List (Option (Option WorldData)) → Type 0
+AreAllGiven marks mark given =
+    (length given ≡ length marks)
+    × ((n : ℕ) → n < length marks → slice_index_or given n None ≡ mark)

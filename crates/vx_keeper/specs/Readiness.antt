@@ -13,7 +13,7 @@ use Rattle.vx_record.specs.Kept.{busy_count}
 use Rattle.vx_windows.specs.Sectors.{AreQuiet, cells_of, entries_of, map_changed, nexts, window_over, with_changes}
 use Rattle.vx_keeper.specs.Busy.{AreNextOf, resting_but, with_each}
 use Rattle.vx_keeper.specs.Keepers.{KeeperData, map_by, map_next, fates_next, version_next}
-use Rattle.vx_keeper.specs.Marks.{AreLed, WorldData, is_given}
+use Rattle.vx_keeper.specs.Marks.{AreLed, IsSamePolicy, WorldData, is_given}
 use Rattle.vx_keeper.specs.declared.next_window.NextWindow.{NextWindow}
 use Rattle.vx_keeper.specs.declared.ready.Ready.{Ready}
 use Rattle.vx_keeper.specs.declared.ready_at_rest.ReadyAtRest.{ReadyAtRest}
@@ -63,14 +63,12 @@ IsNext version cells next =
     (slice_get cells next.number ≡ Some next.fresh.cells) × (next.fresh.version ≡ version)
 
 -- so does each for which the list has something, over its cells with what changed of them; of so
--- many sectors it has something for each, but for those of which nothing changes and which the same
--- policy judges
-abbrev pub AreNext : Version → Bool → List SectorCells → List (Option SectorCells) → ℕ
+-- many sectors it has something for each, but for those of which nothing changes
+abbrev pub AreNext : Version → List SectorCells → List (Option SectorCells) → ℕ
     → List NextWindow → Type 0
-AreNext version same cells changes count all =
+AreNext version cells changes count all =
     All (IsNext version (with_changes cells changes)) all
-    × ((n : ℕ) → n < count → is_given n all ≡ false
-    → (slice_index_or changes n None ≡ None) × (same ≡ true))
+    × ((n : ℕ) → n < count → is_given n all ≡ false → slice_index_or changes n None ≡ None)
 
 -- it is of this work on this map, which these windows have left of the world that is known, and
 -- whose next windows this version judges
@@ -86,6 +84,7 @@ pub record IsReadyAtRest (world : WorldData) (now : MapData) (work : Work) (next
   pub led : AreLed (length world.map.sectors) world
       (record { map = with_cells_on now work.plan.puts.items; version = next })
       ready.next.items
+  pub same : ready.is_same_policy ≡ true → IsSamePolicy world.version next
 
 -- what was made suits the tick that closes the windows of these sectors: it leads from the world
 -- that is known to the map after the tick and the version that the tick fixes
@@ -102,6 +101,7 @@ pub record CanLead (first : Regions) (k : KeeperData) (sectors : List SectorData
   pub version : ready.version ≡ version_next first k
   pub led : AreLed (length k.world.map.sectors) k.world
       (record { map = map_next k sectors; version = version_next first k }) ready.next.items
+  pub same : ready.is_same_policy ≡ true → IsSamePolicy k.world.version (version_next first k)
 
 -- there is room for the windows of these sectors, which begin their next ones over their parts of
 -- these cells, judged by this version

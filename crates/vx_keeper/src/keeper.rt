@@ -12,14 +12,15 @@ ghost use Rattle.vx_record.specs.Records.{chronicle_in};
 ghost use Rattle.vx_record.specs.Settling.{AreKnown, BeganWith, IsKnown, IsTorn};
 ghost use Rattle.vx_keeper.specs.Busy.{AreBusyOf, resting_but};
 ghost use Rattle.vx_keeper.specs.Keepers.{IsKeeper, KnowsAsBefore, keeper_data, known, version_next, map_now, map_next, fates_next, chronicle_next, resting};
-ghost use Rattle.vx_keeper.specs.Marks.{AreBegun, AreParts, IsBegun, IsMarkOf, IsPartOf, IsQuietAt, renumbered};
+ghost use Rattle.vx_keeper.specs.Marks.{AreBegun, AreParts, IsPartOf, IsQuietAt};
 ghost use Rattle.vx_keeper.specs.Readiness.{CanClose, CanCloseBusy, CanLead};
 ghost use Rattle.vx_keeper.specs.Torn.{IsNoWork};
 ghost use Rattle.vx_keeper.specs.declared.tick_error.TickError.TheVariants.{HistoryFull, NoMemory, NoView, Torn};
 
+mod marking;
+
 use crate::busy::{cells_but, number_of, renew_busy};
 use crate::known::Known;
-use crate::marked::Marked;
 use crate::next_window::NextWindow;
 use crate::places::Places;
 use crate::ready::Ready;
@@ -37,8 +38,8 @@ use vx_cells::Frozen;
 use vx_geom::{Bounds, Pos};
 use vx_policy::Version;
 use vx_record::{Archive, Chronicle, ClosedWindows, Opening, Tick, follows};
-use vx_sector::{Fresh, Sector};
-use vx_stamp::{Mark, Stamper};
+use vx_sector::Sector;
+use vx_stamp::Stamper;
 use vx_step::{Gate, plan_parts};
 use vx_still::Watch;
 use vx_tick::{Fate, Plan};
@@ -143,57 +144,6 @@ impl<A: Places> Keeper<A> {
             stamper,
             marks,
         }
-    }
-
-    /// Whether the sector is marked as one whose window began with its part of what the keeper
-    /// knows, though it may be under another number. It costs the same whatever the sector holds;
-    /// without the mark it may have begun so all the same.
-    pub fn has_marked(&self, marked: &Marked<A>) -> bool
-        ensures { result ≡ true → IsPartOf self.now.world marked.now }
-    {
-        match self.marks.of(number_of(marked.sector())) {
-            Some(mark) => marked.has(&mark),
-            None => false,
-        }
-    }
-
-    /// The mark for a sector whose window began with its part of what the keeper knows.
-    pub fn mark_for(&self, sector: &Sector) -> Option<Mark<Known, A>>
-        requires { IsPartOf self.now.world sector.now }
-        ensures { IsMarkOf result sector.now }
-    {
-        self.marks.of(number_of(sector))
-    }
-
-    /// Gives a sector the number of the version that judges the open windows, where it is marked as
-    /// one whose window began with its part of what the keeper knows, and tells whether it is.
-    pub fn catch_up(&self, marked: &mut Marked<A>) -> bool
-        ensures part { result ≡ true → IsPartOf self.now.world marked.new }
-        ensures caught { result ≡ true
-            → marked.new ≡ renumbered marked.old self.now.world.version.tick }
-        ensures kept { result ≡ false → marked.new ≡ marked.old }
-        ensures count { count_of marked.new ≡ count_of marked.old }
-    {
-        if !self.has_marked(marked) {
-            return false;
-        }
-        marked.renumber(self.version().tick);
-        true
-    }
-
-    /// Has the sector of that number begin its next window with this, and with its mark, if nothing
-    /// is recorded in its window and it is of the size of the world. Else it stays as it is. No
-    /// clause tells which of the two: one that stays is torn to the next tick.
-    pub fn renew(&self, at: usize, marked: &mut Marked<A>, fresh: Fresh)
-        requires { IsBegun self.now.world at fresh }
-        ensures led { (marked.new ≡ marked.old) ⊎ IsPartOf self.now.world marked.new }
-        ensures count { count_of marked.new ≡ count_of marked.old }
-    {
-        self.soundness();
-        if !is_quiet(marked.sector(), at) || !has_size(marked.sector(), self.known.bounds()) {
-            return;
-        }
-        marked.renew(fresh, self.marks.of(at));
     }
 
     /// Whether the sector is what the keeper has of the sector of that number. Where it is said to
@@ -356,9 +306,9 @@ impl<A: Places> Keeper<A> {
     }
 
     /// Makes all that the tick takes of a world in which nothing is recorded since the last one, so
-    /// that each sector rests as the keeper has it. Where the machines put nothing down and the
-    /// policy stays it looks at no sector; else it costs what they put down, and a place in two
-    /// lists for each sector. The sectors are worked by 1 to 8 threads.
+    /// that each sector rests as the keeper has it. Where the machines put nothing down it looks at
+    /// no sector; else it costs what they put down, and a place in two lists for each sector. The
+    /// sectors are worked by 1 to 8 threads.
     pub fn ready_at_rest<R: Threads + Sync, G: Gate + Sync>(
         &mut self,
         rt: &R,
@@ -390,7 +340,8 @@ impl<A: Places> Keeper<A> {
     /// Makes the tick of a world in which nothing is recorded since the last one: adds it to the
     /// chronicle, with a window without entries for each sector, and goes on to the map after it.
     /// It hands out what becomes of the moves, and what the next windows of sectors begin with. The
-    /// window of a sector for which the list has nothing goes on as it is. It takes no memory.
+    /// window of a sector for which the list has nothing goes on as it is, and is behind where
+    /// another policy judges the next windows. It takes no memory.
     pub fn close_at_rest(
         &mut self,
         alloc: Global,
@@ -417,6 +368,7 @@ impl<A: Places> Keeper<A> {
             watch,
             changes,
             next,
+            is_same_policy,
         } = ready;
         let before = self.archive.ticks().len() as u64;
         let sectors = self.archive.counts().len();
@@ -429,7 +381,7 @@ impl<A: Places> Keeper<A> {
         });
         self.watch = Some(watch);
         let mark = self.stamper.mark(&self.known);
-        self.marks.give_led(&next, &mark);
+        self.marks.give_next(&next, is_same_policy, &mark);
         (told, next)
     }
 
@@ -495,8 +447,8 @@ impl<A: Places> Keeper<A> {
     /// sectors: adds it to the chronicle, with their windows and one without entries for each other
     /// sector, goes on to the map after it, and begins the next windows of these sectors. It hands
     /// out what becomes of the moves, and what the next windows of sectors begin with, these among
-    /// them. The window of a sector for which the list has nothing goes on as it is. It takes no
-    /// memory.
+    /// them. The window of a sector for which the list has nothing goes on as it is, and is behind
+    /// where another policy judges the next windows. It takes no memory.
     pub fn close_busy(
         &mut self,
         busy: &mut [Sector],
@@ -529,6 +481,7 @@ impl<A: Places> Keeper<A> {
             watch,
             changes,
             next,
+            is_same_policy,
         } = lead;
         let before = self.archive.ticks().len() as u64;
         let sectors = self.archive.counts().len();
@@ -542,7 +495,7 @@ impl<A: Places> Keeper<A> {
         });
         self.watch = Some(watch);
         let mark = self.stamper.mark(&self.known);
-        self.marks.give_led(&next, &mark);
+        self.marks.give_next(&next, is_same_policy, &mark);
         (told, next)
     }
 

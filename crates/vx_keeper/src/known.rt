@@ -4,6 +4,7 @@ ghost use Rattle.vx_cells.specs.Maps.{AreSectors};
 ghost use Rattle.vx_cells.specs.SectorCells.{only_air};
 ghost use Rattle.vx_windows.specs.Sectors.{with_changes};
 ghost use Rattle.vx_record.specs.Settling.{BeganWith};
+ghost use Rattle.vx_keeper.specs.Marks.{IsBegun};
 
 use std::alloc::{AllocError, Global};
 use std::marker::Model;
@@ -12,7 +13,7 @@ use vx_cells::{Cells, Frozen};
 use vx_geom::Bounds;
 use vx_policy::Version;
 use vx_record::began_with;
-use vx_sector::Sector;
+use vx_sector::{Fresh, Sector};
 use vx_windows::change_all;
 
 /// A world as its windows began: the cells of each sector, and the version that judges them.
@@ -82,6 +83,16 @@ impl Known {
             cells.push_reserved(sector);
         }
         Ok(cells)
+    }
+
+    /// What the sector of that number begins its window with: its cells, judged by the version. The
+    /// copies share what these hold.
+    pub fn fresh(&self, alloc: Global, at: usize) -> Result<Fresh, AllocError>
+        requires { at < length self.now.map.sectors }
+        ensures { IfOk result (IsBegun self.now at) }
+    {
+        let cells = &self.cells[at];
+        Fresh::new(alloc, cells.bounds(), cells.sector(), cells, &self.version)
     }
 
     /// The version that judges the windows.

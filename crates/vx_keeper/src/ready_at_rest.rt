@@ -27,14 +27,15 @@ pub struct ReadyAtRest {
     // For each sector its cells after the tick; nothing for those that keep theirs, and no list
     // where all do.
     pub(crate) changes: Vec<Option<Cells>>,
-    // For those sectors alone that do not go on as they are.
+    // For those sectors alone whose cells change.
     pub(crate) next: Vec<NextWindow>,
+    // Whether the version is by the same policy as the one that judged the windows.
+    pub(crate) is_same_policy: bool,
 }
 
 impl ReadyAtRest {
     /// What the tick takes that was worked of the world that is known, whose next windows this
-    /// version judges. If it is the one that judges their windows, but for its number, and the tick
-    /// puts nothing down, no list of sectors is made.
+    /// version judges. If the tick puts nothing down, no list of sectors is made.
     pub(crate) fn new(
         alloc: Global,
         known: &Known,
@@ -46,7 +47,7 @@ impl ReadyAtRest {
             → record known.now.version { tick = version.tick } ≡ version }
         ensures { IfOk result (IsReadyAtRest known.now known.now.map work version) }
     {
-        if is_same_policy && work.plan.puts.is_empty() {
+        if work.plan.puts.is_empty() {
             let Work { plan, watch } = work;
             let told = plan.fates.as_slice().to_vec(alloc)?;
             return Ok(ReadyAtRest {
@@ -56,6 +57,7 @@ impl ReadyAtRest {
                 watch,
                 changes: Vec::new(alloc),
                 next: Vec::new(alloc),
+                is_same_policy,
             });
         }
         known.soundness();
@@ -90,7 +92,7 @@ impl ReadyAtRest {
         let told = plan.fates.as_slice().to_vec(alloc)?;
         let mut changes = changes;
         put_in_changes(known.bounds(), cells, &mut changes, plan.puts.as_slice())?;
-        let next = all_next(alloc, cells, &changes, &version, is_same_policy)?;
+        let next = all_next(alloc, cells, &changes, &version)?;
         Ok(ReadyAtRest {
             version,
             fates: plan.fates,
@@ -98,10 +100,11 @@ impl ReadyAtRest {
             watch,
             changes,
             next,
+            is_same_policy,
         })
     }
 
-    /// What the next windows of sectors begin with, for those alone that do not go on as they are.
+    /// What the next windows of sectors begin with, for those alone whose cells change.
     pub fn next(&self) -> &[NextWindow]
         ensures { result.now ≡ self.now.next.items }
     {
@@ -120,25 +123,24 @@ pub(crate) fn nothing(alloc: Global, count: usize) -> Result<Vec<Option<Cells>>,
     Ok(changes)
 }
 
-// What sectors begin their next windows with, for those alone that do not go on as they are.
+// What sectors begin their next windows with, for those alone whose cells change.
 fn all_next(
     alloc: Global,
     cells: &[&Cells],
     changes: &[Option<Cells>],
     version: &Version,
-    is_same_policy: bool,
 ) -> Result<Vec<NextWindow>, AllocError>
     requires { length changes.now ≡ length cells.now }
-    ensures { IfOk result (λ all. AreNext version.now is_same_policy
-        (map (λ c. c.now) cells.now) changes.now (length cells.now) all.items) }
+    ensures { IfOk result (λ all. AreNext version.now (map (λ c. c.now) cells.now) changes.now
+        (length cells.now) all.items) }
 {
     let mut all = Vec::new(alloc);
     for number in 0..cells.len() {
         let change = &changes[number];
-        if is_same_policy && change.is_none() {
+        if change.is_none() {
             continue;
         }
-        let next = fresh_over(alloc, cells[number], change, version, is_same_policy)?;
+        let next = fresh_over(alloc, cells[number], change, version, true)?;
         let Some(fresh) = next else {
             continue;
         };

@@ -29,9 +29,8 @@ pub struct ReadyForBusy {
 
 impl ReadyForBusy {
     /// What the tick takes that was worked of the world that is known, but for these sectors, whose
-    /// next windows this version judges. If it is the one that judges their windows, but for its
-    /// number, what is made costs what was recorded and what the tick puts down, and a place in two
-    /// lists for each sector.
+    /// next windows this version judges. What is made costs what was recorded and what the tick
+    /// puts down, and a place in two lists for each sector.
     pub(crate) fn new(
         alloc: Global,
         known: &Known,
@@ -55,8 +54,8 @@ impl ReadyForBusy {
         Ok(ReadyForBusy { lead, fresh, kept })
     }
 
-    /// What the next windows of sectors begin with, for those alone that do not go on as they are;
-    /// the busy sectors are among them.
+    /// What the next windows of sectors begin with, for the busy ones and for those others alone
+    /// whose cells change.
     pub fn next(&self) -> &[NextWindow]
         ensures { result.now ≡ self.now.lead.next.items }
     {

@@ -1,5 +1,5 @@
-ghost use Rattle.std.specs.Prelude.{◌≡◌, ℕ, ◌<◌, length, replicate, slice_index_or, slice_set, None, IfOk};
-ghost use Rattle.vx_keeper.specs.Marks.{AreGiven};
+ghost use Rattle.std.specs.Prelude.{◌≡◌, true, false, replicate, slice_index_or, slice_set, None, IfOk};
+ghost use Rattle.vx_keeper.specs.Marks.{AreAllGiven, AreGiven};
 
 use crate::known::Known;
 use crate::next_window::NextWindow;
@@ -47,17 +47,33 @@ impl<A: Places> SectorMarks<A> {
 
     /// Gives each sector this mark. It takes no memory.
     pub(crate) fn give_all(&mut self, mark: &Option<Mark<Known, A>>)
-        ensures count { length self.new ≡ length self.old }
-        ensures given { (n : ℕ) → n < length self.old
-            → slice_index_or self.new n None ≡ mark.now }
+        ensures { AreAllGiven self.old mark.now self.new }
     {
         for number in 0..self.marks.len() {
             self.marks[number] = again(mark);
         }
     }
 
-    /// Gives this mark to each sector for which the list has something. It takes no memory.
-    pub(crate) fn give_led(&mut self, next: &[NextWindow], mark: &Option<Mark<Known, A>>)
+    /// Gives this mark to each sector that does not go on as it is: to those for which the list has
+    /// something, and to all where another policy judges their next windows. It takes no memory.
+    pub(crate) fn give_next(
+        &mut self,
+        next: &[NextWindow],
+        is_same_policy: bool,
+        mark: &Option<Mark<Known, A>>,
+    )
+        ensures led { is_same_policy ≡ true → AreGiven self.old next.now mark.now self.new }
+        ensures all { is_same_policy ≡ false → AreAllGiven self.old mark.now self.new }
+    {
+        if is_same_policy {
+            self.give_led(next, mark);
+        } else {
+            self.give_all(mark);
+        }
+    }
+
+    // Gives this mark to each sector for which the list has something.
+    fn give_led(&mut self, next: &[NextWindow], mark: &Option<Mark<Known, A>>)
         ensures { AreGiven self.old next.now mark.now self.new }
     {
         for window in next {

@@ -39,7 +39,7 @@ impl<A: Places, B: Seats> Session<A, B> {
         keeper.soundness();
         keeper.opening().soundness();
         let mut world = world;
-        world.catch_up(&keeper);
+        world.catch_up(alloc, &keeper)?;
         let report = match world.lift().finish(alloc, keeper, passes) {
             Ok(report) => report,
             Err(unsettled) => return Err(SessionError::from(unsettled.error)),

@@ -46,12 +46,15 @@ impl<A: Places + Send + Sync, B: Seats + Send + Sync> Session<A, B> {
         let Session {
             bounds,
             world,
+            keeper,
             players,
             marks,
+            behind,
             ..
         } = self;
         // Before the calls: where they are answered, their marks have room.
         marks.reserve(requests.len() + 2)?;
+        behind.bring_on_each(bounds, world, keeper, requests)?;
         let answers = answers_of(rt, alloc, bounds, world, players, requests)?;
         mark_all(bounds, requests, marks);
         Ok(answers)

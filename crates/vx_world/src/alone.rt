@@ -15,7 +15,7 @@ use crate::slot::Slot;
 use crate::taken::Taken;
 use crate::ticking::{awaited, make};
 use crate::world::World;
-use std::alloc::Global;
+use std::alloc::{AllocError, Global};
 use std::sync::{Condvar, Mutex, Wait};
 use std::thread::Threads;
 use vx_geom::Pos;
@@ -28,12 +28,13 @@ impl<A: Places, B: Seats> World<A, B> {
     /// Makes a tick as `tick` does. Since no other thread can reach the world meanwhile, no lock
     /// is taken. Where the numbers are given, in ascending order, of the sectors in which
     /// something was recorded since the last tick, all others stay in their places, and only
-    /// those of them are looked at whose next windows begin with other cells or by another
-    /// policy. The window of any other goes on, and is numbered when it is taken out next, or by
-    /// `catch_up`. If the numbers are wrong, a call that was recorded in a sector that goes on so
-    /// stands in the window after the tick, and the settlement says so in the end; a sector in
-    /// which nothing was recorded may be among them. Where no numbers are given each sector is
-    /// taken out of its place.
+    /// those of them are looked at whose next windows begin with other cells. The window of any
+    /// other goes on, and is numbered when it is taken out next, or by `catch_up`; where another
+    /// policy judges the next windows it is behind, until `begin_anew` or `catch_up`. If the
+    /// numbers are wrong, a call that was recorded in a sector that goes on so stands in the
+    /// window after the tick, and the settlement says so in the end; a sector in which nothing was
+    /// recorded may be among them. Where no numbers are given each sector is taken out of its
+    /// place.
     pub fn tick_alone<R: Threads + Wait + Sync, G: Gate + Sync>(
         &mut self,
         rt: &R,
@@ -64,15 +65,44 @@ impl<A: Places, B: Seats> World<A, B> {
         self.tick_some(rt, alloc, keeper, workers, gate, numbers)
     }
 
-    /// Gives each sector the number of the version that judges the open windows, where the keeper
-    /// knows that its window began with its part of the world. What is lifted next is then what the
-    /// keeper has of it.
-    pub fn catch_up(&mut self, keeper: &Keeper<A>)
+    /// Has the sector of that number begin its window anew, by the policy that judges the open
+    /// windows, where a lone tick has left it behind. Before a command is carried out in it this has
+    /// to be called, or the next tick finds it torn.
+    pub fn begin_anew(
+        &mut self,
+        alloc: Global,
+        at: usize,
+        keeper: &Keeper<A>,
+    ) -> Result<(), AllocError>
         ensures { self.new.bounds ≡ self.old.bounds }
     {
+        if at < self.slots.len() {
+            begin_anew_in(&mut self.slots[at], alloc, at, keeper)?;
+        }
+        Ok(())
+    }
+
+    /// Has each sector that is behind begin its window anew, and gives each the number of the
+    /// version that judges the open windows, where the keeper knows that its window began with its
+    /// part of the world. What is lifted next is then what the keeper has of it.
+    pub fn catch_up(&mut self, alloc: Global, keeper: &Keeper<A>) -> Result<(), AllocError>
+        ensures { self.new.bounds ≡ self.old.bounds }
+    {
+        self.begin_each_anew(alloc, keeper)?;
         for at in 0..self.slots.len() {
             catch_up_in(&mut self.slots[at], keeper);
         }
+        Ok(())
+    }
+
+    // Has each sector that is behind begin its window anew.
+    fn begin_each_anew(&mut self, alloc: Global, keeper: &Keeper<A>) -> Result<(), AllocError>
+        ensures { self.new.bounds ≡ self.old.bounds }
+    {
+        for at in 0..self.slots.len() {
+            self.begin_anew(alloc, at, keeper)?;
+        }
+        Ok(())
     }
 
     // Makes the tick of sectors in which nothing was recorded, and takes none of them out of its
@@ -209,7 +239,7 @@ impl<A: Places, B: Seats> World<A, B> {
         Ok(Some(ready))
     }
 
-    // Makes the tick of the sectors, each taken out of its place.
+    // Makes the tick of the sectors, each taken out of its place, once none is behind.
     fn tick_each<R: Threads + Wait + Sync, G: Gate + Sync>(
         &mut self,
         rt: &R,
@@ -227,6 +257,7 @@ impl<A: Places, B: Seats> World<A, B> {
         ensures torn { (k : ℕ) → result ≡ Err (Torn k) → k < A.all }
         ensures bounds { self.new.bounds ≡ self.old.bounds }
     {
+        self.begin_each_anew(alloc, keeper)?;
         let mut taken = Taken::with_room(alloc, self.slots.len())?;
         self.take_each(rt, keeper, &mut taken);
         let made = make(rt, alloc, keeper, &mut taken, workers, gate);
@@ -409,6 +440,19 @@ fn renew_in<A: Places>(slot: &mut Mutex<Slot<A>>, at: usize, keeper: &Keeper<A>,
     requires { IsBegun keeper.now.world at fresh }
 {
     slot.get_mut().renew(at, keeper, fresh);
+}
+
+// Has the sector in the place of that number, if it is there, begin its window anew where that is
+// behind.
+fn begin_anew_in<A: Places>(
+    slot: &mut Mutex<Slot<A>>,
+    alloc: Global,
+    at: usize,
+    keeper: &Keeper<A>,
+) -> Result<(), AllocError>
+    requires { at < A.all }
+{
+    slot.get_mut().begin_anew(alloc, at, keeper)
 }
 
 // Gives the sector in its place the number of the version that judges the open windows, where the

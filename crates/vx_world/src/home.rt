@@ -10,7 +10,7 @@ ghost use Rattle.vx_world.specs.Numbered.{IsSectorOf};
 use crate::books::Books;
 use crate::pass::Pass;
 use crate::seats::Seats;
-use std::alloc::AllocError;
+use std::alloc::{AllocError, Global};
 use std::sync::ledger::Share;
 use std::sync::{Mutex, Wait};
 use vx_block::Part;
@@ -49,12 +49,13 @@ impl<A: Places> Home<A> {
         (marked, share)
     }
 
-    /// Whether it is known to rest: nothing is recorded in its window, which the keeper has marked.
+    /// Whether it is known to rest: nothing is recorded in its window, which the keeper has marked
+    /// or which is behind.
     pub fn rests(&self, keeper: &Keeper<A>) -> bool
-        ensures { result ≡ true → (self.now.marked.entries ≡ [])
-            × IsPartOf keeper.now.world self.now.marked }
+        ensures { result ≡ true → self.now.marked.entries ≡ [] }
     {
-        self.marked.sector().entries().is_empty() && keeper.has_marked(&self.marked)
+        self.marked.sector().entries().is_empty()
+            && (keeper.has_marked(&self.marked) || keeper.is_behind(&self.marked))
     }
 
     /// Has it begin its next window with this, as `Keeper::renew` does, where it is the sector of
@@ -63,6 +64,19 @@ impl<A: Places> Home<A> {
         requires { IsBegun keeper.now.world at fresh }
     {
         keeper.renew(at, &mut self.marked, fresh);
+    }
+
+    /// Has it begin its window anew where that is behind, as `Keeper::begin_anew` does, where it is
+    /// the sector of that number.
+    pub fn begin_anew(
+        &mut self,
+        alloc: Global,
+        at: usize,
+        keeper: &Keeper<A>,
+    ) -> Result<(), AllocError>
+        requires { at < A.all }
+    {
+        keeper.begin_anew(alloc, at, &mut self.marked)
     }
 
     /// Gives it the number of the version that judges the open windows, as `Keeper::catch_up` does,

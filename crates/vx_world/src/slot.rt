@@ -1,8 +1,9 @@
-ghost use Rattle.std.specs.Prelude.{◌≡◌, ◌↔◌, Some, true};
+ghost use Rattle.std.specs.Prelude.{◌≡◌, ◌↔◌, ◌<◌, Some, true};
 ghost use Rattle.vx_keeper.specs.Marks.{IsBegun};
 ghost use Rattle.vx_world.specs.Settlements.{IsHome, IsHomeOf, sector_here};
 
 use crate::home::Home;
+use std::alloc::{AllocError, Global};
 use std::mem;
 use vx_geom::{Bounds, Pos};
 use vx_keeper::{Keeper, Places};
@@ -63,6 +64,22 @@ impl<A: Places> Slot<A> {
     {
         if let Some(home) = &mut self.home {
             home.renew(at, keeper, fresh);
+        }
+    }
+
+    /// Has the sector at home begin its window anew where that is behind, as `Home::begin_anew`
+    /// does.
+    pub fn begin_anew(
+        &mut self,
+        alloc: Global,
+        at: usize,
+        keeper: &Keeper<A>,
+    ) -> Result<(), AllocError>
+        requires { at < A.all }
+    {
+        match &mut self.home {
+            Some(home) => home.begin_anew(alloc, at, keeper),
+            None => Ok(()),
         }
     }
 

@@ -28,7 +28,8 @@ impl<A: Places, B: Seats> World<A, B> {
     /// that judged their windows, on 1 to 8 threads, and puts each back in its next window, which
     /// the policy judges that the keeper sees by then. It tells what becomes of the pistons' moves,
     /// in the order of positions. Where no tick is made, for want of memory or of a view too, the
-    /// sectors are put back as they were, and the keeper knows what it knew.
+    /// sectors are put back as they were, and the keeper knows what it knew. A sector that a lone
+    /// tick has left behind is torn to it, unless `catch_up` was called since.
     pub fn tick<R: Threads + Wait + Sync, G: Gate + Sync>(
         &self,
         rt: &R,

@@ -194,7 +194,7 @@ module _ (g : Over) (c : goal.Joined-mark g) where
 marks_are : (g : Over) (c : goal.Joined-mark g) → AreMarks c.give_all.new.self c.go_on-was.new.self
 marks_are g c =
     all_marked c.self.inside.marks c.give_all.new.self c.mark-mark.result c.go_on-was.new.self
-    (c.self.invariant.1.0 ∙ before_each g c) c.give_all.ensures.count c.give_all.ensures.given c.mark-mark.ensures
+    (c.self.invariant.1.0 ∙ before_each g c) c.give_all.ensures c.mark-mark.ensures
   where
     before_each : (g : Over) (c : goal.Joined-mark g)
         → length c.self.inside.known.map.sectors ≡ length c.go_on-was.new.self.map.sectors

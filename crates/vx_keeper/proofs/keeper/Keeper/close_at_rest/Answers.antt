@@ -12,8 +12,8 @@ use Rattle.vx_record.specs.Chronicles.{TickData, ChronicleData}
 use Rattle.vx_record.specs.Records.{tick_in}
 use Rattle.vx_record.specs.Archives.{IsNextTick}
 use Rattle.vx_keeper.specs.Keepers.{KeeperData, IsKeeper, chronicle_next, keeper_data, map_by, map_next, resting, version_next}
-use Rattle.vx_keeper.specs.Marks.{AreGiven, AreLed, AreMarks}
-use Rattle.vx_keeper.proofs.Giving.{led_marked}
+use Rattle.vx_keeper.specs.Marks.{AreGiven, AreLed, AreMarks, IsSamePolicy}
+use Rattle.vx_keeper.proofs.Giving.{next_marked}
 use Rattle.vx_keeper.proofs.Resting.{rest_counted, rest_is_next, rest_keeps, rest_told}
 use Rattle.vx_keeper.proofs.keeper.Keeper.close_at_rest.Given.{Over}
 use Rattle.vx_keeper.proofs.keeper.Keeper.close_at_rest.Goals as goal
@@ -120,16 +120,19 @@ led_are g c =
     (λ i. record { map = map_next k (resting k); version = sym c.requires.ready.version i }) ∙ sym (world_is g c) in
     subst (λ w. AreLed (length k.world.map.sectors) k.world w c.args.ready.next.items) next c.requires.ready.led
 
-marks_are : (g : Over) (c : goal.Joined-mark g) → AreMarks c.give_led.new.self c.go_on-was.new.self
+marks_are : (g : Over) (c : goal.Joined-mark g) → AreMarks c.give_next.new.self c.go_on-was.new.self
 marks_are g c =
     let k = c.args.self.now in
     let here = ap (λ (k : KeeperData). k.world) c.self.view_is in
     let marks : AreMarks c.self.inside.marks k.world = subst (AreMarks c.self.inside.marks) here c.self.invariant.1 in
     let many : length c.go_on-was.new.self.map.sectors ≡ length k.world.map.sectors =
     omega (arith, ap (λ (m : MapData). length m.sectors) (map_is g c), next_each g c, c.soundness.ensures.each) in
-    led_marked c.self.inside.marks c.give_led.new.self c.args.ready.next.items c.mark-mark.result k.world c.go_on-was.new.self
-    marks many (led_are g c) c.mark-mark.ensures
-    (subst (λ next. AreGiven c.self.inside.marks next c.mark-mark.result c.give_led.new.self) c.deref.ensures.value c.give_led.ensures)
+    let version = c.go_on-was.ensures.version ∙ c.requires.ready.version in
+    next_marked c.args.ready.is_same_policy c.self.inside.marks c.give_next.new.self c.args.ready.next.items
+    c.mark-mark.result k.world c.go_on-was.new.self marks many (led_are g c)
+    (λ stays. subst (IsSamePolicy k.world.version) (sym version) (c.requires.ready.same stays)) c.mark-mark.ensures
+    (λ stays. subst (λ next. AreGiven c.self.inside.marks next c.mark-mark.result c.give_next.new.self) c.deref.ensures.value
+    (c.give_next.ensures.led stays)) c.give_next.ensures.all
 
 pub returns-clause-begun : goal.returns-clause-begun
 returns-clause-begun g c = (led_are g c).0

@@ -21,12 +21,12 @@ use Rattle.vx_record.specs.Archives.{IsArchive, IsNextTick, next_counts}
 use Rattle.vx_record.proofs.Counting.{archive_grown, counts_fit, counts_go_on}
 use Rattle.vx_keeper.specs.Busy.{AreBusyOf, AreKeptOf, resting_but, with_each}
 use Rattle.vx_keeper.specs.Keepers.{IsKeeper, KeeperData, chronicle_next, fates_next, keeper_data, map_by, map_next, version_next}
-use Rattle.vx_keeper.specs.Marks.{AreGiven, AreLed, AreMarks, IsPartOf}
+use Rattle.vx_keeper.specs.Marks.{AreGiven, AreLed, AreMarks, IsPartOf, IsSamePolicy}
 use Rattle.vx_keeper.specs.Readiness.{CanLead}
 use Rattle.vx_keeper.specs.declared.ready_at_rest.ReadyAtRest.{ReadyAtRest}
 use Rattle.vx_keeper.proofs.Among.{all_of, but_each, but_held, but_sectors, but_windows, counts_again, parts_next}
 use Rattle.vx_keeper.proofs.Closing.{is_next, keeps, tick}
-use Rattle.vx_keeper.proofs.Giving.{led_marked}
+use Rattle.vx_keeper.proofs.Giving.{next_marked}
 use Rattle.vx_keeper.proofs.Knowing.{AreAsKnown}
 use Rattle.vx_keeper.proofs.keeper.Keeper.close_busy.Given.{Over}
 use Rattle.vx_keeper.proofs.keeper.Keeper.close_busy.Goals as goal
@@ -232,14 +232,17 @@ module _ (g : Over) (c : goal.Joined-mark g) where
   led_are =
       subst (λ w. AreLed (length k.world.map.sectors) k.world w c.args.ready.lead.next.items) (sym world_is) c.requires.ready.lead.led
 
-  marks_are : AreMarks c.give_led.new.self c.go_on-was.new.self
+  marks_are : AreMarks c.give_next.new.self c.go_on-was.new.self
   marks_are =
       let marks = subst (AreMarks c.self.inside.marks) (ap (λ (k : KeeperData). k.world) c.self.view_is) c.self.invariant.1 in
       let long : length c.go_on-was.new.self.map.sectors ≡ length k.world.map.sectors =
       omega (arith, ap (λ (m : MapData). length m.sectors) map_is, as_many_next, c.soundness.ensures.each) in
-      led_marked c.self.inside.marks c.give_led.new.self c.args.ready.lead.next.items c.mark-mark.result k.world c.go_on-was.new.self
-      marks long led_are c.mark-mark.ensures
-      (subst (λ next. AreGiven c.self.inside.marks next c.mark-mark.result c.give_led.new.self) c.deref.ensures.value c.give_led.ensures)
+      let version = c.go_on-was.ensures.version ∙ c.requires.ready.lead.version in
+      next_marked c.args.ready.lead.is_same_policy c.self.inside.marks c.give_next.new.self c.args.ready.lead.next.items
+      c.mark-mark.result k.world c.go_on-was.new.self marks long led_are
+      (λ stays. subst (IsSamePolicy k.world.version) (sym version) (c.requires.ready.lead.same stays)) c.mark-mark.ensures
+      (λ stays. subst (λ next. AreGiven c.self.inside.marks next c.mark-mark.result c.give_next.new.self) c.deref.ensures.value
+      (c.give_next.ensures.led stays)) c.give_next.ensures.all
 
 pub invariant_of-self : goal.invariant_of-self
 invariant_of-self g c = (

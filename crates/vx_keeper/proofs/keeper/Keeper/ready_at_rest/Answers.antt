@@ -6,7 +6,7 @@ use Rattle.vx_still.specs.Watching.{IsWatch}
 use Rattle.vx_tick.specs.Leaving.{IsPlanned}
 use Rattle.vx_tick.specs.Ticks.{fates_on, stepped}
 use Rattle.vx_keeper.specs.Keepers.{KeeperData, map_next, resting, version_next}
-use Rattle.vx_keeper.specs.Marks.{AreLed}
+use Rattle.vx_keeper.specs.Marks.{AreLed, IsSamePolicy}
 use Rattle.vx_keeper.specs.Readiness.{IsReadyAtRest}
 use Rattle.vx_keeper.proofs.Resting.{rest_map}
 use Rattle.vx_keeper.proofs.keeper.Keeper.ready_at_rest.Goals as goal
@@ -46,4 +46,5 @@ returns-clause-ready g c =
       led =
           subst (λ w. AreLed (length k.world.map.sectors) k.world w ready.next.items)
           (λ i. record { map = sym next i; version = version i }) is.led;
+      same = λ stays. subst (IsSamePolicy k.world.version) version (is.same stays);
     }

@@ -8,7 +8,7 @@ use Rattle.vx_tick.specs.Leaving.{IsPlanned}
 use Rattle.vx_windows.specs.Sectors.{cells_of, with_changes}
 use Rattle.vx_keeper.specs.Busy.{AreNextOf, resting_but, with_each}
 use Rattle.vx_keeper.specs.Keepers.{KeeperData, keeper_data, map_by, map_next, map_now, version_next}
-use Rattle.vx_keeper.specs.Marks.{AreLed, WorldData}
+use Rattle.vx_keeper.specs.Marks.{AreLed, IsSamePolicy, WorldData}
 use Rattle.vx_keeper.specs.Readiness.{IsReadyForBusy}
 use Rattle.vx_keeper.proofs.Among.{but_each, but_held, but_map, but_sectors, but_there, still_busy}
 use Rattle.vx_keeper.proofs.Knowing.{whole_now}
@@ -61,6 +61,7 @@ returns-clause-ready g c =
         led =
             subst (λ w. AreLed (length k.world.map.sectors) k.world w ready.lead.next.items)
             (λ i. record { map = next i; version = version i }) is.lead.led;
+        same = λ stays. subst (IsSamePolicy k.world.version) version (is.lead.same stays);
       };
       renew = record {
         fresh =

@@ -8,7 +8,7 @@ use Rattle.vx_windows.proofs.Changing.{changed_none}
 use Rattle.vx_keeper.specs.Keepers.{map_by}
 use Rattle.vx_keeper.specs.Marks.{AreLed}
 use Rattle.vx_keeper.specs.Readiness.{IsReadyAtRest}
-use Rattle.vx_keeper.proofs.Nexts.{all_go_on, none_change}
+use Rattle.vx_keeper.proofs.Nexts.{all_keep, none_change}
 use Rattle.vx_keeper.proofs.ready_at_rest.ReadyAtRest.new.Goals as goal
 
 pub returns-then-is_empty : goal.returns-then-is_empty
@@ -28,7 +28,8 @@ returns-then-is_empty c =
       led =
           subst (AreLed (length world.map.sectors) world (record { map = with_cells_on world.map puts.items; version = c.args.version }))
           (sym c.new-then-is_empty.ensures.items)
-          (all_go_on world c.args.version (with_cells_on world.map puts.items) same (c.requires c.if-is_same_policy.true));
+          (all_keep world c.args.version (with_cells_on world.map puts.items) same);
+      same = c.requires;
     }
 
 pub over-requires-clause-placed : goal.over-requires-clause-placed

@@ -32,13 +32,12 @@ returns-clause-ready c =
     ∙ c.in_ok-put_in_changes.ensures.put
     ∙ (λ i. with_cells_on (map_by (c.bounds.ensures i) (with_changes (c.requires.cells i) (c.deref_mut.ensures.value i))) (c.as_slice-2.ensures.value i)) in
     let v = c.args.version in
-    let same = c.args.is_same_policy in
     let cells = c.args.cells.now in
     let all = c.in_ok-next.next.items in
-    let are : AreNext v same cs next (length cs) all =
-    subst (λ ys. AreNext v same cs ys (length cs) all) (c.deref.ensures.value ∙ sym (written c))
-    (subst (λ ds. AreNext v same ds c.deref.result.now (length ds) all) c.requires.cells
-    (subst (λ n. AreNext v same (map (λ d. d.now) cells) c.deref.result.now n all) (sym (length-map cells (λ d. d.now)))
+    let are : AreNext v cs next (length cs) all =
+    subst (λ ys. AreNext v cs ys (length cs) all) (c.deref.ensures.value ∙ sym (written c))
+    (subst (λ ds. AreNext v ds c.deref.result.now (length ds) all) c.requires.cells
+    (subst (λ n. AreNext v (map (λ d. d.now) cells) c.deref.result.now n all) (sym (length-map cells (λ d. d.now)))
     c.in_ok-next.ensures)) in
     record {
       version = refl;
@@ -47,7 +46,8 @@ returns-clause-ready c =
       watch = refl;
       few = omega (arith, as_many c, ap length (written c));
       after = ap (λ ys. map_by world.map.sizes (with_changes cs ys)) (sym (written c)) ∙ after;
-      led = led_by world v same next all (with_cells_on now puts.items) after c.requires.same are;
+      led = led_by world v next all (with_cells_on now puts.items) after are;
+      same = c.requires.same;
     }
 
 pub returns-clause-each : goal.returns-clause-each

@@ -23,7 +23,7 @@ use vx_sector::{Refusal, Reply};
 use vx_world::{Seats, World};
 
 // A thread that carries out fewer requests than so many costs more than it saves.
-const WORTH_A_THREAD: usize = 256;
+const WORTH_A_THREAD: usize = 2048;
 
 impl<A: Places + Send + Sync, B: Seats + Send + Sync> Session<A, B> {
     /// Carries out what is asked for, and tells the answers in the order of the requests. Where

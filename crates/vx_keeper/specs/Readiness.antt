@@ -1,6 +1,6 @@
 -- What is made before the windows of sectors are closed.
 use Rattle.std.specs.List.{All}
-use Rattle.std.specs.Prelude.{◌≡◌, ℕ, ◌<◌, ◌≤◌, Bool, true, false, List, [], length, map, slice_get, slice_index_or, vec_capacity, Option, None, Some}
+use Rattle.std.specs.Prelude.{◌≡◌, ℕ, ◌<◌, ◌≤◌, true, false, List, [], length, map, slice_get, slice_index_or, vec_capacity, Option, None, Some}
 use Rattle.vx_cells.specs.SectorCells.{SectorCells}
 use Rattle.vx_cells.specs.Maps.{AreSectors, MapData}
 use Rattle.vx_cells.specs.Wholes.{with_cells_on}

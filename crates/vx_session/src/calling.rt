@@ -8,14 +8,31 @@ ghost use Rattle.vx_session.specs.Sessions.{edits_to};
 
 use crate::fronts::is_last;
 use crate::session_error::SessionError;
+use std::alloc::{AllocError, Global};
 use std::sync::Wait;
 use vx_board::{DeskError, Listed, Refused};
 use vx_geom::Bounds;
-use vx_keeper::Places;
+use vx_keeper::{Keeper, Places};
 use vx_policy::EditRefusal;
 use vx_sector::{Cmd, Refusal, Reply};
 use vx_step::NoGate;
 use vx_world::{Pass, Seats, World};
+
+/// Has the sector of that number begin its window anew, where it is one and a tick left it behind.
+// No clause tells which was behind: if one stayed so, the next tick or the settlement would say so.
+pub(crate) fn begin_anew<A: Places, B: Seats>(
+    alloc: Global,
+    world: &mut World<A, B>,
+    keeper: &Keeper<A>,
+    sector: Option<u32>,
+) -> Result<(), AllocError>
+    ensures { world.new.bounds ≡ world.old.bounds }
+{
+    match sector {
+        Some(number) => world.begin_anew(alloc, number as usize, keeper),
+        None => Ok(()),
+    }
+}
 
 /// Carries out a command with the pass, in the world with these bounds, whose sector of that number
 /// holds its position, and tells the answer. Where there is no room or no memory for the record,

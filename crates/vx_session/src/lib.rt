@@ -2,7 +2,6 @@
 //! the proof in the end that all answers were those of the rules.
 #![tactic(auto)]
 
-mod behind;
 mod calling;
 mod explaining;
 mod fronts;

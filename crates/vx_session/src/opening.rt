@@ -3,7 +3,6 @@ ghost use Rattle.std.specs.Prelude.{◌≡◌, ◌+◌, ◌*◌, ◌<◌, ◌≤
 ghost use Rattle.vx_step.specs.declared.workers.TheConstants.{MAX_WORKERS};
 ghost use Rattle.vx_session.specs.Sessions.{IsOf, opening_of, ticks_of};
 
-use crate::behind::Behind;
 use crate::player::players_of;
 use crate::session::Session;
 use std::alloc::{AllocError, Global};
@@ -40,7 +39,6 @@ impl<A: Places, B: Seats> Session<A, B> {
         let names = NameIndex::new(alloc, opening.names())?;
         let (world, keeper, passes) = World::<A, B>::new(alloc, opening, view, blanks)?;
         let players = players_of(alloc, passes)?;
-        let behind = Behind::none(alloc, bounds.sectors() as usize)?;
         Ok(Session {
             bounds,
             world,
@@ -50,7 +48,6 @@ impl<A: Places, B: Seats> Session<A, B> {
             view: None,
             last: None,
             marks: Vec::new(alloc),
-            behind,
             workers,
         })
     }

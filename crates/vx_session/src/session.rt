@@ -6,8 +6,7 @@ ghost use Rattle.vx_record.specs.Chronicles.{IsSeatOf};
 ghost use Rattle.vx_audit.specs.Deeds as deeds;
 ghost use Rattle.vx_session.specs.Sessions.{IsSession, Does, Stays, opening_of, ticks_of, names_of, edits_to, player_in};
 
-use crate::behind::Behind;
-use crate::calling::{called, cause_of};
+use crate::calling::{begin_anew, called, cause_of};
 use crate::fronts::is_next;
 use crate::marking::{busy_sectors, call_mark, sector_at};
 use crate::player::Player;
@@ -42,7 +41,6 @@ pub struct Session<A: Places, B: Seats> {
     pub(crate) view: Option<View<A>>,
     pub(crate) last: Option<Listed<A>>,
     pub(crate) marks: Vec<Mark>,
-    pub(crate) behind: Behind,
     pub(crate) workers: usize,
 }
 
@@ -76,7 +74,6 @@ impl<A: Places, B: Seats> Drop for Session<A, B> {
             view: _view,
             last: _last,
             marks: _marks,
-            behind: _behind,
             workers: _,
         } = self;
     }
@@ -121,13 +118,12 @@ impl<A: Places, B: Seats> Session<A, B> {
             keeper,
             players,
             marks,
-            behind,
             ..
         } = self;
         // Before the command: where it is answered, its mark has room.
         marks.reserve(1)?;
         let sector = sector_at(bounds, cmd.place());
-        behind.bring_on(world, keeper, sector)?;
+        begin_anew(*marks.allocator(), world, keeper, sector)?;
         let player = &mut players[seat];
         let number = player.pass.seat().number;
         let answer = called(bounds, world, rt, &mut player.pass, sector, &cmd)?;
@@ -203,7 +199,6 @@ impl<A: Places, B: Seats> Session<A, B> {
             busy.as_deref(),
         )?;
         self.marks.push_reserved(Mark::Tick);
-        self.behind.note(&self.keeper);
         Ok(fates)
     }
 
@@ -235,7 +230,6 @@ impl<A: Places, B: Seats> Session<A, B> {
             view: _view,
             last,
             marks,
-            behind: _behind,
             workers: _,
         } = self;
         (world, keeper, players, last, marks)

@@ -6,7 +6,7 @@ ghost use Rattle.vx_sector.specs.SectorData.{EntryData};
 ghost use Rattle.vx_session.specs.Blocks.{marks_asked, player_data, AreAsked, AreCarriedOut, AreMade, AreTold, HasPlayed, HaveAllPlayed, HaveAnswers, HavePasses};
 ghost use Rattle.vx_session.specs.Sessions.{Does, Stays, names_of, pass_in, player_in};
 
-use crate::calling::called;
+use crate::calling::{begin_anew, called};
 use crate::halving::at_once;
 use crate::marking::{call_mark, sector_at};
 use crate::player::Player;
@@ -18,7 +18,7 @@ use std::sync::Wait;
 use std::thread::Threads;
 use vx_audit::Mark;
 use vx_geom::Bounds;
-use vx_keeper::Places;
+use vx_keeper::{Keeper, Places};
 use vx_sector::{Refusal, Reply};
 use vx_world::{Seats, World};
 
@@ -49,16 +49,32 @@ impl<A: Places + Send + Sync, B: Seats + Send + Sync> Session<A, B> {
             keeper,
             players,
             marks,
-            behind,
             ..
         } = self;
         // Before the calls: where they are answered, their marks have room.
         marks.reserve(requests.len() + 2)?;
-        behind.bring_on_each(bounds, world, keeper, requests)?;
+        begin_all_anew(alloc, bounds, world, keeper, requests)?;
         let answers = answers_of(rt, alloc, bounds, world, players, requests)?;
         mark_all(bounds, requests, marks);
         Ok(answers)
     }
+}
+
+// Has each sector in which something is asked for begin its window anew, where a tick left it
+// behind.
+fn begin_all_anew<A: Places, B: Seats>(
+    alloc: Global,
+    bounds: &Bounds,
+    world: &mut World<A, B>,
+    keeper: &Keeper<A>,
+    requests: &[Request],
+) -> Result<(), AllocError>
+    ensures { world.new.bounds ≡ world.old.bounds }
+{
+    for request in requests {
+        begin_anew(alloc, world, keeper, sector_at(bounds, request.cmd.place()))?;
+    }
+    Ok(())
 }
 
 // Has the players do what is asked for, at once where threads are worth it, and tells the answers

@@ -65,7 +65,8 @@ impl<A: Places> Keeper<A> {
     }
 
     /// Whether another policy judges the sector's window than the one that judges the open windows.
-    /// No clause tells the answer: if it were wrong, the sector would be torn to the next tick.
+    /// No clause tells the answer. If it were wrongly no, the sector would stay behind and be torn
+    /// to the next tick; if it were wrongly yes, its window would begin once more.
     pub fn is_behind(&self, marked: &Marked<A>) -> bool {
         marked.sector().version().edits != self.version().edits
     }

@@ -16,7 +16,7 @@ invariant_of-self-in_err-answer g c =
     let named = subst (λ (s : SessionData). c.args.seat < length (names_of s)) (sym c.self.view_is) c.requires in
     let inv = c.self.invariant in
     let same = ap seat_of c.called.ensures.seat in
-    (session_stays _ _ _ _ _ _ _ _ _ _ inv.0 named c.index_mut-player.ensures.value same, c.bring_on.ensures ∙ inv.1, inv.2, inv.3, inv.4, inv.5, inv.6)
+    (session_stays _ _ _ _ _ _ _ _ _ _ inv.0 named c.index_mut-player.ensures.value same, c.begin_anew.ensures ∙ inv.1, inv.2, inv.3, inv.4, inv.5, inv.6)
 
 pub returns-in_err-answer-clause-refused : goal.returns-in_err-answer-clause-refused
 returns-in_err-answer-clause-refused g c =
@@ -32,7 +32,7 @@ invariant_of-self-2 g c =
     let named = subst (λ (s : SessionData). c.args.seat < length (names_of s)) (sym c.self.view_is) c.requires in
     let inv = c.self.invariant in
     let same = ap seat_of c.called.ensures.seat in
-    (session_stays _ _ _ _ _ _ _ _ _ _ inv.0 named c.index_mut-player.ensures.value same, c.bring_on.ensures ∙ inv.1, inv.2, inv.3, inv.4, inv.5, inv.6)
+    (session_stays _ _ _ _ _ _ _ _ _ _ inv.0 named c.index_mut-player.ensures.value same, c.begin_anew.ensures ∙ inv.1, inv.2, inv.3, inv.4, inv.5, inv.6)
 
 pub returns-clause-called : goal.returns-clause-called
 returns-clause-called g c = λ name seated.

@@ -1,5 +1,5 @@
 use Rattle.std.proofs.Common.{◌≡◌}
-use Rattle.vx_session.proofs.behind.Behind.bring_on_each.Given as goal
+use Rattle.vx_session.proofs.together.begin_all_anew.Given as goal
 
 -- the world has the same size
 abbrev pub invariant-loop-request : goal.invariant-loop-request

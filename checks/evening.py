@@ -71,7 +71,8 @@ class Host:
         with open(world, "w") as text:
             text.write(f"world {SIDE} {SIDE} 1 {vx.HEIGHTS[-1]}\n" + "".join(f"player p{player}\n" for player in range(PLAYERS)) + "set 1 0 1 obsidian\n")
         command = [os.path.join(ROOT, "tools/live"), world, "--port", "0", "--tick-every", "20", "--script", self.script, "--program", program]
-        self.child = subprocess.Popen(command, stdin=subprocess.PIPE, stdout=subprocess.PIPE, text=True)
+        pipe = subprocess.PIPE
+        self.child = subprocess.Popen(command, stdin=pipe, stdout=pipe, stderr=pipe, text=True)
         self.tokens = {}
         while line := self.child.stdout.readline():
             if line.startswith("listens "):
@@ -90,9 +91,11 @@ class Host:
         self.child.stdin.flush()
 
     def stop(self):
-        """Ends the evening, and gives the status."""
-        out, _ = self.child.communicate("stop\n", timeout=30)
-        return self.child.returncode, out
+        """Ends the evening while somebody is there who has not joined, and gives the status, what was told, and what went wrong."""
+        idle = Client(self.port, [])
+        out, wrong = self.child.communicate("stop\n", timeout=30)
+        idle.close()
+        return self.child.returncode, out, wrong
 
 
 def replayed(program, script):
@@ -127,13 +130,13 @@ def check(program):
         host = Host(program, folder)
         try:
             told, wrongs = follow(host)
-            status, out = host.stop()
+            status, out, wrong = host.stop()
         finally:
             host.child.kill()
         blocks_are_apart(host.script)
         again, replies = replayed(program, host.script)
-        if (status, again) != (0, 0):
-            raise ValueError(f"status {status}, and {again} when it was played again: {out}")
+        if (status, again, wrong) != (0, 0, ""):
+            raise ValueError(f"status {status}, and {again} when it was played again: {out}{wrong}")
         for player, (begins, ends) in told.items():
             due = replies[player]
             if begins != due[: len(begins)] or ends != due[len(due) - len(ends) :] or not ends and len(begins) != LINES:

@@ -4,6 +4,8 @@ from dataclasses import dataclass, field
 
 ROOT = os.path.dirname(os.path.dirname(os.path.abspath(__file__)))
 LINE_BYTES, SCRIPT_BYTES, BLOCK_COMMANDS = 4096, 16_777_216, 65_536
+# No number has more digits, leading zeros apart.
+LONGEST_NUMBER = 10
 # How many cells a world may be high, the first where its line doesn't say it; how many columns a chunk has on a side; the most sectors each way; and the most players.
 HEIGHTS, CHUNK, MOST_SECTORS, MOST_PLAYERS = (64, 128), 16, 16, 64
 # A piston's move takes its own cell, the twelve that it pushes at most, and the one behind them.
@@ -56,7 +58,8 @@ def number(word, low=-(2**31), high=2**31 - 1):
     digits = word.removeprefix("-")
     if not (digits.isascii() and digits.isdigit()):
         raise Faulty(f"{word} is no number")
-    if not low <= int(word) <= high:
+    # Python itself refuses to read a number of thousands of digits.
+    if len(digits.lstrip("0")) > LONGEST_NUMBER or not low <= int(word) <= high:
         raise Faulty(f"{word} is no number from {low} to {high}")
     return int(word)
 
@@ -206,6 +209,14 @@ def header_of(lines):
     return header, len(lines)
 
 
+def has_open_block(lines):
+    """Whether the last block of these lines has no end."""
+    is_open = False
+    for words in filter(None, map(words_of, lines)):
+        is_open = words[0] == "together" or is_open and words[0] != "end"
+    return is_open
+
+
 def place_of(words):
     """The place that three words are."""
     return tuple(map(int, words))
@@ -290,8 +301,10 @@ class Policy:
         try:
             for words in edits_of_file(file):
                 self.accept(words)
-        except (ImportError, ValueError, KeyError, TypeError) as wrong:
-            raise Faulty(f"{file} is no regions file, or this Python, before 3.11, reads none: {wrong}") from None
+        except ImportError:
+            raise Faulty("a regions file is read by Python 3.11 or a later one") from None
+        except (AttributeError, KeyError, TypeError, ValueError) as wrong:
+            raise Faulty(f"{file} is no regions file: {type(wrong).__name__}: {wrong}") from None
         self.tick()
 
     def accept(self, words):

@@ -1,5 +1,5 @@
 """What the tools share: the lines of scripts and replies by docs/FORMATS.md, the regions that edits leave, and the program as a child process."""
-import os, queue, subprocess, sys, threading
+import os, queue, re, subprocess, sys, threading
 from dataclasses import dataclass, field
 
 ROOT = os.path.dirname(os.path.dirname(os.path.abspath(__file__)))
@@ -209,12 +209,64 @@ def header_of(lines):
     return header, len(lines)
 
 
+def is_open_behind(first, is_open):
+    """Whether a block is open behind a line that begins so, where one was open before it or not."""
+    return first == "together" or is_open and first != "end"
+
+
 def has_open_block(lines):
     """Whether the last block of these lines has no end."""
     is_open = False
     for words in filter(None, map(words_of, lines)):
-        is_open = words[0] == "together" or is_open and words[0] != "end"
+        is_open = is_open_behind(words[0], is_open)
     return is_open
+
+
+def check_script(lines):
+    """Raises Faulty at the first line that a script may not have, and gives its players."""
+    header, is_body, is_open = Header(), False, False
+    for count, line in enumerate(lines, 1):
+        try:
+            check_text(line)
+            words = words_of(line)
+            if words:
+                check_order(words[0], header, is_body, is_open)
+                check_line(words, header.players)
+                check_header(words, header)
+                header.take(words)
+                is_body, is_open = is_body or words[0] not in HEADER, is_open_behind(words[0], is_open)
+        except Faulty as wrong:
+            raise Faulty(f"line {count} of the script: {wrong}") from None
+    if is_open:
+        raise Faulty("the script has a block without an end")
+    return header.players
+
+
+def check_order(first, header, is_body, is_open):
+    """Raises Faulty where no line that begins so may stand: behind this header, behind a line of the body, or in a block."""
+    if is_open and first not in ("as", "end"):
+        raise Faulty("a block has commands alone, up to its `end`")
+    if first == "end" and not is_open:
+        raise Faulty("no block has begun")
+    if first in HEADER and is_body:
+        raise Faulty("the header has ended before it")
+    if first == "world" and header.size or first != "world" and not header.size:
+        raise Faulty("the first line says the size of the world, `world SX SZ S`, and no other does")
+    if first not in HEADER and not 0 < len(header.players) <= MOST_PLAYERS:
+        raise Faulty(f"the header has {'no player' if not header.players else f'more than {MOST_PLAYERS} players'}")
+
+
+def check_header(words, header):
+    """Raises Faulty where a line of the header does not fit those before it."""
+    if words[0] == "player":
+        if not re.fullmatch("[A-Za-z0-9_]{1,16}", words[1]):
+            raise Faulty("a name is 1 to 16 letters, digits or _")
+        if words[1].lower() in header.players:
+            raise Faulty(f"{words[1]} is a player already")
+    elif words[0] == "set":
+        sizes = header.columns()[0], header.height, header.columns()[1]
+        if not all(0 <= at < size for at, size in zip(place_of(words[1:4]), sizes)):
+            raise Faulty("there is no such place in this world")
 
 
 def place_of(words):
@@ -223,13 +275,13 @@ def place_of(words):
 
 
 def read_lines(file):
-    """The lines of a script, or of replies; `-` is the standard input."""
+    """The lines of a script, or of replies, a letter for each byte; `-` is the standard input."""
     if file == "-":
         text = sys.stdin.buffer.read()
     else:
         with open(file, "rb") as opened:
             text = opened.read()
-    lines = text.decode("ascii", "replace").split("\n")
+    lines = text.decode("latin-1").split("\n")
     return lines if lines[-1] else lines[:-1]
 
 
@@ -403,7 +455,7 @@ class Program:
         """Hands on what is asked, up to its end. A program that has ended takes no more; its status tells."""
         try:
             while (text := self.texts.get()) is not None:
-                self.child.stdin.write(text.encode("ascii", "replace"))
+                self.child.stdin.write(text.encode("latin-1"))
                 self.child.stdin.flush()
             self.child.stdin.close()
         except BrokenPipeError:

@@ -4,8 +4,6 @@ from dataclasses import dataclass, field
 
 ROOT = os.path.dirname(os.path.dirname(os.path.abspath(__file__)))
 LINE_BYTES, SCRIPT_BYTES, BLOCK_COMMANDS = 4096, 16_777_216, 65_536
-# No number has more digits, leading zeros apart.
-LONGEST_NUMBER = 10
 # How many cells a world may be high, the first where its line doesn't say it; how many columns a chunk has on a side; the most sectors each way; and the most players.
 HEIGHTS, CHUNK, MOST_SECTORS, MOST_PLAYERS = (64, 128), 16, 16, 64
 # A piston's move takes its own cell, the twelve that it pushes at most, and the one behind them.
@@ -58,8 +56,7 @@ def number(word, low=-(2**31), high=2**31 - 1):
     digits = word.removeprefix("-")
     if not (digits.isascii() and digits.isdigit()):
         raise Faulty(f"{word} is no number")
-    # Python itself refuses to read a number of thousands of digits.
-    if len(digits.lstrip("0")) > LONGEST_NUMBER or not low <= int(word) <= high:
+    if not low <= int(word) <= high:
         raise Faulty(f"{word} is no number from {low} to {high}")
     return int(word)
 
@@ -200,8 +197,9 @@ def header_of(lines):
     """The header of a script, and how many lines it takes."""
     header = Header()
     for count, line in enumerate(lines):
-        words = words_of(line)
         try:
+            check_text(line)
+            words = words_of(line)
             if words and not header.take(words):
                 return header, count
         except Faulty as wrong:
@@ -479,6 +477,14 @@ class Program:
         for _ in self.child.stdout:
             pass
         return self.child.wait()
+
+
+def explained(status, lines):
+    """A program's status. Where it ended at a faulty line of its script it raises Faulty, with
+    words for that line."""
+    if status == 1:
+        check_script(lines)
+    return status
 
 
 def run(main):

@@ -92,9 +92,12 @@ class Host:
 
     def stop(self):
         """Ends the evening while somebody is there who has not joined, and gives the status, what was told, and what went wrong."""
-        idle = Client(self.port, [])
+        idle, stranger = Client(self.port, []), Client(self.port, ["x"])
+        # The stranger came last: once he is told that he is cut off, the idle one is in.
+        stranger.told(1)
         out, wrong = self.child.communicate("stop\n", timeout=30)
         idle.close()
+        stranger.close()
         return self.child.returncode, out, wrong
 
 

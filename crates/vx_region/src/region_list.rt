@@ -1,4 +1,4 @@
-ghost use Rattle.std.specs.Prelude.{◌≡◌, ◌+◌, ◌<◌, [], nat_eq, length, option_map, slice_get, Some, None, IfSome, IfNone};
+ghost use Rattle.std.specs.Prelude.{◌≡◌, ◌+◌, ◌<◌, [], nat_eq, length, option_map, slice_get, Some, None, IfSome, IfNone, IfOk};
 ghost use Rattle.std.specs.Map.{lookup};
 ghost use Rattle.std.specs.Option.{option_copied};
 ghost use Rattle.vx_region.specs.Blocks.{joined, AreInPlace, Holds, AreBefore};
@@ -43,6 +43,16 @@ impl RegionList {
         }
     }
 
+    // No regions, with room for so many blocks.
+    fn with_room(alloc: Global, blocks: usize) -> Result<RegionList, AllocError>
+        ensures { IfOk result (λ regions. regions ≡ []) }
+    {
+        Ok(RegionList {
+            len: 0,
+            blocks: Vec::with_capacity(alloc, blocks)?,
+        })
+    }
+
     /// How many regions there are.
     pub(crate) fn len(&self) -> usize
         ensures { result ≡ length self.now }
@@ -72,20 +82,15 @@ impl RegionList {
     }
 
     /// The region of that number.
+    #[inline]
     pub(crate) fn get(&self, number: u32) -> Option<&Region>
         requires { IsAscending 0 self.now }
         ensures { option_copied result ≡ lookup (nat_eq number) self.now }
     {
-        if number == 0 {
-            return None;
-        }
         if let Some(region) = self.in_place(number) {
             return Some(region);
         }
-        if let Some(region) = self.in_order(number) {
-            return Some(region);
-        }
-        Some(self.nth(self.place_of(number)?)?.1)
+        self.found(number)
     }
 
     // The region of that number, if it stands one place before its number. Each does until one
@@ -99,21 +104,54 @@ impl RegionList {
         if found == number { Some(region) } else { None }
     }
 
-    // The region of that number, if it stands in the last block that begins by it. It stands there
-    // if anywhere. No clause says so: only costs rest on it.
-    fn in_order(&self, number: u32) -> Option<&Region>
+    // The region of that number, wherever it stands. It is never inlined: most looks end before it
+    // is called, and would pay for its size.
+    #[inline(never)]
+    fn found(&self, number: u32) -> Option<&Region>
         requires { IsAscending 0 self.now }
-        ensures { IfSome result (λ region. lookup (nat_eq number) self.now ≡ Some region.now) }
+        ensures { option_copied result ≡ lookup (nat_eq number) self.now }
+    {
+        if number == 0 {
+            return None;
+        }
+        if let Some((_, region)) = self.in_order(number) {
+            return Some(region);
+        }
+        Some(self.nth(self.searched(number)?)?.1)
+    }
+
+    // The place of the region of that number.
+    fn place_of(&self, number: u32) -> Option<usize>
+        requires { IsAscending 0 self.now }
+        ensures found { IfSome result (λ place.
+            option_map (λ e. e.0) (slice_get self.now place) ≡ Some number) }
+        ensures none { IfNone result (lookup (nat_eq number) self.now ≡ None) }
+    {
+        if let Some((place, _)) = self.in_order(number) {
+            return Some(place);
+        }
+        self.searched(number)
+    }
+
+    // The region of that number and its place, if it stands in the last block that begins by it. It
+    // stands there if anywhere. No clause says so: only costs rest on it.
+    fn in_order(&self, number: u32) -> Option<(usize, &Region)>
+        ensures { IfSome result (λ r. slice_get self.now r.0 ≡ Some (number, r.1.now)) }
     {
         let behind = self.blocks.partition_point(|block| block.begins_by(number));
         let block = self.blocks.get(behind.checked_sub(1)?)?;
-        let (found, region) = block.at(block.place_near(number))?;
-        if found == number { Some(region) } else { None }
+        let place = block.place_near(number);
+        let (found, region) = block.at(place)?;
+        if found == number {
+            Some((place, region))
+        } else {
+            None
+        }
     }
 
-    // The place of the region of that number. It looks at a few places, since numbers ascend and
-    // only those that were removed are left out.
-    fn place_of(&self, number: u32) -> Option<usize>
+    // The place of the region of that number, looked for among all. It looks at a few places, since
+    // numbers ascend and only those that were removed are left out.
+    fn searched(&self, number: u32) -> Option<usize>
         requires { IsAscending 0 self.now }
         ensures found { IfSome result (λ place.
             option_map (λ e. e.0) (slice_get self.now place) ≡ Some number) }

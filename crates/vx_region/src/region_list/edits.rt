@@ -62,7 +62,7 @@ impl RegionList {
         ensures { IfOk result (λ kept. kept ≡ remove self.now place) }
     {
         let index = block_of(&self.blocks, place);
-        let mut kept = RegionList::new(self.allocator());
+        let mut kept = RegionList::with_room(self.allocator(), self.blocks.len())?;
         kept.append_all(&self.blocks[..index])?;
         kept.append(self.blocks[index].without(place)?)?;
         kept.append_all(&self.blocks[index + 1..])?;

@@ -1,6 +1,6 @@
 use Rattle.std.proofs.Common.{◌-◌, ◌≤◌, length}
 use Rattle.vx_region.specs.Blocks.{AreBefore, AreBehind}
-use Rattle.vx_region.proofs.region_list.RegionList.place_of.Given as goal
+use Rattle.vx_region.proofs.region_list.RegionList.searched.Given as goal
 
 -- the number is at no place but those that are left
 abbrev pub invariant-loop-low : goal.invariant-loop-low

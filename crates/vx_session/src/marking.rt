@@ -8,7 +8,7 @@ use vx_geom::{Bounds, Pos};
 
 // A busy sector costs more where it alone is taken out of its place: with fewer sectors than so
 // many for each that is busy it costs less to take out all.
-const SECTORS_FOR_EACH_BUSY: usize = 8;
+const SECTORS_FOR_EACH_BUSY: usize = 4;
 
 /// The number of the sector that holds the position; none outside the world.
 pub(crate) fn sector_at(bounds: &Bounds, p: Pos) -> Option<u32>

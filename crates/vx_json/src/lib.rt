@@ -1,8 +1,10 @@
 //! The record of a world as lines of JSON, and the words of commands, positions and fates in it.
 #![tactic(auto)]
 
+mod call_object;
 mod command_words;
 mod fate_line;
+mod fate_object;
 pub mod laws;
 mod objects;
 mod place;

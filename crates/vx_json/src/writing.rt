@@ -8,6 +8,8 @@ ghost use Rattle.vx_record.specs.Records.{tick_in, chronicle_in};
 ghost use Rattle.vx_json.specs.Records.{call_line, fate_line, calls_text, tick_text, record_text};
 ghost use Rattle.vx_json.specs.Texts.{line_text};
 
+use crate::call_object::CallObject;
+use crate::fate_object::FateObject;
 use crate::objects::{call_json, fate_json};
 use crate::record_error::RecordError;
 use crate::texts::{answer_text, cmd_text, fate_text};
@@ -120,14 +122,14 @@ fn call_line(alloc: Global, tick: u64, sector: usize, entry: &Entry) -> Result<S
     let reply = answer_text(alloc, &entry.answer)?;
     let name = entry.seat.name;
     name.spelling();
-    call_json(
-        alloc,
-        cmd.as_str(),
-        name.as_str(),
-        reply.as_str(),
+    let call = CallObject {
+        cmd: cmd.as_str(),
+        player: name.as_str(),
+        reply: reply.as_str(),
         sector,
         tick,
-    )
+    };
+    call_json(alloc, &call)
 }
 
 // Writes the fates of a tick.
@@ -158,6 +160,10 @@ fn write_fate<W: Write>(
         (fate_line tick (p, fate))) }
 {
     let text = fate_text(alloc, p, fate)?;
-    let line = fate_json(alloc, text.as_str(), tick)?;
+    let told = FateObject {
+        fate: text.as_str(),
+        tick,
+    };
+    let line = fate_json(alloc, &told)?;
     writeln!(writer, "{line}").map_err(|_| RecordError::WriteFailed)
 }

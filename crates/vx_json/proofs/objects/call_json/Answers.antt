@@ -1,16 +1,12 @@
-use Rattle.std.proofs.Common.{ap, ◌∙◌}
-use Rattle.std.proofs.lemmas.Result.{IfOk-weaker}
-use Rattle.serde_json.specs.Written.{compact_text, has_float}
+use Rattle.std.proofs.Common.{◌∙◌, refl, string_bytes}
+use Rattle.serde_json.proofs.FreeTexts.{text_of_value}
+use Rattle.vx_json.specs.Objects.{call_data}
 use Rattle.vx_json.proofs.Compact.{call_written}
 use Rattle.vx_json.proofs.objects.call_json.Goals as goal
 
-pub returns : goal.returns
-returns c =
-    let cmd = c.args.cmd.now in
-    let player = c.args.player.now in
-    let reply = c.args.reply.now in
-    let built = c.in_ok-value.ensures in
-    IfOk-weaker c.to_string.result _ _
-    (λ s written. written (ap has_float built) ∙ ap compact_text built
-    ∙ call_written cmd player reply c.args.sector c.args.tick c.requires.cmd c.requires.player c.requires.reply)
-    c.to_string.ensures.text
+pub returns-in-Ok : goal.returns-in-Ok
+returns-in-Ok c =
+    let call = c.args.call.now in
+    let sent = c.in-Ok.ensures.events in
+    text_of_value (call_data call.cmd.now call.player.now call.reply.now call.sector call.tick) sent.0 (string_bytes c.in-Ok.text) sent.1 sent.2 refl
+    ∙ call_written call.cmd.now call.player.now call.reply.now call.sector call.tick c.requires.cmd c.requires.player c.requires.reply

@@ -1,5 +1,5 @@
 -- What a set of positions has once one of them was taken away.
-use Rattle.std.proofs.Common.{◌≡◌, ℕ, ◌*◌, ◌<◌, Bool, true, false, not, ◌&&◌, nat_eq, List, length, get_or, set, Option, Some, None, inl, inr, IfSome, refl, ap, sym, subst, ◌∙◌, arith}
+use Rattle.std.proofs.Common.{◌≡◌, ℕ, ◌*◌, ◌<◌, Bool, true, false, not, ◌&&◌, nat_eq, List, [], length, get_or, set, Option, Some, None, inl, inr, IfSome, refl, ap, sym, subst, ◌∙◌, arith}
 use Rattle.std.proofs.lemmas.Bool.{cases_eq, cases_Bool, eq-eqb, ne_eqb}
 use Rattle.std.proofs.lemmas.List.{length-set, get_or-set_same, get_or-set_other}
 use Rattle.vx_geom.specs.declared.pos.Pos.{Pos}
@@ -7,7 +7,7 @@ use Rattle.vx_geom.specs.Sizes.{Sizes, AreSizes, is_inside, sector_cells, sector
 use Rattle.vx_geom.proofs.SectorLemmas.{held_at, same_index}
 use Rattle.vx_cells.proofs.Indices.{numbered}
 use Rattle.vx_places.specs.Places.{PlacesData, marked_in, marks_at, is_at, steps_between, HasRoom, ArePlaces}
-use Rattle.vx_places.proofs.Marked.{number_of}
+use Rattle.vx_places.proofs.Marked.{number_of, no_entries}
 use Rattle.vx_places.proofs.Steps.{is_place, not_place, place_is}
 
 -- a mark stays where another is taken away
@@ -82,7 +82,10 @@ pub still_places : (v : Sizes) (marks : List (Option (List ℕ))) (k : ℕ) (new
     → k < length marks → HasRoom (sector_cells v) new → ArePlaces v (set marks k new)
 still_places v marks k new are there room = record {
   valid = are.valid;
-  all = length-set marks k new ∙ are.all;
+  all = elim are.all [
+    | inl none ↦ absurd (omega (arith, there, ap length none))
+    | inr each ↦ inr (length-set marks k new ∙ each)
+  ];
   each = λ j. elim (cases_eq j k) [
     | inl same ↦
         subst (HasRoom (sector_cells v))
@@ -90,3 +93,9 @@ still_places v marks k new are there room = record {
     | inr other ↦ subst (HasRoom (sector_cells v)) (sym (get_or-set_other marks k j new None other)) (are.each j)
   ];
 }
+
+-- where no sector has an entry nothing is taken away
+pub none_forgotten : (d : PlacesData) (p q : Pos) → d.marks ≡ [] → is_at d q ≡ (is_at d q && not (nat_eq (steps_between p q) 0))
+none_forgotten d p q none =
+    let away = no_entries d q none in
+    away ∙ sym (ap (λ here. here && not (nat_eq (steps_between p q) 0)) away)

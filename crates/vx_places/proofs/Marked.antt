@@ -72,13 +72,24 @@ is_nowhere d p none = by (sector_of d.sizes p)
     by (Some k) = ap (λ entry. marked_in entry (index_in_sector d.sizes p)) (no_entry d.marks k none)
 
 -- where nothing was ever marked there is no position
-pub nothing_marked : (v : Sizes) (n : ℕ) (p : Pos) → is_at (record { sizes = v; marks = replicate n unmarked }) p ≡ false
+nothing_marked : (v : Sizes) (n : ℕ) (p : Pos) → is_at (record { sizes = v; marks = replicate n unmarked }) p ≡ false
 unfolding is_at
 nothing_marked v n p = by (sector_of v p)
   where
     by : (s : Option ℕ) → marked_in (marks_at (replicate n unmarked) s) (index_in_sector v p) ≡ false
     by None = refl
     by (Some k) = ap (λ m. marked_in m (index_in_sector v p)) (none_at n k)
+
+-- and where no sector has an entry there is none either
+pub no_entries : (d : PlacesData) (p : Pos) → d.marks ≡ [] → is_at d p ≡ false
+no_entries d p none = ap (λ ms. is_at (record { sizes = d.sizes; marks = ms }) p) none ∙ nothing_marked d.sizes 0 p
+
+-- the entries that are made first add none
+pub entries_made : (v : Sizes) (old new : List (Option (List ℕ))) (n : ℕ) → old ≡ [] → new ≡ replicate n unmarked
+    → (p : Pos) → is_at (record { sizes = v; marks = new }) p ≡ is_at (record { sizes = v; marks = old }) p
+entries_made v old new n none made p =
+    ap (λ ms. is_at (record { sizes = v; marks = ms }) p) made ∙ nothing_marked v n p
+    ∙ sym (no_entries (record { sizes = v; marks = old }) p none)
 
 -- other marks of one sector, in which a run was marked that begins with a position's index
 module _ (v : Sizes) (marks : List (Option (List ℕ))) (p : Pos) (bits : ℕ) (new : Option (List ℕ))

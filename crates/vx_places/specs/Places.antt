@@ -1,5 +1,5 @@
 -- Sets of positions of a world, kept as marks by sector.
-use Rattle.std.specs.Prelude.{◌≡◌, ℕ, ◌+◌, ◌*◌, Bool, false, ◌&&◌, nat_eq, List, length, slice_index_or, Option, Some, None, ◌-ℤ◌, unsigned_abs}
+use Rattle.std.specs.Prelude.{◌≡◌, ◌⊎◌, ℕ, ◌+◌, ◌*◌, Bool, false, ◌&&◌, nat_eq, List, [], length, slice_index_or, Option, Some, None, ◌-ℤ◌, unsigned_abs}
 use Rattle.std.specs.List.{filter}
 use Rattle.vx_geom.specs.declared.pos.Pos.{Pos}
 use Rattle.vx_geom.specs.Places.{positions}
@@ -47,9 +47,9 @@ abbrev pub HasRoom : ℕ → Option (List ℕ) → Type 0
 HasRoom count None = Unit {0}
 HasRoom count (Some words) = 64 * length words ≡ count
 
--- what holds of every such set: its size is one that a world may have, each sector has an entry,
--- and marks have a bit for each place of their sector
+-- what holds of every such set: its size is one that a world may have, no sector has an entry or
+-- each has one, and marks have a bit for each place of their sector
 pub record ArePlaces (sizes : Sizes) (marks : List (Option (List ℕ))) : Type 0 where
   pub valid : AreSizes sizes
-  pub all : length marks ≡ sector_count sizes
+  pub all : (marks ≡ []) ⊎ (length marks ≡ sector_count sizes)
   pub each : (sector : ℕ) → HasRoom (sector_cells sizes) (slice_index_or marks sector None)

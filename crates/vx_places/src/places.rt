@@ -1,4 +1,4 @@
-ghost use Rattle.std.specs.Prelude.{◌≡◌, ◌+◌, ◌-◌, ◌*◌, ◌%◌, ◌<◌, ◌≤◌, ◌&&◌, ◌||◌, ℕ, pos, ◌-ℤ◌, unsigned_abs, false, true, not, nat_eq, nat_le, length, replicate, slice_index_or, if◌then◌else◌, None, Some, IfOk, OnOk, IfSome};
+ghost use Rattle.std.specs.Prelude.{◌≡◌, ◌+◌, ◌-◌, ◌*◌, ◌%◌, ◌<◌, ◌≤◌, ◌&&◌, ◌||◌, ℕ, [], pos, ◌-ℤ◌, unsigned_abs, false, true, not, nat_eq, nat_le, length, replicate, slice_index_or, if◌then◌else◌, None, Some, IfOk, OnOk, IfSome};
 ghost use Rattle.std.specs.List.{All, filter, list_any};
 ghost use Rattle.vx_geom.specs.declared.pos.Pos.{Pos};
 ghost use Rattle.vx_geom.specs.Places.{positions};
@@ -26,6 +26,7 @@ use vx_store::{MarkKind, marked_places};
 #[derive(Drop)]
 pub struct Places {
     bounds: Bounds,
+    // None before the first position is added, and then an entry for each sector.
     sectors: Vec<Option<Marks>>,
 }
 
@@ -40,16 +41,16 @@ impl Model for Places {
 }
 
 impl Places {
-    /// No positions of a world of this size.
-    pub fn new(alloc: Global, bounds: Bounds) -> Result<Places, AllocError>
-        ensures sizes { IfOk result (λ places. places.sizes ≡ bounds) }
-        ensures none { IfOk result (λ places. (p : Pos) → is_at places p ≡ false) }
+    /// No positions of a world of this size. It takes no memory.
+    pub fn new(alloc: Global, bounds: Bounds) -> Places
+        ensures sizes { result.sizes ≡ bounds }
+        ensures none { (p : Pos) → is_at result p ≡ false }
     {
         bounds.soundness();
-        Ok(Places {
+        Places {
             bounds,
-            sectors: unmarked(alloc, bounds.sectors())?,
-        })
+            sectors: Vec::new(alloc),
+        }
     }
 
     /// The size of the world.
@@ -88,7 +89,8 @@ impl Places {
         have_no_marks(&self.sectors)
     }
 
-    /// Adds a position, if it is of the world. Memory is wanted for the first of 4,096 places.
+    /// Adds a position, if it is of the world. Memory is wanted for the first of all, and for the
+    /// first of 4,096 places.
     pub fn mark(&mut self, alloc: Global, p: Pos) -> Result<(), AllocError>
         ensures sizes { self.new.sizes ≡ self.old.sizes }
         ensures marked { OnOk result ((q : Pos) → is_at self.new q
@@ -123,6 +125,9 @@ impl Places {
         ensures forgotten { (q : Pos) → is_at self.new q
             ≡ (is_at self.old q && not (nat_eq (steps_between p q) 0)) }
     {
+        if !self.has_entries() {
+            return;
+        }
         let bounds = self.bounds;
         if !bounds.inside(p) {
             return;
@@ -373,6 +378,47 @@ impl Places {
         ensures sizes { self.new.sizes ≡ self.old.sizes }
         ensures marked { OnOk result (Adds (in_run_from self.old.sizes p bits) self.old self.new) }
     {
+        self.make_entries(alloc)?;
+        self.mark_in_entry(alloc, sector, p, bits)
+    }
+
+    // Makes an entry for each sector, where there is none yet.
+    #[inline(always)]
+    fn make_entries(&mut self, alloc: Global) -> Result<(), AllocError>
+        ensures sizes { self.new.sizes ≡ self.old.sizes }
+        ensures same { (p : Pos) → is_at self.new p ≡ is_at self.old p }
+        ensures all { OnOk result (length self.new.marks ≡ sector_count self.new.sizes) }
+    {
+        if !self.has_entries() {
+            self.sectors = unmarked(alloc, self.bounds.sectors())?;
+        }
+        Ok(())
+    }
+
+    // Whether each sector has an entry; else none has.
+    #[inline(always)]
+    fn has_entries(&self) -> bool
+        ensures all { result ≡ true → length self.now.marks ≡ sector_count self.now.sizes }
+        ensures none { result ≡ false → self.now.marks ≡ [] }
+    {
+        !self.sectors.as_slice().is_empty()
+    }
+
+    // Adds the positions of such a run, where each sector has an entry.
+    #[inline(always)]
+    fn mark_in_entry(
+        &mut self,
+        alloc: Global,
+        sector: u32,
+        p: Pos,
+        bits: u64,
+    ) -> Result<(), AllocError>
+        requires all { length self.old.marks ≡ sector_count self.old.sizes }
+        requires inside { is_inside self.old.sizes p ≡ true }
+        requires number { sector ≡ sector_number self.old.sizes p }
+        ensures sizes { self.new.sizes ≡ self.old.sizes }
+        ensures marked { OnOk result (Adds (in_run_from self.old.sizes p bits) self.old self.new) }
+    {
         let index = self.bounds.index_in_sector(p);
         let count = self.bounds.sector_cells();
         mark_in(
@@ -404,6 +450,9 @@ impl Places {
     {
         self.soundness();
         let mut found = Vec::new(alloc);
+        if !self.has_entries() {
+            return Ok(found);
+        }
         for sector in 0..self.bounds().sectors() {
             let Some(marks) = self.marks_of(sector) else {
                 continue;
@@ -459,7 +508,8 @@ fn have_no_marks(sectors: &[Option<Marks>]) -> bool
     true
 }
 
-// So many sectors in which nothing is marked.
+// So many sectors in which nothing is marked. It is never inlined: it is called once for a set.
+#[inline(never)]
 fn unmarked(alloc: Global, count: u32) -> Result<Vec<Option<Marks>>, AllocError>
     ensures { IfOk result (λ sectors. sectors.items ≡ replicate count None) }
 {

@@ -21,7 +21,7 @@ pub fn linked_anew(alloc: Global, map: &Frozen<'_>) -> Result<KeptDust, AllocErr
     let places = components(alloc, map)?;
     Ok(KeptDust {
         levels: all_linked(alloc, map, places.as_slice())?,
-        unheeded: Places::new(alloc, map.bounds())?,
+        unheeded: Places::new(alloc, map.bounds()),
         components: places.len(),
     })
 }

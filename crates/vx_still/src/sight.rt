@@ -30,7 +30,7 @@ pub(crate) fn in_sight(
     if changed.is_empty() {
         return Ok(Vec::new(alloc));
     }
-    let mut places = Places::new(alloc, map.bounds())?;
+    let mut places = Places::new(alloc, map.bounds());
     mark_around_all(alloc, map, &mut places, changed, SIGHT, MarkKind::Component)?;
     places.all(alloc)
 }

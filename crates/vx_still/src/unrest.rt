@@ -62,7 +62,7 @@ pub fn unsettled(
     if components < put.len().saturating_mul(PER_LEVEL) {
         return Ok(Some(Look { places: None }));
     }
-    let mut places = Places::new(alloc, map.bounds())?;
+    let mut places = Places::new(alloc, map.bounds());
     mark_around_all(
         alloc,
         map,

@@ -13,8 +13,8 @@ use Rattle.vx_still.proofs.sight.in_sight.Goals as goal
 
 pub returns : goal.returns
 returns c =
-    let none = c.in_ok-places.ensures.none in
-    let sizes = c.in_ok-places.ensures.sizes ∙ c.bounds.ensures in
+    let none = c.new-places.ensures.none in
+    let sizes = c.new-places.ensures.sizes ∙ c.bounds.ensures in
     IfOk-weaker c.all.result
     (λ seen. (p : Pos) → list_any (λ q. nat_eq (steps_between q p) 0) seen.items
     ≡ is_at c.mark_around_all.new.places p)

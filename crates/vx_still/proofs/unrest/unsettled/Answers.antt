@@ -94,7 +94,7 @@ returns-clause-look c =
     let second = c.mark_all.new.self in
     let third = c.tell_all.new.places in
     let last = c.tell_all-2.new.places in
-    let sizes_0 = c.in_ok-places.ensures.sizes ∙ c.bounds.ensures in
+    let sizes_0 = c.new-places.ensures.sizes ∙ c.bounds.ensures in
     let sizes_1 = c.mark_around_all.ensures.sizes ∙ sizes_0 in
     let sizes_2 = c.in_ok-mark_all_heeders.ensures.sizes ∙ sizes_1 in
     let after_marks : (q : Pos) → is_at second q ≡ true → is_at last q ≡ true =
@@ -116,7 +116,7 @@ returns-clause-look c =
           (subst (AreMarkedFrom m heeded) (c.as_slice-6.ensures.value ∙ ap (λ d. d.turned) c.waking.view_is)
           c.in_ok-mark_all_heeders.ensures.marked q there))
           (λ q stands near. after_first q
-          (around_marked m c.as_slice-5.result.now c.in_ok-places.places first sizes_0 c.in_ok-mark_around_all.ensures.marked q stands
+          (around_marked m c.as_slice-5.result.now c.new-places.result first sizes_0 c.in_ok-mark_around_all.ensures.marked q stands
           (ap (list_any (λ d. is_kind_around Device (cell_on m) d 4 q)) (c.as_slice-5.ensures.value ∙ is) ∙ near)))
           (λ q stands listed. after_marks q
           (besides_marked m c.as_slice-7.result.now heeded second sizes_2 c.in_ok-mark_all.ensures.marked q stands

@@ -3,7 +3,13 @@ use Rattle.std.specs.List.{list_any}
 use Rattle.vx_geom.specs.Sizes.{sector_count}
 use Rattle.vx_places.specs.Places.{PlacesData, marked_places, steps_between}
 use Rattle.vx_places.proofs.Finding.{none_found, sector_found, found_next, found_whole}
+use Rattle.vx_places.proofs.Marked.{no_entries}
 use Rattle.vx_places.proofs.places.Places.all.Goals as goal
+
+pub returns-then-not-has_entries : goal.returns-then-not-has_entries
+returns-then-not-has_entries c = λ p.
+    ap (list_any (λ q. nat_eq (steps_between q p) 0)) c.new-found.ensures.items
+    ∙ sym (no_entries c.args.self.now p (c.if-not-has_entries.ensures.none refl))
 
 pub loop-sector-preserved-in_default : goal.loop-sector-preserved-in_default
 loop-sector-preserved-in_default c p =

@@ -1,12 +1,15 @@
-use Rattle.std.proofs.Common.{◌≡◌, ◌<◌, ◌&&◌, not, true, length, None, get_or, set, nat_eq, ap, sym, subst, ◌∙◌, arith}
+use Rattle.std.proofs.Common.{◌≡◌, ◌<◌, ◌&&◌, not, true, length, None, get_or, set, nat_eq, refl, ap, sym, subst, ◌∙◌, arith}
 use Rattle.std.proofs.lemmas.List.{get_or_read}
 use Rattle.vx_geom.specs.Sizes.{is_inside, sector_cells, sector_number}
 use Rattle.vx_geom.specs.declared.pos.Pos.{Pos}
 use Rattle.vx_cells.proofs.Indices.{number_below}
 use Rattle.vx_places.specs.Places.{marked_in, is_at, steps_between, HasRoom}
-use Rattle.vx_places.proofs.Forgetting.{outside_stays, room_for, still_places, place_cleared}
+use Rattle.vx_places.proofs.Forgetting.{none_forgotten, outside_stays, room_for, still_places, place_cleared}
 use Rattle.vx_places.proofs.places.Places.forget.Goals as goal
 use Rattle.vx_places.proofs.places.Places.forget.Goals.{After-sector_holding-number, After-index_mut}
+
+pub returns-then-not-has_entries-clause-forgotten : goal.returns-then-not-has_entries-clause-forgotten
+returns-then-not-has_entries-clause-forgotten c = λ q. none_forgotten c.args.self.now c.args.p q (c.if-not-has_entries.ensures.none refl)
 
 pub returns-then-not-inside-clause-forgotten : goal.returns-then-not-inside-clause-forgotten
 returns-then-not-inside-clause-forgotten c =
@@ -17,7 +20,9 @@ inside : (c : After-sector_holding-number) → is_inside c.self.inside.bounds c.
 inside c = sym c.inside.ensures ∙ c.if-not-inside.false
 
 near : (c : After-sector_holding-number) → sector_number c.self.inside.bounds c.args.p < length c.self.inside.sectors.items
-near c = omega (arith, number_below c.self.inside.bounds c.args.p c.self.invariant.valid (inside c), c.self.invariant.all)
+near c =
+    let all = rw (← c.self.view_is) at c.has_entries.ensures.all c.if-not-has_entries.false in
+    omega (arith, number_below c.self.inside.bounds c.args.p c.self.invariant.valid (inside c), all)
 
 pub index_mut-requires : goal.index_mut-requires
 index_mut-requires c =

@@ -237,7 +237,14 @@ def check_script(lines):
             raise Faulty(f"line {count} of the script: {wrong}") from None
     if is_open:
         raise Faulty("the script has a block without an end")
+    check_count(header.players)
     return header.players
+
+
+def check_count(players):
+    """Raises Faulty where there are more players than a world may have."""
+    if len(players) > MOST_PLAYERS:
+        raise Faulty(f"the header has more than {MOST_PLAYERS} players")
 
 
 def check_order(first, header, is_body, is_open):
@@ -250,8 +257,10 @@ def check_order(first, header, is_body, is_open):
         raise Faulty("the header has ended before it")
     if first == "world" and header.size or first != "world" and not header.size:
         raise Faulty("the first line says the size of the world, `world SX SZ S`, and no other does")
-    if first not in HEADER and not 0 < len(header.players) <= MOST_PLAYERS:
-        raise Faulty(f"the header has {'no player' if not header.players else f'more than {MOST_PLAYERS} players'}")
+    if first not in HEADER:
+        if not header.players:
+            raise Faulty("the header has no player")
+        check_count(header.players)
 
 
 def check_header(words, header):
@@ -270,6 +279,12 @@ def check_header(words, header):
 def place_of(words):
     """The place that three words are."""
     return tuple(map(int, words))
+
+
+def open_text(file):
+    """A file as text, `-` for the standard input. A byte that is no ASCII is replaced."""
+    is_input = file == "-"
+    return open(0 if is_input else file, encoding="ascii", errors="replace", closefd=not is_input)
 
 
 def read_lines(file):
@@ -488,7 +503,8 @@ def explained(status, lines):
 
 
 def run(main):
-    """Runs a tool, which gives its status. A line of words tells what it cannot do; where nobody reads what it writes it just ends."""
+    """Runs a tool, which gives its status. A line of words tells what it cannot do; where nobody
+    reads what it writes, or it is interrupted, it just ends."""
     try:
         status = main()
         sys.stdout.flush()
@@ -499,6 +515,8 @@ def run(main):
         status = f"{os.path.basename(sys.argv[0])}: {wrong.strerror}" + (f": {wrong.filename}" if wrong.filename else "")
     except Faulty as wrong:
         status = f"{os.path.basename(sys.argv[0])}: {wrong}"
+    except KeyboardInterrupt:
+        status = 130
     sys.exit(status)
 
 

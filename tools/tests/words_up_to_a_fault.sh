@@ -14,3 +14,7 @@ for line in 'as ann look 0,0,0' 'ann look 0 0 0' 'as bob look 0 0 0' 'player bob
 done
 printf 'world 1 1 1\nplayer ann\nplayer Ann\n' >"$work/line.vx"
 tools/words "$work/line.vx" --program "$program" 2>&1 | tail -n 1
+# More players than a world may have.
+{ echo world 1 1 1; seq -f 'player p%g' 65; } >"$work/many.vx"
+tools/words "$work/many.vx" --program "$program" || echo status $?
+tools/words "$work/many.vx" - </dev/null || echo status $?

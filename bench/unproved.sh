@@ -72,7 +72,8 @@ for root, crate in sources:
             for name in re.findall(r"#\[inline\(never\)\](?:\s*#\[[^\n]*\])*\s*(?:pub(?:\(crate\))?\s+)?fn\s+(\w+)", text):
                 never.setdefault(name, set()).add(path)
 
-check = re.compile(r'call void (@"rattle-llvm-checks::|@llvm\.trap\(|@llvm\.memset\.p0\.i64\(ptr %r\d+, i8 -86,)')
+check = re.compile(r'call void (@"rattle-llvm-checks::|@llvm\.trap\(|'
+                   r'@llvm\.memset\.p0\.i64\(ptr %r\d+, i8 -86,)')
 lines = []
 with open(module) as it:
     for line in it:

@@ -56,6 +56,7 @@ def number(word, low=-(2**31), high=2**31 - 1):
     digits = word.removeprefix("-")
     if not (digits.isascii() and digits.isdigit()):
         raise Faulty(f"{word} is no number")
+    # No line is long enough for a number that Python refuses to read.
     if not low <= int(word) <= high:
         raise Faulty(f"{word} is no number from {low} to {high}")
     return int(word)
@@ -235,9 +236,11 @@ def check_script(lines):
                 is_body, is_open = is_body or words[0] not in HEADER, is_open_behind(words[0], is_open)
         except Faulty as wrong:
             raise Faulty(f"line {count} of the script: {wrong}") from None
+        if is_body:
+            check_count(header.players)
+    check_count(header.players)
     if is_open:
         raise Faulty("the script has a block without an end")
-    check_count(header.players)
     return header.players
 
 
@@ -257,10 +260,8 @@ def check_order(first, header, is_body, is_open):
         raise Faulty("the header has ended before it")
     if first == "world" and header.size or first != "world" and not header.size:
         raise Faulty("the first line says the size of the world, `world SX SZ S`, and no other does")
-    if first not in HEADER:
-        if not header.players:
-            raise Faulty("the header has no player")
-        check_count(header.players)
+    if first not in HEADER and not header.players:
+        raise Faulty("the header has no player")
 
 
 def check_header(words, header):

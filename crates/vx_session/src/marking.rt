@@ -6,8 +6,8 @@ use std::alloc::{AllocError, Global};
 use vx_audit::Mark;
 use vx_geom::{Bounds, Pos};
 
-// A busy sector costs more where it alone is taken out of its place: with fewer sectors than so
-// many for each that is busy it costs less to take out all.
+// To take single sectors out of their places costs more for each than to take out all. So it is
+// done where there are at least so many sectors for each busy one.
 const SECTORS_FOR_EACH_BUSY: usize = 4;
 
 /// The number of the sector that holds the position; none outside the world.

@@ -1,22 +1,25 @@
 -- What an edit leaves of the shapes of the regions.
-use Rattle.std.proofs.Common.{◌≡◌, ◌≢◌, ℕ, ◌+◌, Bool, true, false, List, Some, None, Option, option_map, Result, IfOk, refl, ap, sym, ◌∙◌, subst, inl, inr}
+use Rattle.std.proofs.Common.{◌≡◌, ◌≢◌, ℕ, ◌+◌, Bool, true, false, List, Some, None, IsSome, IfSome, Option, option_map, Result, IfOk, refl, ap, sym, ◌∙◌, subst, inl, inr}
 use Rattle.std.proofs.lemmas.Bool.{cases_eq}
 use Rattle.std.proofs.lemmas.Result.{IfOk-weaker}
 use Rattle.vx_flag.specs.declared.flag.Flag.{Flag}
 use Rattle.vx_flag.specs.declared.setting.Setting.{Setting}
 use Rattle.vx_geom.specs.Outline.{Outline}
 use Rattle.vx_geom.specs.Written.{Written, outline_asked}
+use Rattle.vx_region.specs.declared.region_no.RegionNo.{RegionNo}
 use Rattle.vx_region.specs.declared.roster.Roster.{Roster}
 use Rattle.vx_region.specs.declared.roster.Roster.TheVariants.{Owners, Members, Domains}
-use Rattle.vx_region.specs.Regions.{RegionData, Regions, region_at, changed, gaining, losing, without_region, with_shape, with_priority, with_parent, with_flag, with_name, without_name}
+use Rattle.vx_region.specs.Regions.{RegionData, Regions, region_at, changed, gaining, losing, with_region, without_region, with_shape, with_priority, with_parent, with_flag, with_name, without_name}
 use Rattle.vx_name.specs.Words.{read_id, read_name}
-use Rattle.vx_region.proofs.Changes.{region_changed, region_elsewhere, region_kept}
+use Rattle.vx_region.specs.Forest.{IsNumbered}
+use Rattle.vx_region.proofs.Changes.{region_changed, region_defined, region_elsewhere, region_kept}
 use Rattle.vx_region.proofs.Globals.{flag_at_large, flag_of_region}
-use Rattle.vx_region.proofs.Removals.{region_beside}
+use Rattle.vx_region.proofs.Removals.{region_beside, region_removed}
 use Rattle.vx_policy.specs.Asked.{Asked, Define, Reshape, Remove, Priority, Parent, SetFlag, ClearFlag, Listed}
 use Rattle.vx_policy.specs.Edits.{given, listed, edited}
 use Rattle.vx_policy.specs.Outlines.{ShapesStayBut}
-use Rattle.vx_policy.specs.Refusals.{numbered}
+use Rattle.vx_policy.specs.Refusals.{numbered, refusal}
+use Rattle.vx_policy.proofs.Accepted.{id_spelled, shape_there, new_shape, local_target, numbered_there, region_there}
 use Rattle.vx_policy.specs.declared.listing.Listing.{Listing}
 use Rattle.vx_policy.specs.declared.listing.Listing.TheVariants.{Add, Drop}
 use Rattle.vx_policy.proofs.Parts.{kept_given}
@@ -127,6 +130,57 @@ removed_one rs id = by (numbered rs id)
     by : (o : Option ℕ) → ShapesStayBut o rs (given rs o (without_region rs))
     by None n other = refl
     by (Some k) n other = ap shaped (region_beside rs k n (λ same. other (ap Some (sym same))))
+
+-- the shape of an option of a region that is there and got this one
+some_shaped : (outline : Outline) (o : Option RegionData) → IsSome o → shaped (option_map (λ (r : RegionData). let given : RegionData = record r { shape = outline } in given) o) ≡ Some outline
+some_shaped outline None there = cc
+some_shaped outline (Some r) there = refl
+
+-- and where nothing stands against it, each of the three gives that number the shape that it asks for, or none
+module _ (rs : Regions) (id : List ℕ) where
+  pub defined_shape : (shape : Written) → IsNumbered rs → refusal rs (Define id shape) ≡ None
+      → shape_at (edited rs (Define id shape)) (rs.last + 1) ≡ outline_asked shape
+  unfolding edited
+  defined_shape shape numbers none = by (read_id id) refl (outline_asked shape) refl
+    where
+      by : (o : Option (List ℕ)) → read_id id ≡ o → (made : Option Outline) → outline_asked shape ≡ made
+          → shape_at (given rs o (λ word. given rs made (with_region rs word))) (rs.last + 1) ≡ made
+      by None misspelled made is = absurd (id_spelled rs id shape none misspelled)
+      by (Some word) spelled None is = absurd (shape_there rs id shape none is)
+      by (Some word) spelled (Some outline) is = ap shaped (region_defined rs word outline numbers)
+
+  pub reshaped_shape : (shape : Written) (n : ℕ) → refusal rs (Reshape id shape) ≡ None → numbered rs id ≡ Some n
+      → shape_at (edited rs (Reshape id shape)) n ≡ outline_asked shape
+  unfolding edited with_shape
+  reshaped_shape shape n none named = by (numbered rs id) named (outline_asked shape) refl
+    where
+      there : IsSome (region_at rs n)
+      there = region_there rs id n named (local_target rs (Reshape id shape) none refl) (numbered_there rs id n named)
+
+      by : (o : Option ℕ) → o ≡ Some n → (made : Option Outline) → outline_asked shape ≡ made
+          → shape_at (given rs o (λ k. given rs made (with_shape rs k))) n ≡ made
+      by None is made _ = cc
+      by (Some k) is None none_made = absurd (new_shape rs id shape none none_made)
+      by (Some k) is (Some outline) _ =
+          let same : n ≡ k = cc in
+          subst (λ m. shape_at (with_shape rs m outline) n ≡ Some outline) same
+          (ap shaped (region_changed _ n rs) ∙ some_shaped outline (region_at rs n) there)
+
+  pub removed_shape : (n : ℕ) → numbered rs id ≡ Some n → shape_at (edited rs (Remove id)) n ≡ None
+  unfolding edited
+  removed_shape n named = by (numbered rs id) named
+    where
+      by : (o : Option ℕ) → o ≡ Some n → shape_at (given rs o (without_region rs)) n ≡ None
+      by None is = cc
+      by (Some k) is =
+          let same : n ≡ k = cc in
+          subst (λ m. shape_at (without_region rs m) n ≡ None) same (ap shaped (region_removed rs n))
+
+-- what holds of the number that a text names, if it names one
+pub at_some : (P : ℕ → Type 0) (o : Option RegionNo) (named : Option ℕ) → option_map (λ n. n.0) o ≡ named → ((n : ℕ) → named ≡ Some n → P n)
+    → IfSome o (λ n. P n.0)
+at_some P None named is holds = tt
+at_some P (Some n) named is holds = holds n.0 (sym is)
 
 -- a land stays one where no shape changes
 pub land_stays : (before after : Regions) (land : List Chunk) → ShapesStayBut None before after → IsLandOf (shape_at before) land → IsLandOf (shape_at after) land

@@ -8,44 +8,43 @@ ghost use Rattle.vx_region.specs.Regions.{region_at, HasSettings};
 
 use crate::edit::Edit;
 use crate::listing::Listing;
+use crate::reshaped::shape_of;
 use std::alloc::{AllocError, Global};
 use vx_flag::{Flag, Setting};
 use vx_geom::ShapeSpec;
 use vx_region::{Id, Name, RegionNo, RegionSet, Roster};
 
 /// Makes an edit of the regions that nothing stands against, and answers the number that a
-/// definition gave. Where copies share the regions, the region that it changes is copied first with
-/// its block, and no other.
+/// definition gave. Where copies share the region that it changes, that is copied first with its
+/// block, and no other.
 pub(crate) fn change(
     regions: &mut RegionSet,
     alloc: Global,
-    edit: Edit,
+    edit: &Edit,
 ) -> Result<Option<RegionNo>, AllocError>
-    requires { refusal regions.old (asked edit) ≡ None }
-    ensures ok { IfOk result (λ n. (regions.new ≡ edited regions.old (asked edit))
-        × (option_map (λ n. n.0) n ≡ number_given regions.old (asked edit))) }
+    requires { refusal regions.old (asked edit.now) ≡ None }
+    ensures ok { IfOk result (λ n. (regions.new ≡ edited regions.old (asked edit.now))
+        × (option_map (λ n. n.0) n ≡ number_given regions.old (asked edit.now))) }
     ensures err { OnErr result (regions.new ≡ regions.old) }
 {
     match edit {
-        Edit::Define(id, shape) => Ok(Some(define(regions, alloc, &id, shape)?)),
+        Edit::Define(id, shape) => Ok(Some(define(regions, alloc, id, shape)?)),
         Edit::Owner(id, listing, name) => {
-            list(regions, Roster::Owners, &id, listing, &name).and(Ok(None))
+            list(regions, Roster::Owners, id, *listing, name).and(Ok(None))
         }
         Edit::Member(id, listing, name) => {
-            list(regions, Roster::Members, &id, listing, &name).and(Ok(None))
+            list(regions, Roster::Members, id, *listing, name).and(Ok(None))
         }
         Edit::Domain(id, listing, name) => {
-            list(regions, Roster::Domains, &id, listing, &name).and(Ok(None))
+            list(regions, Roster::Domains, id, *listing, name).and(Ok(None))
         }
-        Edit::Reshape(id, shape) => reshape(regions, &id, shape).and(Ok(None)),
-        Edit::Remove(id) => remove(regions, &id).and(Ok(None)),
-        Edit::Priority(id, priority) => set_priority(regions, &id, priority).and(Ok(None)),
-        Edit::Parent(id, parent) => match parent {
-            Some(parent) => set_parent(regions, &id, &parent).and(Ok(None)),
-            None => clear_parent(regions, &id).and(Ok(None)),
-        },
-        Edit::SetFlag(id, flag, setting) => set_flag(regions, &id, flag, setting).and(Ok(None)),
-        Edit::ClearFlag(id, flag) => clear_flag(regions, &id, flag).and(Ok(None)),
+        Edit::Reshape(id, shape) => reshape(regions, alloc, id, shape).and(Ok(None)),
+        Edit::Remove(id) => remove(regions, id).and(Ok(None)),
+        Edit::Priority(id, priority) => set_priority(regions, id, *priority).and(Ok(None)),
+        Edit::Parent(id, Some(parent)) => set_parent(regions, id, parent).and(Ok(None)),
+        Edit::Parent(id, None) => clear_parent(regions, id).and(Ok(None)),
+        Edit::SetFlag(id, flag, setting) => set_flag(regions, id, *flag, *setting).and(Ok(None)),
+        Edit::ClearFlag(id, flag) => clear_flag(regions, id, *flag).and(Ok(None)),
     }
 }
 
@@ -54,31 +53,37 @@ fn define(
     regions: &mut RegionSet,
     alloc: Global,
     id: &str,
-    shape: ShapeSpec,
+    shape: &ShapeSpec,
 ) -> Result<RegionNo, AllocError>
-    requires { refusal regions.old (Define id.now (written shape)) ≡ None }
+    requires { refusal regions.old (Define id.now (written shape.now)) ≡ None }
     ensures ok { IfOk result (λ n.
-        (regions.new ≡ edited regions.old (Define id.now (written shape)))
+        (regions.new ≡ edited regions.old (Define id.now (written shape.now)))
         × (n.0 ≡ regions.old.last + 1)) }
     ensures err { OnErr result (regions.new ≡ regions.old) }
 {
     let Ok(id) = Id::read(id) else {
         unreachable!();
     };
-    let Ok(shape) = shape.shape() else {
+    let Some(shape) = shape_of(alloc, shape)? else {
         unreachable!();
     };
     regions.define(alloc, id, shape)
 }
 
 #[tactic(auto, unfolding(crate::specs::Edits::edited))]
-fn reshape(regions: &mut RegionSet, id: &str, shape: ShapeSpec) -> Result<(), AllocError>
-    requires { refusal regions.old (Reshape id.now (written shape)) ≡ None }
-    ensures ok { OnOk result (regions.new ≡ edited regions.old (Reshape id.now (written shape))) }
+fn reshape(
+    regions: &mut RegionSet,
+    alloc: Global,
+    id: &str,
+    shape: &ShapeSpec,
+) -> Result<(), AllocError>
+    requires { refusal regions.old (Reshape id.now (written shape.now)) ≡ None }
+    ensures ok { OnOk result
+        (regions.new ≡ edited regions.old (Reshape id.now (written shape.now))) }
     ensures err { OnErr result (regions.new ≡ regions.old) }
 {
     let number = region(regions, id);
-    let Ok(shape) = shape.shape() else {
+    let Some(shape) = shape_of(alloc, shape)? else {
         unreachable!();
     };
     regions.reshape(number, shape)

@@ -1,20 +1,23 @@
-ghost use Rattle.std.specs.Prelude.{◌≡◌, true, option_map, IfOk};
+ghost use Rattle.std.specs.Prelude.{◌≡◌, true, None, IfOk};
 ghost use Rattle.vx_decide.specs.Verdict.{verdict};
 ghost use Rattle.vx_index.specs.Chunks.{IsCacheOf};
+ghost use Rattle.vx_policy.specs.Asked.{asked};
 ghost use Rattle.vx_policy.specs.Charts.{IsChartOf};
-ghost use Rattle.vx_policy.specs.Outlines.{ShapesStayBut};
-ghost use Rattle.vx_policy.specs.Silence.{UnsetStaysBut};
+ghost use Rattle.vx_policy.specs.Edits.{edited};
+ghost use Rattle.vx_policy.specs.Refusals.{refusal};
 ghost use Rattle.vx_region.specs.Regions.{no_regions};
 ghost use Rattle.vx_region.specs.Subjects.{actor_of, Named};
 
+use crate::edit::Edit;
 use crate::land_after::land_after;
+use crate::reshaped::reshaped;
 use crate::unset::{all_unset, stay_unset, unset_after};
 use std::alloc::{AllocError, Global};
 use vx_decide::Verdict;
 use vx_flag::{Action, Flag};
 use vx_geom::Pos;
 use vx_index::{Cache, Land};
-use vx_region::{Name, RegionNo, RegionSet, Subject};
+use vx_region::{Name, RegionSet, Subject};
 
 /// What decisions by a set of regions are found by: where the regions lie, and flags that are set
 /// nowhere.
@@ -45,46 +48,34 @@ impl Chart {
         })
     }
 
-    /// The chart of the regions after an edit, where this is the chart of those before it, and the
-    /// edit changes the shape of no region but that of this number, and sets no flag but this one.
-    /// It shares the chunks that stay.
+    /// The chart of the regions after an edit that nothing stands against, where this is the chart
+    /// of those before it. It shares the chunks that stay.
     pub(crate) fn after(
         &self,
         alloc: Global,
-        before: &RegionSet,
-        after: &RegionSet,
-        number: Option<RegionNo>,
-        flag: Option<Flag>,
+        regions: &RegionSet,
+        edit: &Edit,
     ) -> Result<Chart, AllocError>
-        requires chart { IsChartOf before.now self.now }
-        requires shapes { ShapesStayBut (option_map (λ n. n.0) number) before.now after.now }
-        requires flags { UnsetStaysBut flag before.now after.now }
-        ensures { IfOk result (IsChartOf after.now) }
+        requires chart { IsChartOf regions.now self.now }
+        requires free { refusal regions.now (asked edit.now) ≡ None }
+        ensures { IfOk result (IsChartOf (edited regions.now (asked edit.now))) }
     {
         Ok(Chart {
-            land: land_after(alloc, &self.land, before, after, number)?,
-            unset: unset_after(alloc, before, after, &self.unset, flag)?,
+            land: land_after(alloc, &self.land, regions, edit)?,
+            unset: unset_after(alloc, &self.unset, edit)?,
         })
     }
 
-    /// Whether this is the chart of the regions after an edit, too, since the edit changes no shape
-    /// and sets no flag that was set nowhere. It changes the shape of no region but that of this
-    /// number, and sets no flag but this one.
-    pub(crate) fn stays(
-        &self,
-        before: &RegionSet,
-        after: &RegionSet,
-        number: Option<RegionNo>,
-        flag: Option<Flag>,
-    ) -> bool
-        requires chart { IsChartOf before.now self.now }
-        requires shapes { ShapesStayBut (option_map (λ n. n.0) number) before.now after.now }
-        requires flags { UnsetStaysBut flag before.now after.now }
-        ensures { result ≡ true → IsChartOf after.now self.now }
+    /// Whether this is the chart of the regions after an edit that nothing stands against, too,
+    /// since the edit changes no shape and sets no flag that was set nowhere.
+    pub(crate) fn stays(&self, regions: &RegionSet, edit: &Edit) -> bool
+        requires chart { IsChartOf regions.now self.now }
+        requires free { refusal regions.now (asked edit.now) ≡ None }
+        ensures { result ≡ true → IsChartOf (edited regions.now (asked edit.now)) self.now }
     {
-        match number {
+        match reshaped(regions, edit) {
             Some(_) => false,
-            None => stay_unset(before, after, &self.unset, flag),
+            None => stay_unset(&self.unset, edit),
         }
     }
 

@@ -6,9 +6,7 @@ ghost use Rattle.vx_index.specs.Chunks.{IsCacheOf};
 ghost use Rattle.vx_policy.specs.Asked.{asked};
 ghost use Rattle.vx_policy.specs.Charts.{IsChartOf};
 ghost use Rattle.vx_policy.specs.Edits.{edited, number_given};
-ghost use Rattle.vx_policy.specs.Outlines.{ShapesStayBut};
 ghost use Rattle.vx_policy.specs.Refusals.{refusal};
-ghost use Rattle.vx_policy.specs.Silence.{UnsetStaysBut};
 ghost use Rattle.vx_policy.specs.declared.edit_error.EditError.{EditError};
 ghost use Rattle.vx_policy.specs.declared.edit_refusal.EditRefusal.{EditRefusal};
 ghost use Rattle.vx_region.specs.Regions.{no_regions};
@@ -22,13 +20,11 @@ use crate::chart::Chart;
 use crate::edit::Edit;
 use crate::edit_error::EditError;
 use crate::edit_refusal::EditRefusal;
-use crate::reshaped::reshaped;
-use crate::unset::flag_set;
 use std::alloc::{AllocError, Global};
 use std::marker::Model;
 use std::sync::Arc;
 use vx_decide::{Decide, Plain, Verdict};
-use vx_flag::{Action, Flag};
+use vx_flag::Action;
 use vx_geom::Pos;
 use vx_index::Cache;
 use vx_region::{Name, RegionNo, RegionSet, Subject};
@@ -123,64 +119,39 @@ impl Policy {
         }
     }
 
-    /// The policy after an edit that nothing stands against, and the number that a definition gave.
-    /// This one stays as it is. What takes memory of its own is what the edit touches: the region
-    /// with those that stand in one block with it, and where its shape changes the chunks in which
-    /// it lies. Where no shape changes and no flag is set that was set nowhere, the chart is shared
-    /// as it is. Where this policy is without its chart, so is that one.
-    pub fn after(&self, alloc: Global, edit: Edit) -> Result<(Policy, Option<RegionNo>), AllocError>
-        requires { refusal self.now (asked edit) ≡ None }
-        ensures { IfOk result (λ r. (r.0 ≡ edited self.now (asked edit))
-            × (option_map (λ n. n.0) r.1 ≡ number_given self.now (asked edit))) }
+    /// Makes an edit that nothing stands against, and answers the number that a definition gave.
+    /// What takes memory is what the edit touches: where a copy shares it, the region with those
+    /// that stand in one block with it, and where its shape changes the chunks in which it lies. So
+    /// the first edit behind a copy costs a pointer for each block of regions, and those behind it
+    /// do not. Where the policy is without its chart, it stays so.
+    pub fn change(&mut self, alloc: Global, edit: &Edit) -> Result<Option<RegionNo>, AllocError>
+        requires { refusal self.old (asked edit.now) ≡ None }
+        ensures ok { IfOk result (λ n. (self.new ≡ edited self.old (asked edit.now))
+            × (option_map (λ n. n.0) n ≡ number_given self.old (asked edit.now))) }
+        ensures err { OnErr result (self.new ≡ self.old) }
     {
-        let shape = reshaped(&self.regions, &edit);
-        let flag = flag_set(&edit);
-        let mut regions = self.regions.try_clone()?;
-        let number = change(&mut regions, alloc, edit)?;
-        let chart = self.chart_after(alloc, &regions, shape, flag)?;
-        Ok((
-            Policy {
-                regions: Arc::new(alloc, regions)?,
-                chart,
-            },
-            number,
-        ))
+        // Before the regions change: where there is no memory for it, all stays as it was.
+        let chart = self.chart_after(alloc, edit)?;
+        let number = change_shared(&mut self.regions, alloc, edit)?;
+        self.chart = chart;
+        Ok(number)
     }
 
-    // The chart of the regions after an edit that changes the shape of no region but that of this
-    // number and sets no flag but this one, where these regions have a chart.
-    fn chart_after(
-        &self,
-        alloc: Global,
-        after: &RegionSet,
-        number: Option<RegionNo>,
-        flag: Option<Flag>,
-    ) -> Result<Option<Arc<Chart>>, AllocError>
-        requires shapes { ShapesStayBut (option_map (λ n. n.0) number) self.now after.now }
-        requires flags { UnsetStaysBut flag self.now after.now }
-        ensures { IfOk result
-            (λ chart. IfSome chart (λ chart. IsChartOf after.now (arc_value chart))) }
+    // The chart of the regions after an edit that nothing stands against, where these have one. It
+    // is shared where it stays as it is.
+    fn chart_after(&self, alloc: Global, edit: &Edit) -> Result<Option<Arc<Chart>>, AllocError>
+        requires { refusal self.now (asked edit.now) ≡ None }
+        ensures { IfOk result (λ chart. IfSome chart
+            (λ chart. IsChartOf (edited self.now (asked edit.now)) (arc_value chart))) }
     {
         let Some(chart) = &self.chart else {
             return Ok(None);
         };
-        if chart.stays(&self.regions, after, number, flag) {
+        if chart.stays(&self.regions, edit) {
             return Ok(Some(Arc::try_clone(chart)?));
         }
-        let chart = chart.after(alloc, &self.regions, after, number, flag)?;
+        let chart = chart.after(alloc, &self.regions, edit)?;
         Ok(Some(Arc::new(alloc, chart)?))
-    }
-
-    /// Makes an edit that nothing stands against, and answers the number that a definition gave.
-    pub fn change(&mut self, alloc: Global, edit: Edit) -> Result<Option<RegionNo>, AllocError>
-        requires { refusal self.old (asked edit) ≡ None }
-        ensures ok { IfOk result (λ n. (self.new ≡ edited self.old (asked edit))
-            × (option_map (λ n. n.0) n ≡ number_given self.old (asked edit))) }
-        ensures err { OnErr result (self.new ≡ self.old) }
-    {
-        let (policy, number) = self.after(alloc, edit)?;
-        *self = policy;
-        Ok(number)
     }
 
     /// Applies an edit and answers the number that a definition gave, or refuses it by the first
@@ -198,7 +169,7 @@ impl Policy {
         if let Some(refusal) = self.refusal(&edit) {
             return Err(EditError::Refused(refusal));
         }
-        self.change(alloc, edit).map_err(|_| EditError::NoMemory)
+        self.change(alloc, &edit).map_err(|_| EditError::NoMemory)
     }
 
     /// Whether the player may do this at the place, and the rule that says so (docs/RULES.md). The
@@ -227,6 +198,21 @@ impl Decide for Policy {
             None => Plain::new(&self.regions).decide(subject, action, p),
         }
     }
+}
+
+// Makes an edit of regions that copies may share, as `change` does of regions that none shares.
+fn change_shared(
+    regions: &mut Arc<RegionSet>,
+    alloc: Global,
+    edit: &Edit,
+) -> Result<Option<RegionNo>, AllocError>
+    requires { refusal (arc_value regions.old) (asked edit.now) ≡ None }
+    ensures ok { IfOk result (λ n.
+        (arc_value regions.new ≡ edited (arc_value regions.old) (asked edit.now))
+        × (option_map (λ n. n.0) n ≡ number_given (arc_value regions.old) (asked edit.now))) }
+    ensures err { OnErr result (arc_value regions.new ≡ arc_value regions.old) }
+{
+    change(Arc::make_mut(regions)?, alloc, edit)
 }
 
 impl PartialEq for Policy {

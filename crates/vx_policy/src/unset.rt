@@ -11,7 +11,6 @@ ghost use Rattle.vx_region.specs.Regions.{Regions, no_regions};
 use crate::edit::Edit;
 use std::alloc::{AllocError, Global};
 use vx_flag::Flag;
-use vx_region::RegionSet;
 
 /// All flags: without regions none is set.
 #[tactic(auto, using(crate::proofs::Silent::none_set))]
@@ -25,8 +24,8 @@ pub(crate) fn all_unset(alloc: Global) -> Result<Vec<Flag>, AllocError>
     Ok(unset)
 }
 
-/// The flag that an edit sets somewhere, if it sets one.
-pub(crate) fn flag_set(edit: &Edit) -> Option<Flag>
+// The flag that an edit sets somewhere, if it sets one.
+fn flag_set(edit: &Edit) -> Option<Flag>
     ensures { (rs : Regions) → UnsetStaysBut result rs (edited rs (asked edit.now)) }
 {
     set_by(edit)
@@ -42,20 +41,12 @@ fn set_by(edit: &Edit) -> Option<Flag>
     }
 }
 
-/// Whether the edit that sets no flag but this one sets none of the flags, so that all of them are
-/// set nowhere after it, too.
-pub(crate) fn stay_unset(
-    before: &RegionSet,
-    after: &RegionSet,
-    unset: &[Flag],
-    set: Option<Flag>,
-) -> bool
-    requires unset { All (IsUnset before.now) unset.now }
-    requires others { UnsetStaysBut set before.now after.now }
-    ensures { result ≡ true → All (IsUnset after.now) unset.now }
+/// Whether the edit sets none of the flags, so that all of them are set nowhere after it, too.
+pub(crate) fn stay_unset(unset: &[Flag], edit: &Edit) -> bool
+    ensures { result ≡ true → (rs : Regions) → All (IsUnset rs) unset.now
+        → All (IsUnset (edited rs (asked edit.now))) unset.now }
 {
-    let _ = before;
-    let _ = after;
+    let set = flag_set(edit);
     for flag in unset {
         if is_flag(set, *flag) {
             return false;
@@ -64,21 +55,17 @@ pub(crate) fn stay_unset(
     true
 }
 
-/// Those of the flags that are set nowhere after an edit which sets no flag but this one, too. One
-/// that was set and is cleared again is not found: only costs rest on it.
+/// Those of the flags that are set nowhere after the edit, too. One that was set and is cleared
+/// again is not found: only costs rest on it.
 pub(crate) fn unset_after(
     alloc: Global,
-    before: &RegionSet,
-    after: &RegionSet,
     unset: &[Flag],
-    set: Option<Flag>,
+    edit: &Edit,
 ) -> Result<Vec<Flag>, AllocError>
-    requires unset { All (IsUnset before.now) unset.now }
-    requires others { UnsetStaysBut set before.now after.now }
-    ensures { IfOk result (λ kept. All (IsUnset after.now) kept.items) }
+    ensures { (rs : Regions) → All (IsUnset rs) unset.now
+        → IfOk result (λ kept. All (IsUnset (edited rs (asked edit.now))) kept.items) }
 {
-    let _ = before;
-    let _ = after;
+    let set = flag_set(edit);
     let mut kept = Vec::with_capacity(alloc, unset.len())?;
     for flag in unset {
         if is_flag(set, *flag) {

@@ -1,35 +1,33 @@
-use Rattle.std.proofs.Common.{◌≡◌, Some, None, Option, option_map, ap, sym, ◌∙◌, subst}
+use Rattle.std.proofs.Common.{◌≡◌, None, Some, IfSome, Option, option_map, ap, sym, ◌∙◌, subst}
 use Rattle.vx_index.specs.Shapes.{shape_at}
-use Rattle.vx_region.specs.Regions.{RegionData}
 use Rattle.vx_region.specs.declared.region_no.RegionNo.{RegionNo}
-use Rattle.vx_policy.specs.Outlines.{ShapesStayBut}
+use Rattle.vx_policy.specs.Asked.{asked}
+use Rattle.vx_policy.specs.Edits.{edited}
+use Rattle.vx_policy.specs.Outlines.{ShapesStayBut, shape_given}
 use Rattle.vx_policy.proofs.Outlining.{copy_tells, renewed_tells}
 use Rattle.vx_policy.proofs.land_after.land_after.Goals as goal
 
 -- no shape changes
 pub returns-in_default : goal.returns-in_default
 returns-in_default c =
-    copy_tells c.args.before.now c.args.after.now c.args.land.now c.try_clone.result
-    (subst (λ (o : Option RegionNo). ShapesStayBut (option_map (λ n. n.0) o) c.args.before.now c.args.after.now) c.in_default.is c.requires.others)
+    let before = c.args.regions.now in
+    let after = edited before (asked c.args.edit.now) in
+    copy_tells before after c.args.land.now c.try_clone.result
+    (subst (λ (o : Option RegionNo). ShapesStayBut (option_map (λ n. n.0) o) before after) c.in_default.is c.reshaped.ensures.others)
     c.requires.land c.try_clone.ensures
 
 -- the region has another shape, or is new
-pub returns-in-Some-get : goal.returns-in-Some-get
-returns-in-Some-get c =
-    let after = c.args.after.now in
-    let n = c.in-Some.number.0 in
-    let there : shape_at after n ≡ Some c.shape.result.now =
-    ap (option_map (λ (r : RegionData). r.shape)) (sym c.in-Some-get.ensures) ∙ ap Some (sym c.shape.ensures) in
-    renewed_tells c.args.before.now after n (Some c.shape.result.now) c.put.result
-    (subst (λ (o : Option RegionNo). ShapesStayBut (option_map (λ n. n.0) o) c.args.before.now c.args.after.now) c.in-Some.is c.requires.others)
-    there c.put.ensures
+pub returns-in-Some-2 : goal.returns-in-Some-2
+returns-in-Some-2 c =
+    let before = c.args.regions.now in
+    let after = edited before (asked c.args.edit.now) in
+    renewed_tells before after c.in-Some.number.0 (Some c.in-Some-2.shape) c.put.result c.in-Some.ensures.others
+    (c.in-Some.ensures.this ∙ sym c.in_ok-shape.ensures ∙ c.in-Some-2.is) c.put.ensures
 
 -- or is gone
 pub returns-in-None : goal.returns-in-None
 returns-in-None c =
-    let after = c.args.after.now in
-    let n = c.in-Some.number.0 in
-    let none : shape_at after n ≡ None = ap (option_map (λ (r : RegionData). r.shape)) (sym c.in-None.ensures) in
-    renewed_tells c.args.before.now after n None c.without.result
-    (subst (λ (o : Option RegionNo). ShapesStayBut (option_map (λ n. n.0) o) c.args.before.now c.args.after.now) c.in-Some.is c.requires.others)
-    none c.without.ensures
+    let before = c.args.regions.now in
+    let after = edited before (asked c.args.edit.now) in
+    renewed_tells before after c.in-Some.number.0 None c.without.result c.in-Some.ensures.others
+    (c.in-Some.ensures.this ∙ sym c.in_ok-shape.ensures ∙ c.in-None.is) c.without.ensures

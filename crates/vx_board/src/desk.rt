@@ -90,6 +90,27 @@ impl<J: Board, R: Wait + Drop> Desk<J, R> {
         self.locked.lock(rt).edit(rt, alloc, edit)
     }
 
+    /// Accepts an edit or refuses it, as [`Desk::edit`] does, and shows it to no view. A view that
+    /// learns the answer tells nothing before the next [`Desk::show`] or [`Desk::edit`]. It is for
+    /// who makes many edits before anybody looks: only the first of them copies what views are
+    /// shown.
+    pub fn accept(&self, rt: &impl Wait, alloc: Global, edit: Edit) -> Result<Listed<J>, Refused<J>>
+        ensures ok { IfOk result (λ listed. (before : List Asked) × AreAccepted J.first before
+            × (listed.front ≡ before ++ asked edit ∷ [])
+            × IsAnswer (after J.first before) (length before) (asked edit) (Ok listed.edited)) }
+        ensures refused { IfErr result (λ refused. AreAccepted J.first refused.front
+            × IsRefused (after J.first refused.front) (length refused.front) (asked edit)
+            refused.error) }
+    {
+        self.locked.lock(rt).accept(rt, alloc, edit)
+    }
+
+    /// Shows views the policy after all edits that stand accepted when the lock is taken.
+    // No clause says so: nothing is known of what a lock keeps but its type.
+    pub fn show(&self, rt: &impl Wait) {
+        self.locked.lock(rt).show(rt);
+    }
+
     /// The version of that number: the policy after the edits that stand accepted when the lock is
     /// taken.
     pub fn fix(&self, rt: &impl Wait, tick: u64) -> Result<Version, AllocError>

@@ -14,7 +14,6 @@ mod head;
 mod listed;
 mod locked;
 mod naming;
-mod next;
 mod opened;
 mod posted;
 mod refused;

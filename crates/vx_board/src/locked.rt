@@ -1,16 +1,15 @@
-ghost use Rattle.std.specs.Prelude.{◌≡◌, ◌++◌, ◌∷◌, ◌<◌, ◌^◌, [], map, length, IfOk, IfErr, Ok};
+ghost use Rattle.std.specs.Prelude.{◌≡◌, ◌++◌, ◌∷◌, ◌<◌, ◌^◌, [], true, None, map, length, IfOk, IfErr, Ok};
 ghost use Rattle.left_right.specs.Handles.{published, pending};
 ghost use Rattle.vx_board.specs.Accepted.{IsAnswer, IsRefused};
 ghost use Rattle.vx_policy.specs.Asked.{asked};
 ghost use Rattle.vx_policy.specs.Edits.{after, AreAccepted};
 ghost use Rattle.vx_policy.specs.Refusals.{refusal};
 
-use crate::acceptance::settle;
+use crate::acceptance::{make_ready, settle};
 use crate::board::Board;
 use crate::front::Front;
 use crate::head::Head;
 use crate::listed::Listed;
-use crate::next::{Next, make_next};
 use crate::posted::Posted;
 use crate::refused::Refused;
 use left_right::{Absorb, WriteHandle};
@@ -29,10 +28,12 @@ where
     pub front: Front<J>,
     accepted: Vec<Edit>,
     policy: Policy,
+    // Whether readers are shown the policy after all accepted edits. Else it is an earlier one.
+    pub is_shown: bool,
     writer: WriteHandle<Posted<J>, Posted<J>, R>,
     ghost listed: { map asked accepted.items ≡ front },
     ghost policy_is: { policy ≡ after J.first front },
-    ghost shown: { published writer ≡ front },
+    ghost shown: { is_shown ≡ true → published writer ≡ front },
     ghost none_left: { pending writer ≡ [] },
 }
 
@@ -56,12 +57,38 @@ impl<J: Board, R: Wait + Drop> Locked<J, R> {
             front,
             accepted: Vec::new(alloc),
             policy,
+            is_shown: true,
             writer,
         }
     }
 
-    /// Accepts an edit or refuses it, as `DeskState::apply` does, and shows the policy to readers.
+    /// Accepts an edit or refuses it, as `DeskState::apply` does, and shows readers what stands
+    /// accepted then.
     pub fn edit(
+        &mut self,
+        rt: &impl Wait,
+        alloc: Global,
+        edit: Edit,
+    ) -> Result<Listed<J>, Refused<J>>
+        ensures accepted { AreAccepted J.first self.old.front }
+        ensures ok { IfOk result (λ listed. (listed.front ≡ self.old.front ++ asked edit ∷ [])
+            × (self.new.front ≡ listed.front)
+            × IsAnswer (after J.first self.old.front) (length self.old.front) (asked edit)
+            (Ok listed.edited)) }
+        ensures refused { IfErr result (λ refused. (refused.front ≡ self.old.front)
+            × (self.new.front ≡ self.old.front)
+            × IsRefused (after J.first self.old.front) (length self.old.front) (asked edit)
+            refused.error) }
+        ensures shown { self.new.is_shown ≡ true }
+    {
+        let answer = self.accept(rt, alloc, edit);
+        self.show(rt);
+        answer
+    }
+
+    /// Accepts an edit or refuses it, as `DeskState::apply` does. Readers are shown what they were
+    /// shown before.
+    pub fn accept(
         &mut self,
         rt: &impl Wait,
         alloc: Global,
@@ -78,8 +105,8 @@ impl<J: Board, R: Wait + Drop> Locked<J, R> {
             refused.error) }
     {
         self.front.soundness();
-        let next = match make_next(alloc, &self.policy, &mut self.accepted, edit) {
-            Ok(next) => next,
+        let ready = match make_ready(alloc, &mut self.policy, &mut self.accepted, edit) {
+            Ok(ready) => ready,
             Err(error) => {
                 return Err(Refused {
                     error,
@@ -87,17 +114,28 @@ impl<J: Board, R: Wait + Drop> Locked<J, R> {
                 });
             }
         };
-        let Next {
-            ready,
-            policy,
-            shown,
-        } = next;
         let front = grown(rt, &self.front, &self.head, &ready.edit);
-        show(rt, &mut self.writer, Posted::new(shown, front.again()));
-        self.policy = policy;
         let edited = settle(&mut self.accepted, ready);
+        self.is_shown = false;
         self.front = front.again();
         Ok(Listed { edited, front })
+    }
+
+    /// Shows readers the policy after all accepted edits, where they are not shown it yet.
+    pub fn show(&mut self, rt: &impl Wait)
+        ensures front { self.new.front ≡ self.old.front }
+        ensures shown { self.new.is_shown ≡ true }
+    {
+        if self.is_shown {
+            return;
+        }
+        let Ok(policy) = self.policy.try_clone() else {
+            // Only the count of a policy's owners could run out.
+            stop(rt);
+            unreachable!()
+        };
+        show(rt, &mut self.writer, Posted::new(policy, self.front.again()));
+        self.is_shown = true;
     }
 
     /// The version of that number: the policy after the edits that were accepted so far.

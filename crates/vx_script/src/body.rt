@@ -109,11 +109,11 @@ fn take_outside<
             Ok(Stage::Outside)
         }
         Some(Line::Tick) => {
-            tick(rt, alloc, session, writer)?;
+            tick(rt, alloc, desk, session, writer)?;
             Ok(Stage::Outside)
         }
         Some(Line::Explain(name, action, p)) => {
-            explain(desk, session, name, action, p, number, writer)?;
+            explain(rt, desk, session, name, action, p, number, writer)?;
             Ok(Stage::Outside)
         }
         Some(Line::Together) => Ok(Stage::Inside(Vec::new(alloc))),
@@ -218,6 +218,7 @@ fn write_edit<W: Write>(answer: Result<Edited, EditRefusal>, writer: &mut W) -> 
 fn tick<A: Places + Send + Sync, B: Seats + Send + Sync, T: Threads + Wait + Sync, W: Write>(
     rt: &T,
     alloc: Global,
+    desk: &Desk<A, &T>,
     session: &mut Session<A, B>,
     writer: &mut W,
 ) -> Result<(), Fault>
@@ -226,12 +227,13 @@ fn tick<A: Places + Send + Sync, B: Seats + Send + Sync, T: Threads + Wait + Syn
     ensures own { (fault : Fault) → result ≡ Err fault → IsOwn fault → ⊥ }
     ensures fault { IfErr result IsOfRun }
 {
-    let fates = session.tick(rt, alloc)?;
+    let fates = session.tick(rt, alloc, desk)?;
     tell(session.ticks(), &fates, writer)
 }
 
 // Answers whether a player may do this at a position, and by which rule.
 fn explain<A: Places + Send + Sync, B: Seats + Send + Sync, T: Threads + Wait + Sync, W: Write>(
+    rt: &T,
     desk: &Desk<A, &T>,
     session: &mut Session<A, B>,
     name: Name,
@@ -254,7 +256,7 @@ fn explain<A: Places + Send + Sync, B: Seats + Send + Sync, T: Threads + Wait + 
     if !has_player(session, &name) {
         return Err(Fault::Syntax(number));
     }
-    let (verdict, count) = session.explain(desk, &Subject::Player(name), action, p)?;
+    let (verdict, count) = session.explain(rt, desk, &Subject::Player(name), action, p)?;
     write_verdict(verdict, count, writer)
 }
 

@@ -19,9 +19,11 @@ use vx_world::Seats;
 
 impl<A: Places, B: Seats> Session<A, B> {
     /// Whether the subject may do this at the place, and the rule that says so, by all edits that
-    /// were accepted so far, and how many these are. It takes no lock.
+    /// were accepted so far, and how many these are. It takes the lock of the desk for the first
+    /// question behind an edit, and else none.
     pub fn explain<D: Wait + Drop>(
         &mut self,
+        rt: &impl Wait,
         desk: &Desk<A, D>,
         subject: &Subject,
         action: Action,
@@ -32,6 +34,7 @@ impl<A: Places, B: Seats> Session<A, B> {
             × (r.1 ≡ length self.old.edits)) }
         ensures kept { self.new ≡ self.old }
     {
+        self.show(rt, desk);
         explained_at(desk, &mut self.view, &self.last, subject, action, p)
     }
 }

@@ -47,6 +47,7 @@ impl<A: Places, B: Seats> Session<A, B> {
             players,
             view: None,
             last: None,
+            is_shown: true,
             marks: Vec::new(alloc),
             workers,
         })

@@ -40,6 +40,9 @@ pub struct Session<A: Places, B: Seats> {
     pub(crate) players: Vec<Player<A, B>>,
     pub(crate) view: Option<View<A>>,
     pub(crate) last: Option<Listed<A>>,
+    // Whether the desk shows its views all edits up to the last one. No clause says so: a view that
+    // is not shown what it was told of answers that it is none.
+    pub(crate) is_shown: bool,
     pub(crate) marks: Vec<Mark>,
     pub(crate) workers: usize,
 }
@@ -73,6 +76,7 @@ impl<A: Places, B: Seats> Drop for Session<A, B> {
             players: _players,
             view: _view,
             last: _last,
+            is_shown: _,
             marks: _marks,
             workers: _,
         } = self;
@@ -155,12 +159,13 @@ impl<A: Places, B: Seats> Session<A, B> {
         let Session {
             keeper,
             last,
+            is_shown,
             marks,
             ..
         } = self;
         // Before the edit: where it is accepted, its mark has room.
         marks.reserve(1)?;
-        let listed = match desk.edit(rt, alloc, edit) {
+        let listed = match desk.accept(rt, alloc, edit) {
             Ok(listed) => listed,
             Err(refused) => return Ok(Err(cause_of(last, &refused)?)),
         };
@@ -170,16 +175,29 @@ impl<A: Places, B: Seats> Session<A, B> {
         keeper.learn(&listed);
         let edited = listed.edited;
         *last = Some(listed);
+        *is_shown = false;
         marks.push_reserved(Mark::Edit);
         Ok(Ok(edited))
     }
 
+    /// Has the desk show its views all edits that were accepted so far, where it does not yet.
+    pub(crate) fn show<D: Wait + Drop>(&mut self, rt: &impl Wait, desk: &Desk<A, D>)
+        ensures { self.new ≡ self.old }
+    {
+        if self.is_shown {
+            return;
+        }
+        desk.show(rt);
+        self.is_shown = true;
+    }
+
     /// Makes a tick, and tells what becomes of the moves that pistons asked for, in the order of
-    /// positions. All edits accepted so far count from then on.
-    pub fn tick<T: Threads + Wait + Sync>(
+    /// positions. All edits accepted so far, at this desk, count from then on.
+    pub fn tick<T: Threads + Wait + Sync, D: Wait + Drop>(
         &mut self,
         rt: &T,
         alloc: Global,
+        desk: &Desk<A, D>,
     ) -> Result<Vec<(Pos, Fate)>, SessionError>
         ensures ticked { IfOk result (λ fates. Does self.old (deeds.Ticked fates.items) self.new) }
         ensures number { OnOk result (ticks_of self.new ≡ ticks_of self.old + 1) }
@@ -188,6 +206,7 @@ impl<A: Places, B: Seats> Session<A, B> {
         ensures edits { self.new.edits ≡ self.old.edits }
     {
         self.marks.reserve(1)?;
+        self.show(rt, desk);
         let sectors = self.bounds.sectors() as usize;
         let busy = busy_sectors(alloc, &self.marks, sectors);
         let fates = self.world.tick_alone(
@@ -229,6 +248,7 @@ impl<A: Places, B: Seats> Session<A, B> {
             players,
             view: _view,
             last,
+            is_shown: _,
             marks,
             workers: _,
         } = self;

@@ -82,6 +82,8 @@ enum Day {
     ByTwo,
     /// Views explain what they have seen.
     Viewed,
+    /// Views are shown later what was accepted.
+    ShownLater,
     /// The desk may have so many views, and has them.
     Filled(usize),
     /// A view explains while an edit is under way, among many regions.
@@ -139,6 +141,7 @@ fn spent<J: Board + Send + Sync, R: Threads + Wait + Abort + Sync>(
         Day::Shown => show(rt, alloc, desk),
         Day::ByTwo => edited_by_two(rt, alloc, desk),
         Day::Viewed => views::viewed(rt, alloc, desk, view),
+        Day::ShownLater => views::shown_later(rt, alloc, desk, view),
         Day::Filled(_) => views::filled(rt, alloc, desk, day.views()),
         Day::Beside => beside::explained_beside(rt, alloc, desk, view),
         Day::MadeAgain => views::made_again(rt, alloc, desk, view),
@@ -158,6 +161,11 @@ fn threads_edit_one_desk(rt: HostRuntime) -> Result<(), Fail> {
 #[test]
 fn views_explain_what_they_have_seen(rt: HostRuntime) -> Result<(), Fail> {
     spend(&rt, rt.alloc(), Day::Viewed)
+}
+
+#[test]
+fn views_are_shown_later_what_was_accepted(rt: HostRuntime) -> Result<(), Fail> {
+    spend(&rt, rt.alloc(), Day::ShownLater)
 }
 
 #[test]

@@ -28,6 +28,27 @@ pub fn viewed<J: Board, R: Abort + Wait>(
     sees_all(rt, &mut desk.view()?)
 }
 
+/// An edit that is accepted alone is shown to views later: one that was told of it says nothing
+/// meanwhile, and one that was not answers without it.
+pub fn shown_later<J: Board, R: Abort + Wait>(
+    rt: &R,
+    alloc: Global,
+    desk: &Desk<J, &R>,
+    view: &mut View<J>,
+) -> Result<(), Fail> {
+    let Ok(listed) = desk.accept(rt, alloc, plot(alloc)?) else {
+        Err("no edit")?
+    };
+    same(rt, &listed.edited.count, &1);
+    view.learn(&listed);
+    same(rt, &view.fix(2).err(), &Some(ViewError::NoView));
+    let mut other = desk.view()?;
+    says(rt, &mut other, ("bob", 5), (Verdict::Permit(Rule::Default), 0))?;
+    desk.show(rt);
+    says(rt, view, ("bob", 5), (Verdict::Deny(member()), 1))?;
+    says(rt, &mut other, ("bob", 5), (Verdict::Deny(member()), 1))
+}
+
 // A view that has learnt nothing.
 fn sees_all<J: Board>(rt: &impl Abort, view: &mut View<J>) -> Result<(), Fail> {
     same(rt, &view.count(), &0);

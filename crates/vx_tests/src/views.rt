@@ -43,7 +43,12 @@ pub fn shown_later<J: Board, R: Abort + Wait>(
     view.learn(&listed);
     same(rt, &view.fix(2).err(), &Some(ViewError::NoView));
     let mut other = desk.view()?;
-    says(rt, &mut other, ("bob", 5), (Verdict::Permit(Rule::Default), 0))?;
+    says(
+        rt,
+        &mut other,
+        ("bob", 5),
+        (Verdict::Permit(Rule::Default), 0),
+    )?;
     desk.show(rt);
     says(rt, view, ("bob", 5), (Verdict::Deny(member()), 1))?;
     says(rt, &mut other, ("bob", 5), (Verdict::Deny(member()), 1))

@@ -205,8 +205,23 @@ impl<A: Places, B: Seats> Session<A, B> {
         ensures sizes { self.new.sizes ≡ self.old.sizes }
         ensures edits { self.new.edits ≡ self.old.edits }
     {
-        self.marks.reserve(1)?;
         self.show(rt, desk);
+        self.tick_by_what_is_shown(rt, alloc)
+    }
+
+    // Makes a tick, as `tick` does, by the edits that the desk shows its views.
+    fn tick_by_what_is_shown<T: Threads + Wait + Sync>(
+        &mut self,
+        rt: &T,
+        alloc: Global,
+    ) -> Result<Vec<(Pos, Fate)>, SessionError>
+        ensures ticked { IfOk result (λ fates. Does self.old (deeds.Ticked fates.items) self.new) }
+        ensures number { OnOk result (ticks_of self.new ≡ ticks_of self.old + 1) }
+        ensures opening { opening_of self.new ≡ opening_of self.old }
+        ensures sizes { self.new.sizes ≡ self.old.sizes }
+        ensures edits { self.new.edits ≡ self.old.edits }
+    {
+        self.marks.reserve(1)?;
         let sectors = self.bounds.sectors() as usize;
         let busy = busy_sectors(alloc, &self.marks, sectors);
         let fates = self.world.tick_alone(

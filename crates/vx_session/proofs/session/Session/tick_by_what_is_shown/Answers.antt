@@ -5,7 +5,7 @@ use Rattle.vx_keeper.specs.Keepers.{fates_next}
 use Rattle.vx_audit.specs.Deeds.{Ticked}
 use Rattle.vx_session.specs.Sessions.{SessionData, Does, edits_to, player_in, session_data}
 use Rattle.vx_session.proofs.Passed.{ticked}
-use Rattle.vx_session.proofs.session.Session.tick.Goals as goal
+use Rattle.vx_session.proofs.session.Session.tick_by_what_is_shown.Goals as goal
 
 pub returns-clause-ticked : goal.returns-clause-ticked
 returns-clause-ticked g c =

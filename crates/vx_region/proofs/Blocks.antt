@@ -1,8 +1,9 @@
 -- Regions in blocks: what is read at a place, and what is written there.
-use Rattle.std.proofs.Common.{◌≡◌, ◌⊎◌, inl, inr, ℕ, Bool, true, false, nat_lt, if◌then◌else◌, zero, suc, ◌+◌, ◌-◌, ◌<◌, ◌≤◌, List, [], ◌∷◌, ◌++◌, length, take, drop, remove, slice_get, slice_set, slice_index_or, Option, Some, None, option_map, Bor, arith, append_assoc, append-nil, length-append, length-drop, take_all, refl, ap, sym, ◌∙◌, subst}
+use Rattle.std.proofs.Common.{◌≡◌, ◌⊎◌, inl, inr, ℕ, Bool, true, false, nat_lt, if◌then◌else◌, zero, suc, ◌+◌, ◌-◌, ◌<◌, ◌≤◌, List, [], ◌∷◌, ◌++◌, length, take, drop, remove, slice_get, slice_set, slice_index_or, Option, Some, None, option_map, Result, Ok, Err, is_ok, OnOk, Bor, arith, append_assoc, append-nil, length-append, length-drop, take_all, refl, ap, sym, ◌∙◌, subst}
 use Rattle.std.specs.List.{AllZip}
 use Rattle.std.specs.Global.{Vec}
 use Rattle.std.specs.Option.{IfSome}
+use Rattle.std.proofs.lemmas.List.{take_more_set, take-set-le}
 use Rattle.std.proofs.lemmas.List.Edits.{remove-append_left, remove-append_right}
 use Rattle.std.proofs.lemmas.Map.Entries.{entries_from_clone}
 use borrow.Author.Tests.{ltb-true, ltb-false}
@@ -254,3 +255,87 @@ pub rest_of : (bs : List BlockData) (k : ℕ) → joined (take (length bs - (k +
 rest_of bs k =
     let next : k + 1 ≡ suc k = omega arith in
     ap joined (take_all (length bs - (k + 1)) (drop (k + 1) bs) (omega (arith, length-drop (k + 1) bs))) ∙ ap (λ n. joined (drop n bs)) next
+
+-- where a block ends, by the blocks up to it
+pub end_in_place : (at : ℕ) (bs : List BlockData) (k : ℕ) (b : BlockData) → AreInPlace at (take (suc k) bs) → slice_get bs k ≡ Some b
+    → b.start + length b.entries ≡ at + length (joined (take (suc k) bs))
+end_in_place at [] k b in_place there = cc
+end_in_place at (c ∷ bs) zero b in_place there =
+    let same : c ≡ b = cc in
+    let start : c.start ≡ b.start = ap (λ (d : BlockData). d.start) same in
+    let count : length c.entries ≡ length b.entries = ap (λ (d : BlockData). length d.entries) same in
+    omega (arith, length-append c.entries [], start, count, in_place.0)
+end_in_place at (c ∷ bs) (suc k) b in_place there =
+    omega (arith, end_in_place (at + length c.entries) bs k b in_place.1 there, length-append c.entries (joined (take (suc k) bs)))
+
+-- some of the blocks, from the first one on, are in place, and have no more regions than all
+pub front_in_place : (at n : ℕ) (bs : List BlockData) → AreInPlace at bs → AreInPlace at (take n bs)
+front_in_place at zero bs in_place = tt
+front_in_place at (suc n) [] in_place = tt
+front_in_place at (suc n) (b ∷ bs) in_place = (in_place.0, front_in_place (at + length b.entries) n bs in_place.1)
+
+pub front_fits : (n : ℕ) (bs : List BlockData) → length (joined (take n bs)) ≤ length (joined bs)
+front_fits zero bs = omega arith
+front_fits (suc n) [] = omega arith
+front_fits (suc n) (b ∷ bs) = omega (arith, front_fits n bs, length-append b.entries (joined (take n bs)), length-append b.entries (joined bs))
+
+-- a block that was put at another place, where the one before it ends
+module _ (bs : List BlockData) (i : ℕ) (b c : BlockData) (within : i < length bs) (there : slice_get bs i ≡ Some b) (same : c.entries ≡ b.entries) where
+  pub again_joined : joined (slice_set bs i c) ≡ joined bs
+  again_joined =
+      set_parts bs i b c there ∙ ap (λ es. joined (take i bs) ++ (es ++ joined (drop (suc i) bs))) same ∙ sym (parts bs i b there)
+
+  pub again_in_place : c.start ≡ length (joined (take i bs)) → AreInPlace 0 (take i bs) → AreInPlace 0 (take (i + 1) (slice_set bs i c))
+  again_in_place start in_place =
+      subst (λ cs. AreInPlace 0 cs) (sym (take_more_set bs i c within)) (block_put 0 (take i bs) c (start ∙ omega arith) in_place).0
+
+  pub again_ends : length (joined (take (i + 1) (slice_set bs i c))) ≡ length (joined (take i bs)) + length b.entries
+  again_ends =
+      ap (λ cs. length (joined cs)) (take_more_set bs i c within)
+      ∙ ap length (joined_last (take i bs) c) ∙ length-append (joined (take i bs)) c.entries ∙ ap (λ es. length (joined (take i bs)) + length es) same
+    where
+      joined_last : (ds : List BlockData) (d : BlockData) → joined (ds ++ d ∷ []) ≡ joined ds ++ d.entries
+      joined_last [] d = append-nil d.entries
+      joined_last (e ∷ ds) d = ap (λ es. e.entries ++ es) (joined_last ds d) ∙ sym (append_assoc e.entries (joined ds) d.entries)
+
+  pub again_fits : length (joined (take i bs)) + length b.entries ≤ length (joined bs)
+  again_fits =
+      let next : suc i ≡ i + 1 = omega arith in
+      omega (arith, ends_at bs i b there, front_fits (suc i) bs)
+
+-- two blocks that stand side by side, joined to one
+pub pair_joined : (bs : List BlockData) (k : ℕ) (b d c : BlockData) → slice_get bs k ≡ Some b → slice_get bs (suc k) ≡ Some d → c.entries ≡ b.entries ++ d.entries
+    → joined (remove (slice_set bs k c) (suc k)) ≡ joined bs
+pair_joined [] k b d c there next is = cc
+pair_joined (e ∷ []) zero b d c there next is = cc
+pair_joined (e ∷ (f ∷ bs)) zero b d c there next is =
+    let first : b ≡ e = cc in
+    let second : d ≡ f = cc in
+    ap (λ es. es ++ joined bs) (is ∙ ap (λ (x : BlockData). x.entries ++ d.entries) first ∙ ap (λ (x : BlockData). e.entries ++ x.entries) second)
+    ∙ append_assoc e.entries f.entries (joined bs)
+pair_joined (e ∷ bs) (suc k) b d c there next is = ap (λ es. e.entries ++ es) (pair_joined bs k b d c there next is)
+
+-- which leaves those before them
+pub pair_leaves : (bs : List BlockData) (k : ℕ) (c : BlockData) (n : ℕ) → n ≤ k → take n (remove (slice_set bs k c) (suc k)) ≡ take n bs
+pair_leaves [] k c zero low = refl
+pair_leaves [] k c (suc n) low = refl
+pair_leaves (e ∷ bs) zero c zero low = refl
+pair_leaves (e ∷ bs) zero c (suc n) low = absurd (omega arith)
+pair_leaves (e ∷ bs) (suc k) c zero low = refl
+pair_leaves (e ∷ bs) (suc k) c (suc n) low = ap (λ cs. e ∷ cs) (pair_leaves bs k c n (omega arith))
+
+-- a region taken out of its block
+module _ (bs : List BlockData) (k : ℕ) (b c : BlockData) (place : ℕ) (in_place : AreInPlace 0 bs) (there : slice_get bs k ≡ Some b) (holds : Holds place b)
+    (is : c ≡ with_entries b (remove b.entries (place - b.start))) where
+  pub taken_out : joined (slice_set bs k c) ≡ remove (joined bs) place
+  taken_out =
+      set_parts bs k b c there ∙ ap (λ (d : BlockData). joined (take k bs) ++ (d.entries ++ joined (drop (suc k) bs))) is
+      ∙ block_removed bs k b place in_place there holds
+
+  pub front_stays : (n : ℕ) → n ≤ k → AreInPlace 0 (take n (slice_set bs k c))
+  front_stays n low = subst (λ ds. AreInPlace 0 ds) (sym (take-set-le n bs k c low)) (front_in_place 0 n bs in_place)
+
+-- what holds of an answer that is one
+pub ok_holds : {T E : Type 0} (r : Result T E) (P : Type 0) → is_ok r ≡ true → OnOk r P → P
+ok_holds (Ok x) P is holds = holds
+ok_holds (Err e) P is holds = cc

@@ -10,7 +10,7 @@ use std::marker::Model;
 use std::sync::Arc;
 
 /// So many regions stand in a block at most.
-pub(crate) const FULL: usize = 64;
+pub(crate) const FULL: usize = 32;
 
 /// Regions with their numbers that stand one after another in a list. Copies share them until one
 /// of them changes some.
@@ -124,25 +124,25 @@ impl Block {
         Arc::make_mut(&mut self.entries)?.extend_from_slice(&other.entries)
     }
 
-    /// A copy without the region at that place of the list.
-    pub(crate) fn without(&self, place: usize) -> Result<Block, AllocError>
-        requires { Holds place self.now }
-        ensures { IfOk result (λ block.
-            block.entries ≡ remove self.now.entries (place - self.now.start)) }
+    /// Takes away the region at that place of the list. Where a copy shares the block, it is copied
+    /// first.
+    pub(crate) fn remove(&mut self, place: usize) -> Result<(), AllocError>
+        requires { Holds place self.old }
+        ensures ok { OnOk result (self.new
+            ≡ with_entries self.old (remove self.old.entries (place - self.old.start))) }
+        ensures err { OnErr result (self.new ≡ self.old) }
     {
-        let mut copy = self.clone()?;
-        let _removed = Arc::make_mut(&mut copy.entries)?.remove(place - self.start);
-        Ok(copy)
+        let inside = place - self.start;
+        let _removed = Arc::make_mut(&mut self.entries)?.remove(inside);
+        Ok(())
     }
 
-    /// The block as it stands from another place of the list on.
-    pub(crate) fn moved_to(self, start: usize) -> Block
-        ensures start { result.start ≡ start }
-        ensures entries { result.entries ≡ self.entries }
+    /// Puts the block at another place of the list.
+    pub(crate) fn put_at(&mut self, start: usize)
+        ensures start { self.new.start ≡ start }
+        ensures entries { self.new.entries ≡ self.old.entries }
     {
-        let mut moved = self;
-        moved.start = start;
-        moved
+        self.start = start;
     }
 }
 

@@ -43,16 +43,6 @@ impl RegionList {
         }
     }
 
-    // No regions, with room for so many blocks.
-    fn with_room(alloc: Global, blocks: usize) -> Result<RegionList, AllocError>
-        ensures { IfOk result (λ regions. regions ≡ []) }
-    {
-        Ok(RegionList {
-            len: 0,
-            blocks: Vec::with_capacity(alloc, blocks)?,
-        })
-    }
-
     /// How many regions there are.
     pub(crate) fn len(&self) -> usize
         ensures { result ≡ length self.now }

@@ -1,5 +1,5 @@
 -- What a set is after one region of it was made its own and written over.
-use Rattle.std.proofs.Common.{Result, Ok, Err, OnErr, ◌≡◌, ℕ, nat_eq, List, Some}
+use Rattle.std.proofs.Common.{◌≡◌, ℕ, nat_eq, List, Some}
 use Rattle.std.specs.Map.{lookup, set_value}
 use Rattle.vx_name.specs.declared.id.Id.{Id}
 use Rattle.vx_region.specs.ChildCounts.{Count}

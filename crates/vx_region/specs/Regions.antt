@@ -1,5 +1,4 @@
 use Rattle.std.specs.Prelude.{◌≡◌, ◌⊎◌, ℕ, ℤ, pos, ◌+◌, Bool, if◌then◌else◌, nat_eq, bytes_eq, codes, List, [], ◌∷◌, ◌++◌, map, filter, not, find, Option, Some, None, IsSome, option_map}
-use Rattle.std.specs.List.{list_any}
 use Rattle.std.specs.Option.{option_and_then}
 use Rattle.vx_geom.specs.Outline.{Outline}
 use Rattle.vx_flag.specs.declared.flag.Flag.{Flag}

@@ -1,4 +1,4 @@
-use Rattle.std.proofs.Common.{◌≡◌, ◌+◌, suc, length, slice_get, take, Some, ap, sym, ◌∙◌, subst, arith}
+use Rattle.std.proofs.Common.{◌≡◌, suc, length, slice_get, take, Some, ap, sym, ◌∙◌, subst, arith}
 use Rattle.vx_base.proofs.Lists.{read_is}
 use Rattle.vx_region.specs.Blocks.{joined, AreInPlace}
 use Rattle.vx_region.proofs.Blocks.{end_in_place, front_fits}

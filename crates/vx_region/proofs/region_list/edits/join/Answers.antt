@@ -1,4 +1,4 @@
-use Rattle.std.proofs.Common.{◌≡◌, ◌+◌, ◌++◌, ◌<◌, suc, length, List, slice_get, slice_set, remove, take, Some, ap, sym, ◌∙◌, subst, arith}
+use Rattle.std.proofs.Common.{◌≡◌, ◌+◌, ◌<◌, suc, length, List, slice_get, slice_set, remove, take, Some, ap, sym, ◌∙◌, subst, arith}
 use Rattle.vx_base.proofs.Lists.{read_is}
 use Rattle.vx_region.specs.Blocks.{BlockData, joined}
 use Rattle.vx_region.proofs.Blocks.{pair_joined, pair_leaves, within_list, ok_holds}

@@ -1,7 +1,6 @@
 use Rattle.std.proofs.Common.{◌≡◌, ◌<◌, length, slice_get, Some, ap, ◌∙◌, arith}
 use Rattle.std.proofs.lemmas.List.{length-set}
 use Rattle.vx_base.proofs.Lists.{read_is}
-use Rattle.vx_region.specs.Blocks.{joined}
 use Rattle.vx_region.proofs.Blocks.{again_joined, again_in_place, again_ends, again_fits}
 use Rattle.vx_region.proofs.region_list.edits.put_in_place.Goals as goal
 

@@ -1,4 +1,4 @@
-use Rattle.std.proofs.Common.{◌≡◌, ◌≤◌, length, take}
+use Rattle.std.proofs.Common.{◌≡◌, length, take}
 use Rattle.vx_region.specs.Blocks.{joined, AreInPlace}
 use Rattle.vx_region.proofs.region_list.edits.put_in_place.Given as goal
 

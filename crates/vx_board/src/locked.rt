@@ -134,7 +134,11 @@ impl<J: Board, R: Wait + Drop> Locked<J, R> {
             stop(rt);
             unreachable!()
         };
-        show(rt, &mut self.writer, Posted::new(policy, self.front.again()));
+        show(
+            rt,
+            &mut self.writer,
+            Posted::new(policy, self.front.again()),
+        );
         self.is_shown = true;
     }
 

@@ -30,8 +30,8 @@ use vx_index::Cache;
 use vx_region::{Name, RegionNo, RegionSet, Subject};
 
 /// The written policy: a set of regions that is changed by edits, mostly with a chart of them, by
-/// which decisions cost the regions near the place alone. A copy shares all of it. An edit makes
-/// another policy, which shares what the edit does not touch.
+/// which decisions cost the regions near the place alone. A copy shares all of it. An edit changes
+/// the policy in place, and copies first what it touches and a copy shares.
 pub struct Policy {
     regions: Arc<RegionSet>,
     // `None` where the policy is kept for its regions.

@@ -1,9 +1,8 @@
-use Rattle.std.proofs.Common.{◌≡◌, None, Some, IfSome, Option, option_map, ap, sym, ◌∙◌, subst}
-use Rattle.vx_index.specs.Shapes.{shape_at}
+use Rattle.std.proofs.Common.{None, Some, Option, option_map, sym, ◌∙◌, subst}
 use Rattle.vx_region.specs.declared.region_no.RegionNo.{RegionNo}
 use Rattle.vx_policy.specs.Asked.{asked}
 use Rattle.vx_policy.specs.Edits.{edited}
-use Rattle.vx_policy.specs.Outlines.{ShapesStayBut, shape_given}
+use Rattle.vx_policy.specs.Outlines.{ShapesStayBut}
 use Rattle.vx_policy.proofs.Outlining.{copy_tells, renewed_tells}
 use Rattle.vx_policy.proofs.land_after.land_after.Goals as goal
 

@@ -36,9 +36,7 @@ pub fn shown_later<J: Board, R: Abort + Wait>(
     desk: &Desk<J, &R>,
     view: &mut View<J>,
 ) -> Result<(), Fail> {
-    let Ok(listed) = desk.accept(rt, alloc, plot(alloc)?) else {
-        Err("no edit")?
-    };
+    let listed = accepted_alone(rt, alloc, desk, plot(alloc)?)?;
     same(rt, &listed.edited.count, &1);
     view.learn(&listed);
     same(rt, &view.fix(2).err(), &Some(ViewError::NoView));
@@ -52,6 +50,18 @@ pub fn shown_later<J: Board, R: Abort + Wait>(
     desk.show(rt);
     says(rt, view, ("bob", 5), (Verdict::Deny(member()), 1))?;
     says(rt, &mut other, ("bob", 5), (Verdict::Deny(member()), 1))
+}
+
+fn accepted_alone<J: Board, R: Wait>(
+    rt: &R,
+    alloc: Global,
+    desk: &Desk<J, &R>,
+    edit: Edit,
+) -> Result<Listed<J>, Fail> {
+    match desk.accept(rt, alloc, edit) {
+        Ok(listed) => Ok(listed),
+        Err(_) => Err("no edit")?,
+    }
 }
 
 // A view that has learnt nothing.

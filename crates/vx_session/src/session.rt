@@ -40,8 +40,8 @@ pub struct Session<A: Places, B: Seats> {
     pub(crate) players: Vec<Player<A, B>>,
     pub(crate) view: Option<View<A>>,
     pub(crate) last: Option<Listed<A>>,
-    // Whether the desk shows its views all edits up to the last one. No clause says so: a view that
-    // is not shown what it was told of answers that it is none.
+    // Whether the desk shows its views all edits up to the last one. No clause says so: if it did not,
+    // a view that was told of one of them would answer `NoView`.
     pub(crate) is_shown: bool,
     pub(crate) marks: Vec<Mark>,
     pub(crate) workers: usize,

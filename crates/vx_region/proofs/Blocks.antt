@@ -1,5 +1,5 @@
 -- Regions in blocks: what is read at a place, and what is written there.
-use Rattle.std.proofs.Common.{◌≡◌, ◌⊎◌, inl, inr, ℕ, Bool, true, false, nat_lt, if◌then◌else◌, zero, suc, ◌+◌, ◌-◌, ◌<◌, ◌≤◌, List, [], ◌∷◌, ◌++◌, length, take, drop, remove, slice_get, slice_set, slice_index_or, Option, Some, None, option_map, Result, Ok, Err, is_ok, OnOk, Bor, arith, append_assoc, append-nil, length-append, length-drop, take_all, refl, ap, sym, ◌∙◌, subst}
+use Rattle.std.proofs.Common.{◌≡◌, ◌⊎◌, inl, inr, ℕ, Bool, true, false, nat_lt, if◌then◌else◌, zero, suc, ◌+◌, ◌-◌, ◌<◌, ◌≤◌, List, [], ◌∷◌, ◌++◌, length, take, drop, remove, slice_get, slice_set, slice_index_or, Option, Some, None, option_map, Result, Ok, Err, is_ok, OnOk, Bor, arith, append_assoc, append-nil, length-append, refl, ap, sym, ◌∙◌, subst}
 use Rattle.std.specs.List.{AllZip}
 use Rattle.std.specs.Global.{Vec}
 use Rattle.std.specs.Option.{IfSome}
@@ -250,12 +250,6 @@ shown bs k b place (Some e) in_place there is = found_in bs k b place (seen e) i
 pub holds_there : {X : Type 0} (P : X → Type 0) (xs : List X) (k : ℕ) (x : X) → slice_get xs k ≡ Some x → IfSome (slice_get xs k) P → P x
 holds_there P xs k x there holds = subst (λ o. IfSome o P) there holds
 
--- the blocks from a place on
-pub rest_of : (bs : List BlockData) (k : ℕ) → joined (take (length bs - (k + 1)) (drop (k + 1) bs)) ≡ joined (drop (suc k) bs)
-rest_of bs k =
-    let next : k + 1 ≡ suc k = omega arith in
-    ap joined (take_all (length bs - (k + 1)) (drop (k + 1) bs) (omega (arith, length-drop (k + 1) bs))) ∙ ap (λ n. joined (drop n bs)) next
-
 -- where a block ends, by the blocks up to it
 pub end_in_place : (at : ℕ) (bs : List BlockData) (k : ℕ) (b : BlockData) → AreInPlace at (take (suc k) bs) → slice_get bs k ≡ Some b
     → b.start + length b.entries ≡ at + length (joined (take (suc k) bs))
@@ -299,9 +293,7 @@ module _ (bs : List BlockData) (i : ℕ) (b c : BlockData) (within : i < length 
       joined_last (e ∷ ds) d = ap (λ es. e.entries ++ es) (joined_last ds d) ∙ sym (append_assoc e.entries (joined ds) d.entries)
 
   pub again_fits : length (joined (take i bs)) + length b.entries ≤ length (joined bs)
-  again_fits =
-      let next : suc i ≡ i + 1 = omega arith in
-      omega (arith, ends_at bs i b there, front_fits (suc i) bs)
+  again_fits = omega (arith, ends_at bs i b there, front_fits (suc i) bs)
 
 -- two blocks that stand side by side, joined to one
 pub pair_joined : (bs : List BlockData) (k : ℕ) (b d c : BlockData) → slice_get bs k ≡ Some b → slice_get bs (suc k) ≡ Some d → c.entries ≡ b.entries ++ d.entries

@@ -1,5 +1,5 @@
 -- What the answer to a command says of the lists of the pass with which it was made.
-use Rattle.std.proofs.Common.{◌≡◌, ◌≢◌, ◌↔◌, ℕ, ◌<◌, IfSome, arith, true, false, List, length, Option, Some, None, Result, Ok, Err, refl, sym, ap, subst}
+use Rattle.std.proofs.Common.{◌≡◌, ◌≢◌, ◌↔◌, ℕ, ◌<◌, IfSome, arith, true, false, List, length, Option, Some, None, Result, Ok, Err, refl, sym, ap, subst, ◌∙◌}
 use Rattle.std.proofs.lemmas.Nat.{mul-le}
 use Rattle.vx_geom.specs.declared.bounds.TheConstants.{MAX_SECTORS_EACH_WAY}
 use Rattle.vx_geom.specs.declared.pos.Pos.{Pos}
@@ -62,3 +62,19 @@ called_so (Some at) before after cmd answer roomy enough within outside recorded
     let found = recorded (on_record answer inside roomy enough) in
     let same : at ≡ found.0 = cc (found.1) in
     (within at refl, subst (λ n. after ≡ with_call before n (record { cmd = cmd; answer = answer })) (sym same) found.2)
+
+-- and so it is of a position, in a world of these sizes whose passes have a list for each sector
+pub called_at : (sizes world : Sizes) (all : ℕ) (p : Pos) (before after : List (List Call)) (cmd : Cmd) (answer : Result Reply Refusal)
+    → AreSizes sizes → world ≡ sizes → sector_count world ≡ all → length before ≡ all
+    → answer ≢ Err HistoryFull → answer ≢ Err NoMemory
+    → (answer ≡ Err OutOfWorld) ↔ (sector_of world p ≡ None)
+    → (is_recorded answer ≡ true → (k : ℕ) × (sector_of world p ≡ Some k) × (after ≡ with_call before k (record { cmd = cmd; answer = answer })))
+    → (is_recorded answer ≡ false → after ≡ before)
+    → IsCalled (sector_of sizes p) before (record { cmd = cmd; answer = answer }) after
+called_at sizes world all p before after cmd answer are same divided many roomy enough outside recorded unrecorded =
+    let count = subst (λ (v : Sizes). sector_count v ≡ all) same divided in
+    called_so (sector_of sizes p) before after cmd answer roomy enough
+    (λ k held. subst (λ n. k < n) (count ∙ sym many) (sector_below sizes p k are held))
+    (subst (λ (v : Sizes). (answer ≡ Err OutOfWorld) ↔ (sector_of v p ≡ None)) same outside)
+    (λ yes_. let found = recorded yes_ in (found.0, subst (λ (v : Sizes). sector_of v p ≡ Some found.0) same found.1, found.2))
+    unrecorded

@@ -63,6 +63,34 @@ pub(crate) fn called<A: Places, B: Seats>(
     Ok(answer)
 }
 
+/// Carries out a command as `called` does, in a world that no other thread can reach meanwhile.
+// Inlined, so that the answer is not moved once more.
+#[inline(always)]
+pub(crate) fn called_alone<A: Places, B: Seats>(
+    bounds: &Bounds,
+    world: &mut World<A, B>,
+    rt: &impl Wait,
+    pass: &mut Pass<A, B>,
+    sector: Option<u32>,
+    cmd: &Cmd,
+) -> Result<Result<Reply, Refusal>, SessionError>
+    requires bounds { world.old.bounds ≡ bounds.now }
+    requires sector { sector ≡ sector_of bounds.now (place_of cmd.now) }
+    ensures called { IfOk result (λ answer.
+        IsCalled (sector_of bounds.now (place_of cmd.now)) pass.old.lists
+        (record { cmd = cmd.now; answer = answer }) pass.new.lists) }
+    ensures refused { OnErr result (pass.new.lists ≡ pass.old.lists) }
+    ensures seat { pass.new.seat ≡ pass.old.seat }
+    ensures bounds { world.new.bounds ≡ world.old.bounds }
+{
+    bounds.soundness();
+    let answer = world.submit_alone(rt, pass, sector, cmd);
+    if let Some(error) = shortage(&answer) {
+        return Err(error);
+    }
+    Ok(answer)
+}
+
 // What was short, where the command was refused for want of room or memory.
 fn shortage(answer: &Result<Reply, Refusal>) -> Option<SessionError>
     ensures short { IfSome result (λ _. is_recorded answer.now ≡ false) }

@@ -6,7 +6,7 @@ ghost use Rattle.vx_record.specs.Chronicles.{IsSeatOf};
 ghost use Rattle.vx_audit.specs.Deeds as deeds;
 ghost use Rattle.vx_session.specs.Sessions.{IsSession, Does, Stays, opening_of, ticks_of, names_of, edits_to, player_in};
 
-use crate::calling::{begin_anew, called, cause_of};
+use crate::calling::{begin_anew, called_alone, cause_of};
 use crate::fronts::is_next;
 use crate::marking::{busy_sectors, call_mark, sector_at};
 use crate::player::Player;
@@ -130,7 +130,7 @@ impl<A: Places, B: Seats> Session<A, B> {
         begin_anew(*marks.allocator(), world, keeper, sector)?;
         let player = &mut players[seat];
         let number = player.pass.seat().number;
-        let answer = called(bounds, world, rt, &mut player.pass, sector, &cmd)?;
+        let answer = called_alone(bounds, world, rt, &mut player.pass, sector, &cmd)?;
         marks.push_reserved(call_mark(number, sector));
         Ok(answer)
     }

@@ -6,7 +6,7 @@ ghost use Rattle.vx_sector.specs.SectorData.{EntryData};
 ghost use Rattle.vx_session.specs.Blocks.{marks_asked, player_data, AreAsked, AreCarriedOut, AreMade, AreTold, HasPlayed, HaveAllPlayed, HaveAnswers, HavePasses};
 ghost use Rattle.vx_session.specs.Sessions.{Does, Stays, names_of, pass_in, player_in};
 
-use crate::calling::{begin_anew, called};
+use crate::calling::{begin_anew, called_alone};
 use crate::halving::at_once;
 use crate::marking::{call_mark, sector_at};
 use crate::player::Player;
@@ -83,17 +83,18 @@ fn answers_of<A: Places + Send + Sync, B: Seats + Send + Sync, T: Threads + Wait
     rt: &T,
     alloc: Global,
     bounds: &Bounds,
-    world: &World<A, B>,
+    world: &mut World<A, B>,
     players: &mut [Player<A, B>],
     requests: &[Request],
 ) -> Result<Vec<Result<Reply, Refusal>>, SessionError>
-    requires bounds { world.now.bounds ≡ bounds.now }
+    requires bounds { world.old.bounds ≡ bounds.now }
     requires named { All (λ request. request.seat < length players.old) requests.now }
     ensures seats { map (λ player. (player_in player).seat) players.new
         ≡ map (λ player. (player_in player).seat) players.old }
     ensures each { IfOk result (λ answers. length answers.items ≡ length requests.now) }
     ensures carried_out { IfOk result (λ answers. AreCarriedOut bounds.now requests.now
         answers.items (map player_in players.old) (map player_in players.new)) }
+    ensures bounds { world.new.bounds ≡ world.old.bounds }
 {
     // Before the calls: where they are answered, their answers have room.
     let mut answers = Vec::with_capacity(alloc, requests.len())?;
@@ -109,12 +110,12 @@ fn answers_of<A: Places + Send + Sync, B: Seats + Send + Sync, T: Threads + Wait
 fn answer_each<A: Places, B: Seats>(
     rt: &impl Wait,
     bounds: &Bounds,
-    world: &World<A, B>,
+    world: &mut World<A, B>,
     players: &mut [Player<A, B>],
     requests: &[Request],
     answers: &mut Vec<Result<Reply, Refusal>>,
 ) -> Result<(), SessionError>
-    requires bounds { world.now.bounds ≡ bounds.now }
+    requires bounds { world.old.bounds ≡ bounds.now }
     requires named { All (λ request. request.seat < length players.old) requests.now }
     requires none { answers.old.items ≡ [] }
     requires room { length requests.now ≤ vec_capacity answers.old }
@@ -123,11 +124,12 @@ fn answer_each<A: Places, B: Seats>(
     ensures each { OnOk result (length answers.new.items ≡ length requests.now) }
     ensures carried_out { OnOk result (AreCarriedOut bounds.now requests.now answers.new.items
         (map player_in players.old) (map player_in players.new)) }
+    ensures bounds { world.new.bounds ≡ world.old.bounds }
 {
     for request in requests {
         let caller = &mut players[usize::from(request.seat)];
         let sector = sector_at(bounds, request.cmd.place());
-        let answer = called(bounds, world, rt, &mut caller.pass, sector, &request.cmd)?;
+        let answer = called_alone(bounds, world, rt, &mut caller.pass, sector, &request.cmd)?;
         answers.push_reserved(answer);
     }
     Ok(())

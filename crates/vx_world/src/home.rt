@@ -108,6 +108,8 @@ impl<A: Places> Home<A> {
     /// Carries out a command at a position of the sector from the pass's seat, and puts it with its
     /// answer on the pass's list of that number, where the sector records it. Then it counts in both
     /// shares.
+    // Inlined, so that its answer is not moved once more.
+    #[inline(always)]
     pub fn act<B: Seats, R: Wait>(
         &mut self,
         rt: &R,

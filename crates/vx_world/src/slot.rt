@@ -1,5 +1,6 @@
-ghost use Rattle.std.specs.Prelude.{◌≡◌, ◌↔◌, ◌<◌, Some, true};
+ghost use Rattle.std.specs.Prelude.{◌≡◌, ◌↔◌, ◌<◌, IfSome, Some, true};
 ghost use Rattle.vx_keeper.specs.Marks.{IsBegun};
+ghost use Rattle.vx_world.specs.Numbered.{IsSectorOf};
 ghost use Rattle.vx_world.specs.Settlements.{IsHome, IsHomeOf, sector_here};
 
 use crate::home::Home;
@@ -46,6 +47,20 @@ impl<A: Places> Slot<A> {
         match &self.home {
             Some(home) => home.is_sector(bounds, number),
             None => false,
+        }
+    }
+
+    /// The sector of that number in a world with these bounds, where it is at home.
+    pub fn home_mut(&mut self, bounds: &Bounds, number: u32) -> Option<&mut Home<A>>
+        ensures { IfSome result (λ home. IsSectorOf bounds.now number home.now.marked) }
+    {
+        let Some(home) = &mut self.home else {
+            return None;
+        };
+        if home.is_sector(bounds, number) {
+            Some(home)
+        } else {
+            None
         }
     }
 

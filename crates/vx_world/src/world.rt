@@ -1,5 +1,5 @@
 ghost use Rattle.std.specs.List.{All};
-ghost use Rattle.std.specs.Prelude.{◌≡◌, ℕ, ◌↔◌, ◌+◌, ◌*◌, ◌<◌, ◌≤◌, true, false, None, Some, Ok, Err, map, length, replicate, vec_len, IfOk, IfSome, ◌^◌, []};
+ghost use Rattle.std.specs.Prelude.{◌≡◌, ℕ, ◌↔◌, ◌+◌, ◌*◌, ◌<◌, ◌≤◌, true, false, None, Some, Ok, Err, map, length, replicate, vec_len, IfOk, IfSome, IfNone, ◌≢◌, ◌^◌, []};
 ghost use Rattle.vx_geom.specs.Sizes.{sector_count, sector_of};
 ghost use Rattle.vx_sector.specs.Commands.{place_of};
 ghost use Rattle.vx_sector.specs.SectorData.{seat_of};
@@ -27,7 +27,7 @@ use vx_geom::{Bounds, Pos};
 use vx_keeper::{Keeper, Places};
 use vx_record::Opening;
 use vx_sector::{Cmd, Refusal, Reply};
-use vx_step::{Gate, Point};
+use vx_step::{Gate, NoGate, Point};
 
 /// A world that threads share. Each of its sectors stands under a lock of its own; commands are
 /// carried out under that of one sector, and ticks take the sectors out and put them back.
@@ -204,6 +204,39 @@ impl<A: Places, B: Seats> World<A, B> {
         home.act(rt, &self.books, pass, at, cmd)
     }
 
+    /// Carries out a command as `submit_in` does. Since no other thread can reach the world
+    /// meanwhile, no lock is taken where the sector is at home.
+    // Inlined, so that its answer is not moved once more.
+    #[inline(always)]
+    pub fn submit_alone<R: Wait>(
+        &mut self,
+        rt: &R,
+        pass: &mut Pass<A, B>,
+        number: Option<u32>,
+        cmd: &Cmd,
+    ) -> Result<Reply, Refusal>
+        requires { number ≡ sector_of self.old.bounds (place_of cmd.now) }
+        ensures outside { (result ≡ Err Refusal.OutOfWorld)
+            ↔ (sector_of self.old.bounds (place_of cmd.now) ≡ None) }
+        ensures recorded { is_recorded result ≡ true → (at : ℕ)
+            × (sector_of self.old.bounds (place_of cmd.now) ≡ Some at)
+            × (pass.new.lists ≡ with_call pass.old.lists at (record { cmd = cmd.now; answer = result }))
+            × (pass.new.share.amount ≡ pass.old.share.amount + 1) }
+        ensures unrecorded { is_recorded result ≡ false → (pass.new.lists ≡ pass.old.lists)
+            × (pass.new.share ≡ pass.old.share) × (pass.new.reserve ≡ pass.old.reserve) }
+        ensures seat { pass.new.seat ≡ pass.old.seat }
+        ensures bounds { self.new.bounds ≡ self.old.bounds }
+    {
+        if let Some(at) = number {
+            self.bounds.soundness();
+            let slot = &mut self.slots[at as usize];
+            if let Some(answer) = act_in(rt, slot, &self.bounds, &self.books, pass, at, cmd) {
+                return answer;
+            }
+        }
+        self.submit_in(rt, pass, number, cmd, &NoGate)
+    }
+
     /// Puts a part down in the base and the cells of a sector, as no rule does; `Ok(false)` outside
     /// the world and where `Sector::tamper` says so. It is there for tests of the keeper.
     pub fn tamper<R: Wait>(&self, rt: &R, p: Pos, part: Part) -> Result<bool, AllocError>
@@ -243,5 +276,36 @@ impl<A: Places, B: Seats> World<A, B> {
             books,
         } = self;
         Lifted::new(room.into_inner().filled(slots), books.into_inner(), seats)
+    }
+}
+
+// Carries out a command in the sector of that number, as `Home::act` does, where it is at home in
+// its place; else nothing is done.
+#[inline(always)]
+fn act_in<A: Places, B: Seats, R: Wait>(
+    rt: &R,
+    slot: &mut Mutex<Slot<A>>,
+    bounds: &Bounds,
+    books: &Mutex<Books<A, B>>,
+    pass: &mut Pass<A, B>,
+    number: u32,
+    cmd: &Cmd,
+) -> Option<Result<Reply, Refusal>>
+    requires there { number < A.all }
+    requires held { sector_of bounds.now (place_of cmd.now) ≡ Some number }
+    ensures inside { IfSome result (λ answer. answer ≢ Err Refusal.OutOfWorld) }
+    ensures recorded { IfSome result (λ answer. is_recorded answer ≡ true
+        → (pass.new.lists
+        ≡ with_call pass.old.lists number (record { cmd = cmd.now; answer = answer }))
+        × (pass.new.share.amount ≡ pass.old.share.amount + 1)) }
+    ensures unrecorded { IfSome result (λ answer. is_recorded answer ≡ false
+        → (pass.new.lists ≡ pass.old.lists) × (pass.new.share ≡ pass.old.share)
+        × (pass.new.reserve ≡ pass.old.reserve)) }
+    ensures away { IfNone result (pass.new ≡ pass.old) }
+    ensures seat { pass.new.seat ≡ pass.old.seat }
+{
+    match slot.get_mut().home_mut(bounds, number) {
+        Some(home) => Some(home.act(rt, books, pass, number as usize, cmd)),
+        None => None,
     }
 }

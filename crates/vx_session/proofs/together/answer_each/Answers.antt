@@ -15,13 +15,14 @@ loop-request-init g c =
       refl,
       subst (λ answers. AreCarriedOut c.args.bounds.now [] answers passes passes) (sym c.requires.none)
           (none_carried c.args.bounds.now passes),
+      refl,
     )
 
 pub returns-in_err-answer-clause-seats : goal.returns-in_err-answer-clause-seats
 returns-in_err-answer-clause-seats g c =
     let here = c.index-players-from.is in
     seat_stays (λ player. (player_in player).seat) _ c.loop-request.players c.from.result c.index-players-from.result _
-    c.loop-request.invariant.2 here (ap seat_of (c.called.ensures.seat ∙ ap (λ p. p.pass.seat) (sym here)))
+    c.loop-request.invariant.2 here (ap seat_of (c.called_alone.ensures.seat ∙ ap (λ p. p.pass.seat) (sym here)))
 
 pub loop-request-preserved : goal.loop-request-preserved
 loop-request-preserved g c =
@@ -33,10 +34,11 @@ loop-request-preserved g c =
       ap length items ∙ length_push c.loop-request.answers.items c.in_ok-answer.answer ∙ ap (λ n. n + 1) was.0,
       rw c.push_reserved.ensures.capacity was.1,
       seat_stays (λ player. (player_in player).seat) _ c.loop-request.players c.from.result c.index-players-from.result _
-          was.2 here (ap seat_of (c.called.ensures.seat ∙ ap (λ p. p.pass.seat) (sym here))),
+          was.2 here (ap seat_of (c.called_alone.ensures.seat ∙ ap (λ p. p.pass.seat) (sym here))),
       rw items
           (turn_carried player_in c.args.bounds.now c.args.requests.now c.loop-request.request-index _ c.loop-request.answers.items
           c.in_ok-answer.answer (map player_in c.args.players.now) c.loop-request.players c.from.result c.index-players-from.result _
           c.loop-request-test.true c.from.ensures was.0 was.3 there here
           c.in_ok-answer.ensures.called),
+      c.called_alone.ensures.bounds ∙ was.4,
     )

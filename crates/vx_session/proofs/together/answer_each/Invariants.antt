@@ -8,3 +8,4 @@ invariant-loop-request g l =
     (length l.answers.items ≡ l.request-index) × (length l.requests ≤ vec_capacity l.answers)
     × (map (λ player. (player_in player).seat) l.players ≡ map (λ player. (player_in player).seat) l.initial.players)
     × AreCarriedOut l.bounds (take l.request-index l.requests) l.answers.items (map player_in l.initial.players) (map player_in l.players)
+    × (l.world.bounds ≡ l.initial.world.bounds)

@@ -15,13 +15,13 @@ pub invariant_of-self-in_err-answer : goal.invariant_of-self-in_err-answer
 invariant_of-self-in_err-answer g c =
     let named = subst (λ (s : SessionData). c.args.seat < length (names_of s)) (sym c.self.view_is) c.requires in
     let inv = c.self.invariant in
-    let same = ap seat_of c.called.ensures.seat in
-    (session_stays _ _ _ _ _ _ _ _ _ _ inv.0 named c.index_mut-player.ensures.value same, c.begin_anew.ensures ∙ inv.1, inv.2, inv.3, inv.4, inv.5, inv.6)
+    let same = ap seat_of c.called_alone.ensures.seat in
+    (session_stays _ _ _ _ _ _ _ _ _ _ inv.0 named c.index_mut-player.ensures.value same, c.called_alone.ensures.bounds ∙ c.begin_anew.ensures ∙ inv.1, inv.2, inv.3, inv.4, inv.5, inv.6)
 
 pub returns-in_err-answer-clause-refused : goal.returns-in_err-answer-clause-refused
 returns-in_err-answer-clause-refused g c =
     let lists = c.in_err-answer.ensures.refused in
-    let seat = c.called.ensures.seat in
+    let seat = c.called_alone.ensures.seat in
     on_error _ _ (unchanged _ c.self.inside.bounds c.self.inside.keeper c.self.inside.players.items
     (edits_to c.self.inside.last) _ _ _ _ _ c.index_mut-player.ensures.value
     (λ i. record { seat = seat_of (seat i); lists = lists i })
@@ -31,8 +31,8 @@ pub invariant_of-self-2 : goal.invariant_of-self-2
 invariant_of-self-2 g c =
     let named = subst (λ (s : SessionData). c.args.seat < length (names_of s)) (sym c.self.view_is) c.requires in
     let inv = c.self.invariant in
-    let same = ap seat_of c.called.ensures.seat in
-    (session_stays _ _ _ _ _ _ _ _ _ _ inv.0 named c.index_mut-player.ensures.value same, c.begin_anew.ensures ∙ inv.1, inv.2, inv.3, inv.4, inv.5, inv.6)
+    let same = ap seat_of c.called_alone.ensures.seat in
+    (session_stays _ _ _ _ _ _ _ _ _ _ inv.0 named c.index_mut-player.ensures.value same, c.called_alone.ensures.bounds ∙ c.begin_anew.ensures ∙ inv.1, inv.2, inv.3, inv.4, inv.5, inv.6)
 
 pub returns-clause-called : goal.returns-clause-called
 returns-clause-called g c = λ name seated.

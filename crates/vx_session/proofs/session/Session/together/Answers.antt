@@ -21,7 +21,7 @@ invariant_of-self-in_err-answers g c =
     let seats = c.answers_of.ensures.seats ∙ ap (map (λ p. (player_in p).seat)) c.deref_mut.ensures.value in (
       subst (λ ps. IsSession (session_data i.bounds i.keeper (map player_in ps) (edits_to i.last) c.reserve.new.self.items)) (sym whole)
           (seats_stay player_in i.bounds i.keeper i.players.items new (edits_to i.last) i.marks.items _ inv.0 seats),
-      c.begin_all_anew.ensures ∙ inv.1,
+      c.answers_of.ensures.bounds ∙ c.begin_all_anew.ensures ∙ inv.1,
       inv.2,
       inv.3,
       inv.4,
@@ -38,7 +38,7 @@ invariant_of-self-2 g c =
     let seats = c.answers_of.ensures.seats ∙ ap (map (λ p. (player_in p).seat)) c.deref_mut.ensures.value in (
       subst (λ ps. IsSession (session_data i.bounds i.keeper (map player_in ps) (edits_to i.last) c.mark_all.new.marks.items)) (sym whole)
           (seats_stay player_in i.bounds i.keeper i.players.items new (edits_to i.last) i.marks.items _ inv.0 seats),
-      c.begin_all_anew.ensures ∙ inv.1,
+      c.answers_of.ensures.bounds ∙ c.begin_all_anew.ensures ∙ inv.1,
       inv.2,
       inv.3,
       inv.4,

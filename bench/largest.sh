@@ -16,7 +16,8 @@ else
 fi
 . "$root/bench/measure.sh"
 # As ./run sets it.
-export GLIBC_TUNABLES=glibc.malloc.hugetlb=1
+GLIBC_TUNABLES=$(sed -n 's/^export GLIBC_TUNABLES=${GLIBC_TUNABLES-\(.*\)}$/\1/p' "$root/run")
+export GLIBC_TUNABLES
 
 # The header of a world of so many sectors each way, so high, with so many players.
 header() {

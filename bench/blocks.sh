@@ -1,6 +1,6 @@
 #!/usr/bin/env bash
 # What blocks of commands that players make at once cost, for the built server, beside the same lines without blocks.
-#   bench/blocks.sh [PLAYERS ..]
+#   bench/blocks.sh [--server PROGRAM] [PLAYERS ..]
 # So many players (8 unless said otherwise), each in sectors of his own with nine lines of ten, in a world of 64 sectors; blocks of 8 to 65,536 lines.
 # Needs awk, and /usr/bin/time.
 set -eu
@@ -8,6 +8,12 @@ root=$(cd "$(dirname "$0")/.." && pwd)
 work=$(mktemp -d)
 trap 'rm -rf "$work"' EXIT
 server=$root/crates/vx_server/out/vx_server
+if [ "${1-}" = --server ]; then
+  server=$2
+  shift 2
+else
+  "$root/run" - </dev/null >/dev/null
+fi
 . "$root/bench/measure.sh"
 
 # LINES commands of PLAYERS players, in blocks of BLOCK lines; 0: without blocks.
@@ -34,7 +40,6 @@ script() {
   }'
 }
 
-"$root/run" - </dev/null >/dev/null
 printf '%-8s %-8s %10s %14s %10s\n' players block ms commands/s ratio
 for players in "${@:-8}"; do
   lines=393216

@@ -20,6 +20,7 @@ use vx_audit::Mark;
 use vx_geom::Bounds;
 use vx_keeper::{Keeper, Places};
 use vx_sector::{Refusal, Reply};
+use vx_step::MAX_WORKERS;
 use vx_world::{Seats, World};
 
 // A thread that carries out fewer requests than so many costs more than it saves.
@@ -214,19 +215,33 @@ fn play_all<A: Places + Send + Sync, B: Seats + Send + Sync, T: Threads + Wait +
     ensures played { OnOk result (HaveAllPlayed bounds.now requests.now
         (map player_data players.old) (map player_data players.new)) }
 {
-    play_each(rt, bounds, world, players);
+    play_each(
+        rt,
+        bounds,
+        world,
+        players,
+        share_of_a_thread(requests.len()),
+    );
     match first_stop(players) {
         Some(error) => Err(error),
         None => Ok(()),
     }
 }
 
-// Has them play at once, as far as threads are worth it. Who stopped is left to be seen.
+// How many of so many requests a thread is to have at least: as many as are worth one, and so many
+// that there are no more threads than a tick may have workers. Only costs rest on it.
+fn share_of_a_thread(requests: usize) -> usize {
+    WORTH_A_THREAD.max(requests / MAX_WORKERS)
+}
+
+// Has them play at once, as far as each thread has its share of the requests. Who stopped is left to
+// be seen.
 fn play_each<A: Places + Send + Sync, B: Seats + Send + Sync, T: Threads + Wait + Sync>(
     rt: &T,
     bounds: &Bounds,
     world: &World<A, B>,
     players: &mut [Player<A, B>],
+    share: usize,
 )
     requires { world.now.bounds ≡ bounds.now }
     ensures seats { (k : ℕ) (d : _) → k < length players.old
@@ -239,15 +254,15 @@ fn play_each<A: Places + Send + Sync, B: Seats + Send + Sync, T: Threads + Wait 
 {
     at_once(
         rt,
-        &|some| is_worth_a_thread(some),
+        &|some| are_asked(some, share),
         &|player| player.play(rt, bounds, world),
         players,
     );
 }
 
-// Whether so much is asked of these players that they are worth a thread. Only costs rest on it.
-fn is_worth_a_thread<A: Places, B: Seats>(players: &[Player<A, B>]) -> bool {
-    let mut wanting = WORTH_A_THREAD;
+// Whether at least so much is asked of these players. Only costs rest on it.
+fn are_asked<A: Places, B: Seats>(players: &[Player<A, B>], share: usize) -> bool {
+    let mut wanting = share;
     for player in players {
         wanting = wanting.saturating_sub(player.asked.len());
     }

@@ -234,8 +234,8 @@ fn share_of_a_thread(requests: usize) -> usize {
     WORTH_A_THREAD.max(requests / MAX_WORKERS)
 }
 
-// Has them play at once, as far as each thread has its share of the requests. Who stopped is left to
-// be seen.
+// Has them play at once, as far as each thread has its share of what is asked. Who stopped is left
+// to be seen.
 fn play_each<A: Places + Send + Sync, B: Seats + Send + Sync, T: Threads + Wait + Sync>(
     rt: &T,
     bounds: &Bounds,

@@ -59,7 +59,7 @@ fn spelling(reply: &Reply)
     ensures { IsPlain (reply_text reply.now) }
 {
     match reply {
-        Reply::Seen(cell) => ranges(cell),
+        Reply::Seen(seen) => ranges(&seen.cell()),
         Reply::Done(_) => {}
         Reply::Opened(_, _) => {}
     }

@@ -75,6 +75,8 @@ impl<A: Places> Marked<A> {
     /// Carries out a command at a position of the sector and puts it on the list of that number, as
     /// `Lists::carry_out` does. The mark stays, since no command changes with what the window
     /// began.
+    // Inlined, so that its answer is not moved once more.
+    #[inline(always)]
     pub fn carry_out(
         &mut self,
         lists: &mut Lists,

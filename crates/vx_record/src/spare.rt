@@ -47,7 +47,7 @@ pub fn copy_of(reply: &Reply, spare: Option<Contents>) -> Reply
     ensures { result ≡ reply.now }
 {
     match reply {
-        Reply::Seen(cell) => Reply::Seen(*cell),
+        Reply::Seen(seen) => Reply::Seen(*seen),
         Reply::Done(rule) => Reply::Done(*rule),
         Reply::Opened(rule, _) => {
             let Some(contents) = spare else {

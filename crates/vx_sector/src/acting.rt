@@ -13,6 +13,7 @@ use crate::judge::Judge;
 use crate::refusal::Refusal;
 use crate::reply::Reply;
 use crate::seat::Seat;
+use crate::sight::Sight;
 use std::alloc::Global;
 use vx_block::{Cell, Part};
 use vx_cells::Cells;
@@ -74,7 +75,7 @@ fn by_leave(alloc: Global, cells: &Cells, rule: Rule, cmd: &Cmd) -> Result<(Repl
     ensures fits { IfOk result (λ done. Fits cells.now (place_of cmd.now) done.1) }
 {
     match cmd {
-        Cmd::Look(p) => Ok((Reply::Seen(cells.get(*p)), Effect::Same)),
+        Cmd::Look(p) => Ok((Reply::Seen(Sight::new(cells.get(*p))), Effect::Same)),
         Cmd::Place(p, part) => done(rule, placing(cells, *p, *part)),
         Cmd::Break(p) => done(rule, breaking(cells, *p)),
         Cmd::Turn(p) => done(rule, turning(cells, *p)),

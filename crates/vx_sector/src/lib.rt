@@ -14,6 +14,7 @@ mod refusal;
 mod reply;
 mod seat;
 mod sector;
+mod sight;
 mod window;
 
 pub use cmd::Cmd;
@@ -29,3 +30,4 @@ pub use refusal::Refusal;
 pub use reply::Reply;
 pub use seat::Seat;
 pub use sector::{MAX_ENTRIES, Sector};
+pub use sight::Sight;

@@ -12,7 +12,7 @@ use vx_file::read_policy;
 use vx_geom::{Bounds, LOW_HEIGHT, Pos};
 use vx_policy::{Policy, Version};
 use vx_region::{Name, RegionNo};
-use vx_sector::{Cmd, Entry, Fresh, Refusal, Reply, Seat, Sector};
+use vx_sector::{Cmd, Entry, Fresh, Refusal, Reply, Seat, Sector, Sight};
 
 // What a command is answered.
 type Answer = Result<Reply, Refusal>;
@@ -65,7 +65,11 @@ fn second_window(rt: &impl Abort, sector: &mut Sector, next: Fresh, bob: &Seat)
 fn refused(bob: &Seat) -> [Entry; 2] {
     [
         entry(bob, Cmd::Break(PLACE), DENIED),
-        entry(bob, Cmd::Look(PLACE), Ok(Reply::Seen(Cell::Stone))),
+        entry(
+            bob,
+            Cmd::Look(PLACE),
+            Ok(Reply::Seen(Sight::new(Cell::Stone))),
+        ),
     ]
 }
 
@@ -148,7 +152,7 @@ fn does_again(rt: &impl Abort, sector: &mut Sector, bob: &Seat, cmd: Cmd) {
 
 fn is_due(rt: &impl Abort, cmd: Cmd, answer: &Answer) {
     match cmd {
-        Cmd::Look(_) => same(rt, answer, &Ok(Reply::Seen(Cell::Air))),
+        Cmd::Look(_) => same(rt, answer, &Ok(Reply::Seen(Sight::new(Cell::Air)))),
         Cmd::OpenChest(_) => assert!(rt; matches!(answer, Ok(Reply::Opened(_, _)))),
         Cmd::Break(p) if p == PLACE => same(rt, answer, &DENIED),
         _ => same(rt, answer, &DONE),

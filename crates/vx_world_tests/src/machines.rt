@@ -14,7 +14,7 @@ use vx_geom::{Bounds, LOW_HEIGHT, Pos};
 use vx_keeper::{Keeper, Places};
 use vx_record::Opening;
 use vx_region::{Name, RegionNo};
-use vx_sector::{Cmd, Reply};
+use vx_sector::{Cmd, Reply, Sight};
 use vx_step::{MAX_WORKERS, NoGate};
 use vx_tick::Fate;
 use vx_world::{Pass, Seats, World};
@@ -193,6 +193,6 @@ fn sees<A: Places, B: Seats, R: Wait + Abort>(
     let cell = Cell::read(text).expect(rt, "no cell");
     let gate = Noting::new();
     let answer = world.submit(rt, pass, Cmd::Look(p), &gate);
-    assert!(rt; answer == Ok(Reply::Seen(cell)));
+    assert!(rt; answer == Ok(Reply::Seen(Sight::new(cell))));
     assert!(rt; gate.has_held(p.x / 16));
 }

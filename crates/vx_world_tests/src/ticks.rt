@@ -11,7 +11,7 @@ use vx_geom::{Pos, ShapeSpec};
 use vx_keeper::{Keeper, Places};
 use vx_policy::Edit;
 use vx_region::RegionNo;
-use vx_sector::{Cmd, Refusal, Reply};
+use vx_sector::{Cmd, Refusal, Reply, Sight};
 use vx_step::NoGate;
 use vx_world::{Pass, Seats, World};
 
@@ -76,7 +76,7 @@ fn is_seen<A: Places, B: Seats, R: Wait + Abort>(
     cell: Cell,
 ) {
     let answer = world.submit(rt, pass, Cmd::Look(p), &NoGate);
-    assert!(rt; answer == Ok(Reply::Seen(cell)));
+    assert!(rt; answer == Ok(Reply::Seen(Sight::new(cell))));
 }
 
 /// An edit denies nothing in the window in which it is accepted, and denies in the next.

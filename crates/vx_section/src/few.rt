@@ -73,7 +73,10 @@ impl Few {
         ensures value { result ≡ slice_index_or self.now.bytes place 0 }
         ensures known { list_any (nat_eq result) self.now.palette ≡ true }
     {
-        byte_of(&self.palette, &self.pairs, place)
+        // The palette is read before it is known which byte of it is asked for, so that the two are
+        // fetched from memory at one time, and not one behind the other.
+        let palette = self.palette;
+        byte_of(&palette, &self.pairs, place)
     }
 
     /// The number of a byte in the palette.

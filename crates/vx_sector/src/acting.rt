@@ -1,6 +1,6 @@
 //! What the rules answer to a command, and what it does.
 ghost use Rattle.std.specs.Prelude.{◌≡◌, ◌⊎◌, true, Some, None, IfOk, IfErr, MatchResult, Ok, Err};
-ghost use Rattle.vx_cells.specs.SectorCells.{SectorCells, IsWhole, holds};
+ghost use Rattle.vx_cells.specs.SectorCells.{SectorCells, IsWhole, holds, cell_at};
 ghost use Rattle.vx_sector.specs.SectorData.{seat_of};
 ghost use Rattle.vx_sector.specs.Commands.{place_of};
 ghost use Rattle.vx_sector.specs.Acting.{hindrance, ok_unless, slots_at, reply_by, effect_of, permitted_effect, rules_answer, Fits};
@@ -39,8 +39,10 @@ pub fn outcome_of(
     ensures fits { IfOk result (λ done. Fits cells.now (place_of cmd.now) done.1) }
     ensures judge { judge.new ≡ judge.old }
 {
+    // The cell is read before the policy is asked, so that it is fetched from memory meanwhile.
+    let cell = cells.get(cmd.place());
     let rule = permitted(judge, seat, cmd)?;
-    by_leave(alloc, cells, rule, cmd)
+    by_leave(alloc, cells, cell, rule, cmd)
 }
 
 // The rule that permits the player of the seat what the command asks leave for. A look asks nobody,
@@ -62,10 +64,18 @@ fn permitted(judge: &mut Judge, seat: &Seat, cmd: &Cmd) -> Result<Rule, Refusal>
     }
 }
 
-// The reply to a command by leave of the rule, and what the command does.
-fn by_leave(alloc: Global, cells: &Cells, rule: Rule, cmd: &Cmd) -> Result<(Reply, Effect), Refusal>
+// The reply to a command at a position where that cell stands, by leave of the rule, and what the
+// command does.
+fn by_leave(
+    alloc: Global,
+    cells: &Cells,
+    cell: Cell,
+    rule: Rule,
+    cmd: &Cmd,
+) -> Result<(Reply, Effect), Refusal>
     requires held { holds cells.now (place_of cmd.now) ≡ true }
     requires whole { IsWhole cells.now }
+    requires cell { cell ≡ cell_at cells.now (place_of cmd.now) }
     ensures answer { MatchResult result
         (λ done. (hindrance cells.now cmd.now ≡ None)
         × (done.0 ≡ reply_by rule cells.now cmd.now))
@@ -75,18 +85,23 @@ fn by_leave(alloc: Global, cells: &Cells, rule: Rule, cmd: &Cmd) -> Result<(Repl
     ensures fits { IfOk result (λ done. Fits cells.now (place_of cmd.now) done.1) }
 {
     match cmd {
-        Cmd::Look(p) => Ok((Reply::Seen(Sight::new(cells.get(*p))), Effect::Same)),
-        Cmd::Place(p, part) => done(rule, placing(cells, *p, *part)),
-        Cmd::Break(p) => done(rule, breaking(cells, *p)),
-        Cmd::Turn(p) => done(rule, turning(cells, *p)),
-        Cmd::OpenChest(p) => Ok((Reply::Opened(rule, shown(alloc, cells, *p)?), Effect::Same)),
+        Cmd::Look(_) => Ok((Reply::Seen(Sight::new(cell)), Effect::Same)),
+        Cmd::Place(_, part) => done(rule, placing(cell, *part)),
+        Cmd::Break(p) => done(rule, breaking(cells, *p, cell)),
+        Cmd::Turn(_) => done(rule, turning(cell)),
+        Cmd::OpenChest(p) => {
+            Ok((
+                Reply::Opened(rule, shown(alloc, cells, *p, cell)?),
+                Effect::Same,
+            ))
+        }
         Cmd::Put {
             at,
             slot,
             item,
             count,
-        } => done(rule, putting(cells, *at, *slot, *item, *count)),
-        Cmd::Take { at, slot, count } => done(rule, taking(cells, *at, *slot, *count)),
+        } => done(rule, putting(cells, *at, cell, *slot, *item, *count)),
+        Cmd::Take { at, slot, count } => done(rule, taking(cells, *at, cell, *slot, *count)),
     }
 }
 
@@ -99,51 +114,53 @@ fn done(rule: Rule, effect: Result<Effect, Refusal>) -> Result<(Reply, Effect), 
     Ok((Reply::Done(rule), effect?))
 }
 
-// What the chest to be opened holds.
-fn shown(alloc: Global, cells: &Cells, p: Pos) -> Result<Contents, Refusal>
-    requires { holds cells.now p ≡ true }
+// What the chest to be opened holds, if that cell is one.
+fn shown(alloc: Global, cells: &Cells, p: Pos, cell: Cell) -> Result<Contents, Refusal>
+    requires held { holds cells.now p ≡ true }
+    requires cell { cell ≡ cell_at cells.now p }
     ensures { MatchResult result
         (λ contents. (hindrance cells.now (Cmd.OpenChest p) ≡ None)
         × (contents ≡ slots_at cells.now p))
         (λ refusal. (hindrance cells.now (Cmd.OpenChest p) ≡ Some refusal)
         ⊎ (refusal ≡ Refusal.NoMemory)) }
 {
-    let slots = opening(cells, p)?;
+    let slots = opening(cells, p, cell)?;
     Contents::new(alloc, slots).map_err(|_| Refusal::NoMemory)
 }
 
-// A part put where there is air.
-fn placing(cells: &Cells, p: Pos, part: Part) -> Result<Effect, Refusal>
-    requires { holds cells.now p ≡ true }
-    ensures { result ≡ permitted_effect cells.now (Cmd.Place p part) }
+// A part put where that cell stands, if it is air.
+fn placing(cell: Cell, part: Part) -> Result<Effect, Refusal>
+    ensures { (c : SectorCells) (p : Pos) → cell ≡ cell_at c p
+        → result ≡ permitted_effect c (Cmd.Place p part) }
 {
-    let Cell::Air = cells.get(p) else {
+    let Cell::Air = cell else {
         return Err(Refusal::Occupied);
     };
     Ok(Effect::NewCell(part.cell()))
 }
 
-// Air left where there is a part.
-fn breaking(cells: &Cells, p: Pos) -> Result<Effect, Refusal>
+// Air left where that cell stands, if it is a part.
+fn breaking(cells: &Cells, p: Pos, cell: Cell) -> Result<Effect, Refusal>
     requires held { holds cells.now p ≡ true }
     requires whole { IsWhole cells.now }
+    requires cell { cell ≡ cell_at cells.now p }
     ensures { result ≡ permitted_effect cells.now (Cmd.Break p) }
 {
-    match cells.get(p) {
+    match cell {
         Cell::Air => Err(Refusal::Nothing),
         Cell::Piston { extended: true, .. } | Cell::Head { .. } => Err(Refusal::Extended),
         Cell::Bedrock => Err(Refusal::Unbreakable),
-        _ if is_in_use(cells, p) => Err(Refusal::NotEmpty),
+        _ if is_in_use(cells, p, cell) => Err(Refusal::NotEmpty),
         _ => Ok(Effect::NewCell(Cell::Air)),
     }
 }
 
-// A lever switched.
-fn turning(cells: &Cells, p: Pos) -> Result<Effect, Refusal>
-    requires { holds cells.now p ≡ true }
-    ensures { result ≡ permitted_effect cells.now (Cmd.Turn p) }
+// That cell switched, if it is a lever.
+fn turning(cell: Cell) -> Result<Effect, Refusal>
+    ensures { (c : SectorCells) (p : Pos) → cell ≡ cell_at c p
+        → result ≡ permitted_effect c (Cmd.Turn p) }
 {
-    let Cell::Lever { facing, on } = cells.get(p) else {
+    let Cell::Lever { facing, on } = cell else {
         return Err(Refusal::NotLever);
     };
     Ok(Effect::NewCell(Cell::Lever { facing, on: !on }))

@@ -10,26 +10,39 @@ ghost use Rattle.vx_sector.specs.Acting.{refuse_if, ok_unless, first_some, hindr
 use crate::cmd::Cmd;
 use crate::effect::Effect;
 use crate::refusal::Refusal;
+use vx_block::Cell;
 use vx_cells::{Cells, MAX_COUNT, SLOTS, Slot, Stack};
 use vx_geom::Pos;
 
-/// The slots of the chest to be opened.
-pub fn opening(cells: &Cells, p: Pos) -> Result<[Slot; SLOTS], Refusal>
-    requires { holds cells.now p ≡ true }
+/// The slots of the chest to be opened, if that cell, which stands at the position, is one.
+pub fn opening(cells: &Cells, p: Pos, cell: Cell) -> Result<[Slot; SLOTS], Refusal>
+    requires held { holds cells.now p ≡ true }
+    requires cell { cell ≡ cell_at cells.now p }
     ensures slots { result
         ≡ ok_unless (hindrance cells.now (Cmd.OpenChest p)) (slots_at cells.now p) }
     ensures each { IfOk result (All IsSlot) }
 {
+    let Cell::Chest = cell else {
+        return Err(Refusal::NotChest);
+    };
     cells.chest(p).ok_or(Refusal::NotChest)
 }
 
-/// So many of an item put into a slot of a chest.
-pub fn putting(cells: &Cells, p: Pos, slot: u8, item: u16, count: u8) -> Result<Effect, Refusal>
-    requires { holds cells.now p ≡ true }
+/// So many of an item put into a slot of that cell, which stands at the position, if it is a chest.
+pub fn putting(
+    cells: &Cells,
+    p: Pos,
+    cell: Cell,
+    slot: u8,
+    item: u16,
+    count: u8,
+) -> Result<Effect, Refusal>
+    requires held { holds cells.now p ≡ true }
+    requires cell { cell ≡ cell_at cells.now p }
     ensures effect { result ≡ permitted_effect cells.now (Cmd.Put p slot item count) }
     ensures fits { IfOk result (λ effect. Fits cells.now p effect) }
 {
-    let content = content_of(cells, p, slot)?;
+    let content = content_of(cells, p, cell, slot)?;
     if holds_other(item, content) {
         return Err(Refusal::OtherItem);
     }
@@ -41,13 +54,15 @@ pub fn putting(cells: &Cells, p: Pos, slot: u8, item: u16, count: u8) -> Result<
     Ok(Effect::NewSlot(slot, Some(Stack { item, count })))
 }
 
-/// So many taken out of a slot of a chest. One from which all are taken is empty.
-pub fn taking(cells: &Cells, p: Pos, slot: u8, count: u8) -> Result<Effect, Refusal>
-    requires { holds cells.now p ≡ true }
+/// So many taken out of a slot of that cell, which stands at the position, if it is a chest. A slot
+/// from which all are taken is empty.
+pub fn taking(cells: &Cells, p: Pos, cell: Cell, slot: u8, count: u8) -> Result<Effect, Refusal>
+    requires held { holds cells.now p ≡ true }
+    requires cell { cell ≡ cell_at cells.now p }
     ensures effect { result ≡ permitted_effect cells.now (Cmd.Take p slot count) }
     ensures fits { IfOk result (λ effect. Fits cells.now p effect) }
 {
-    let content = content_of(cells, p, slot)?;
+    let content = content_of(cells, p, cell, slot)?;
     if count == 0 {
         return Err(Refusal::BadCount);
     }
@@ -64,12 +79,16 @@ pub fn taking(cells: &Cells, p: Pos, slot: u8, count: u8) -> Result<Effect, Refu
     Ok(Effect::NewSlot(slot, Some(Stack { count, ..stack })))
 }
 
-/// Whether a chest is there that holds something.
-pub fn is_in_use(cells: &Cells, p: Pos) -> bool
+/// Whether that cell, which stands at the position, is a chest that holds something.
+pub fn is_in_use(cells: &Cells, p: Pos, cell: Cell) -> bool
     requires held { holds cells.now p ≡ true }
     requires whole { IsWhole cells.now }
+    requires cell { cell ≡ cell_at cells.now p }
     ensures { result ≡ list_any is_filled (slots_at cells.now p) }
 {
+    let Cell::Chest = cell else {
+        return false;
+    };
     match cells.chest(p) {
         Some(slots) => any_filled(&slots),
         None => false,
@@ -83,16 +102,17 @@ pub fn any_filled(slots: &[Slot]) -> bool
     slots.iter().any(|slot| slot.is_some())
 }
 
-// What is in a slot of the chest at a position.
-fn content_of(cells: &Cells, p: Pos, slot: u8) -> Result<Slot, Refusal>
-    requires { holds cells.now p ≡ true }
+// What is in a slot of that cell, which stands at the position, if it is a chest.
+fn content_of(cells: &Cells, p: Pos, cell: Cell, slot: u8) -> Result<Slot, Refusal>
+    requires held { holds cells.now p ≡ true }
+    requires cell { cell ≡ cell_at cells.now p }
     ensures { MatchResult result
         (λ content. (is_chest (cell_at cells.now p) ≡ true) × (slot < SLOTS)
         × (content ≡ slot_at cells.now p slot) × IsSlot content)
         (λ refusal. first_some (refuse_if (not (is_chest (cell_at cells.now p))) Refusal.NotChest
         ∷ refuse_if (nat_le SLOTS slot) Refusal.NoSlot ∷ []) ≡ Some refusal) }
 {
-    let slots = opening(cells, p)?;
+    let slots = opening(cells, p, cell)?;
     let index = usize::from(slot);
     if index >= SLOTS {
         return Err(Refusal::NoSlot);

@@ -20,5 +20,5 @@ returns-in-None c = rw (no_slots _ _ c.requires.whole (not_chest _ _ (sym c.ches
 pub returns-in_default : goal.returns-in_default
 returns-in_default c =
     let none : is_chest (cell_at c.args.cells.now c.args.p) ≡ false =
-        subst (λ x. is_chest x ≡ false) c.requires.cell (no_chest c.args.cell c.in_default.not-Chest) in
+    subst (λ x. is_chest x ≡ false) c.requires.cell (no_chest c.args.cell c.in_default.not-Chest) in
     rw (no_slots c.args.cells.now c.args.p c.requires.whole none) refl

@@ -73,24 +73,39 @@ for size in '1 64' '2 64' '4 64' '8 64' '16 64' '1 128' '2 128' '4 128' '8 128' 
     "$(kibibytes "$server" "$work/empty.vx")" "$(awk -v a="$opening" -v b="$(microseconds "$server" "$work/idle.vx")" -v n=$ticks 'BEGIN { printf "%.1f", (b - a) / n }')"
 done
 
-printf '\n%-24s %10s %14s %10s %8s\n' '590,000 commands' ms commands/s KiB times
+# One number by another, to two places.
+quotient() {
+  awk -v a="$1" -v b="$2" 'BEGIN { printf "%.2f", a / b }'
+}
+
+# The last two tables are of eleven turns: the least times and the middle ones, and what both are beside those of the first row.
+turns=11
+printf '\n%-24s %8s %8s %14s %10s %8s %8s\n' '590,000 commands' ms middle commands/s KiB times middle
 commands 8 64 >"$work/few.vx"
 commands 16 128 >"$work/many.vx"
-few=$(microseconds "$server" "$work/few.vx")
-many=$(microseconds "$server" "$work/many.vx")
-for row in "64 sectors,$few,few" "the largest world,$many,many"; do
-  IFS=, read -r name took file <<<"$row"
-  printf '%-24s %10s %14s %10s %8s\n' "$name" $((took / 1000)) $((590000 * 1000000 / took)) "$(kibibytes "$server" "$work/$file.vx")" \
-    "$(awk -v a="$few" -v b="$took" 'BEGIN { printf "%.2f", b / a }')"
-done
+names=('64 sectors' 'the largest world')
+scripts=("$work/few.vx" "$work/many.vx")
+row=0
+while read -r least middle; do
+  if [ $row = 0 ]; then first_least=$least first_middle=$middle; fi
+  printf '%-24s %8s %8s %14s %10s %8s %8s\n' "${names[$row]}" $((least / 1000)) $((middle / 1000)) $((590000 * 1000000 / least)) "$(kibibytes "$server" "${scripts[$row]}")" \
+    "$(quotient "$least" "$first_least")" "$(quotient "$middle" "$first_middle")"
+  row=$((row + 1))
+done < <(in_turn $turns "$server" "${scripts[@]}")
 
-printf '\n%-8s %10s %14s %8s %18s\n' players ms commands/s times 'KiB without calls'
-first=
-for players in 4 8 16 32 64; do
-  blocks $players >"$work/blocks.vx"
-  header 16 128 $players >"$work/empty.vx"
-  took=$(microseconds "$server" "$work/blocks.vx")
-  : "${first:=$took}"
-  printf '%-8s %10s %14s %8s %18s\n' $players $((took / 1000)) $((393216 * 1000000 / took)) "$(awk -v a="$first" -v b="$took" 'BEGIN { printf "%.2f", a / b }')" \
-    "$(kibibytes "$server" "$work/empty.vx")"
+printf '\n%-8s %8s %8s %14s %8s %8s %18s\n' players ms middle commands/s times middle 'KiB without calls'
+numbers=(4 8 16 32 64)
+scripts=()
+for players in "${numbers[@]}"; do
+  blocks "$players" >"$work/blocks$players.vx"
+  scripts+=("$work/blocks$players.vx")
 done
+row=0
+while read -r least middle; do
+  players=${numbers[$row]}
+  if [ $row = 0 ]; then first_least=$least first_middle=$middle; fi
+  header 16 128 "$players" >"$work/empty.vx"
+  printf '%-8s %8s %8s %14s %8s %8s %18s\n' "$players" $((least / 1000)) $((middle / 1000)) $((393216 * 1000000 / least)) \
+    "$(quotient "$first_least" "$least")" "$(quotient "$first_middle" "$middle")" "$(kibibytes "$server" "$work/empty.vx")"
+  row=$((row + 1))
+done < <(in_turn $turns "$server" "${scripts[@]}")

@@ -12,6 +12,22 @@ microseconds() {
   echo "$least"
 }
 
+# Runs a program on several scripts in turn, so many turns: a line for each script, in their order, with the least and the middle of its wall-clock times,
+# in microseconds. Times that are divided by one another come from one run of it, since a machine is not equally quick from minute to minute.
+#   in_turn TURNS PROGRAM SCRIPT ..
+in_turn() {
+  local turns=$1 program=$2 start end turn script
+  shift 2
+  for ((turn = 0; turn < turns; turn++)); do
+    for ((script = 1; script <= $#; script++)); do
+      start=$(date +%s%N)
+      "$program" <"${!script}" >/dev/null
+      end=$(date +%s%N)
+      echo "$script $(((end - start) / 1000))"
+    done
+  done | sort -n -k 1,1 -k 2,2 | awk -v turns="$turns" '(NR - 1) % turns == 0 { least = $2 } (NR - 1) % turns == int(turns / 2) { print least, $2 }'
+}
+
 # The most memory that a run took, in KiB.
 kibibytes() {
   /usr/bin/time -f %M "$1" <"$2" 2>&1 >/dev/null | tail -n 1

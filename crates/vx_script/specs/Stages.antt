@@ -6,6 +6,7 @@ use Rattle.vx_play.specs.Plays.{is_named, number_from}
 use Rattle.vx_session.specs.declared.request.Request.{Request}
 use Rattle.vx_grammar.specs.ScriptLines.{Said, Nothing, World, Player, Set, Act, Region, Tick, Explain, Together, End}
 use Rattle.vx_script.specs.declared.stage.Stage as stage
+use Rattle.vx_script.specs.declared.stage.TheConstants.{MOST_REQUESTS}
 
 -- outside of any block, or in one, whose lines have asked for this so far
 pub data Stage : Type 0 where
@@ -19,7 +20,7 @@ stage_in (stage.Stage.Inside requests) = Inside requests.items
 
 -- so many commands a block has at most
 abbrev pub most_requests : ℕ
-most_requests = 65536
+most_requests = MOST_REQUESTS
 
 -- whether a line may stand outside of a block: a command and a question only of a player who was named
 abbrev pub stands_outside : List (List ℕ) → Option Said → Bool

@@ -2,7 +2,7 @@
 # What blocks of commands that players make at once cost, for the built server, beside the same lines without blocks.
 #   bench/blocks.sh [--server PROGRAM] [PLAYERS ..]
 # So many players (8 unless said otherwise), each in sectors of his own with nine lines of ten, in a world of 64 sectors; blocks of 8 to 65,536 lines.
-# Needs awk, and /usr/bin/time.
+# Needs awk.
 set -eu
 root=$(cd "$(dirname "$0")/.." && pwd)
 work=$(mktemp -d)
@@ -40,16 +40,22 @@ script() {
   }'
 }
 
-printf '%-8s %-8s %10s %14s %10s\n' players block ms commands/s ratio
+# All are of seven turns: the least times and the middle ones, and the commands a second by both beside those without blocks.
+turns=7
+lines=393216
+sizes=(none 8 64 512 4096 65536)
+printf '%-8s %-8s %8s %8s %14s %8s %8s\n' players block ms middle commands/s times middle
 for players in "${@:-8}"; do
-  lines=393216
-  script $lines "$players" 0 >"$work/plain.vx"
-  alone=$(microseconds "$server" "$work/plain.vx")
-  printf '%-8s %-8s %10s %14s %10s\n' "$players" none $((alone / 1000)) $((lines * 1000000 / alone)) 1.00
-  for block in 8 64 512 4096 65536; do
-    script $lines "$players" $block >"$work/blocks.vx"
-    took=$(microseconds "$server" "$work/blocks.vx")
-    printf '%-8s %-8s %10s %14s %10s\n' "$players" $block $((took / 1000)) $((lines * 1000000 / took)) \
-      "$(awk -v a="$alone" -v b="$took" 'BEGIN { printf "%.2f", a / b }')"
+  scripts=()
+  for size in "${sizes[@]}"; do
+    script $lines "$players" "${size/none/0}" >"$work/$size.vx"
+    scripts+=("$work/$size.vx")
   done
+  row=0
+  while read -r least middle; do
+    if [ $row = 0 ]; then first_least=$least first_middle=$middle; fi
+    printf '%-8s %-8s %8s %8s %14s %8s %8s\n' "$players" "${sizes[$row]}" $((least / 1000)) $((middle / 1000)) $((lines * 1000000 / least)) \
+      "$(quotient "$first_least" "$least")" "$(quotient "$first_middle" "$middle")"
+    row=$((row + 1))
+  done < <(in_turn $turns "$server" "${scripts[@]}")
 done

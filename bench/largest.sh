@@ -73,11 +73,6 @@ for size in '1 64' '2 64' '4 64' '8 64' '16 64' '1 128' '2 128' '4 128' '8 128' 
     "$(kibibytes "$server" "$work/empty.vx")" "$(awk -v a="$opening" -v b="$(microseconds "$server" "$work/idle.vx")" -v n=$ticks 'BEGIN { printf "%.1f", (b - a) / n }')"
 done
 
-# One number by another, to two places.
-quotient() {
-  awk -v a="$1" -v b="$2" 'BEGIN { printf "%.2f", a / b }'
-}
-
 # The last two tables are of eleven turns: the least times and the middle ones, and what both are beside those of the first row.
 turns=11
 printf '\n%-24s %8s %8s %14s %10s %8s %8s\n' '590,000 commands' ms middle commands/s KiB times middle

@@ -28,6 +28,11 @@ in_turn() {
   done | sort -n -k 1,1 -k 2,2 | awk -v turns="$turns" '(NR - 1) % turns == 0 { least = $2 } (NR - 1) % turns == int(turns / 2) { print least, $2 }'
 }
 
+# One number by another, to two places.
+quotient() {
+  awk -v a="$1" -v b="$2" 'BEGIN { printf "%.2f", a / b }'
+}
+
 # The most memory that a run took, in KiB.
 kibibytes() {
   /usr/bin/time -f %M "$1" <"$2" 2>&1 >/dev/null | tail -n 1

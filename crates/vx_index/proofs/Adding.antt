@@ -12,8 +12,8 @@ use Rattle.vx_geom.specs.Outline.{Outline, is_in}
 use Rattle.vx_geom.proofs.Columns.{extents_meet}
 use Rattle.vx_geom.proofs.Enclosing.{shapes_lie_within}
 use Rattle.vx_index.specs.declared.patch.Patch.{Patch}
-use Rattle.vx_index.specs.Patches.{square, row_of_square, HoldsRow, are_near, AreInOrder, IsMet, Adds, AddsAny}
-use Rattle.vx_index.proofs.Squares.{rows_before, no_rows, row_or_before, all_rows}
+use Rattle.vx_index.specs.Patches.{square, band_of_square, HoldsThere, are_near, AreInOrder, IsMet, Adds, AddsAny}
+use Rattle.vx_index.proofs.Squares.{rows_before, no_rows, band_or_before, all_rows}
 
 -- a patch of the region that has the column is near
 abbrev pub is_near : ℕ → Pos → Patch → Bool
@@ -64,46 +64,48 @@ adds_one number o columns old new patch after own same = record {
       (ap (λ e. is_within e p) same ∙ shapes_lie_within o p inside));
 }
 
--- the rows so far, of which there are none yet
-pub rows_begin : (number : ℕ) (o : Outline) (west north : ℕ) (patches : List Patch)
-    → Adds number o (rows_before west north north) patches patches
-rows_begin number o west north patches =
-    adds_none number o (rows_before west north north) patches (λ p within inside. no_rows west north p within)
+-- the bands so far, of which there are none yet
+pub bands_begin : (number : ℕ) (o : Outline) (west north z : ℕ) (patches : List Patch) → z ≡ north
+    → Adds number o (rows_before west north z) patches patches
+bands_begin number o west north z patches first =
+    adds_none number o (rows_before west north z) patches
+    (λ p within inside. no_rows west north p (subst (λ n. is_within (rows_before west north n) p ≡ true) first within))
 
--- a row in which the shape has no column
-pub row_skipped : (number : ℕ) (o : Outline) (west north z : ℕ) (old new : List Patch) → HoldsRow o (row_of_square west z) None
-    → Adds number o (rows_before west north z) old new → Adds number o (rows_before west north (z + 1)) old new
-row_skipped number o west north z old new row adds = record {
+-- a band in which the shape has no column
+pub band_skipped : (number : ℕ) (o : Outline) (west north z next : ℕ) (old new : List Patch) → next ≡ z + 8
+    → HoldsThere o (band_of_square west z) None → Adds number o (rows_before west north z) old new
+    → Adds number o (rows_before west north next) old new
+band_skipped number o west north z next old new further band adds = record {
   added = adds.added;
   after = adds.after;
   own = adds.own;
-  whole = λ p within inside. elim (row_or_before west north z p within) [
+  whole = λ p within inside. elim (band_or_before west north z p (subst (λ n. is_within (rows_before west north n) p ≡ true) further within)) [
     | inl before ↦ adds.whole p before inside
     | inr here ↦
-        let none : false ≡ true = row p here inside in
+        let none : false ≡ true = band p here inside in
         absurd (both_ways false refl none)
   ];
 }
 
--- a row with a patch
-pub row_added : (number : ℕ) (o : Outline) (west north z : ℕ) (old new next : List Patch) (patch : Patch)
-    → HoldsRow o (row_of_square west z) (Some patch.columns) → patch.number ≡ number → next ≡ new ++ patch ∷ []
-    → Adds number o (rows_before west north z) old new → Adds number o (rows_before west north (z + 1)) old next
-row_added number o west north z old new next patch row own pushed adds = record {
+-- a band with a patch
+pub band_added : (number : ℕ) (o : Outline) (west north z next : ℕ) (old new pushed : List Patch) (patch : Patch) → next ≡ z + 8
+    → HoldsThere o (band_of_square west z) (Some patch.columns) → patch.number ≡ number → pushed ≡ new ++ patch ∷ []
+    → Adds number o (rows_before west north z) old new → Adds number o (rows_before west north next) old pushed
+band_added number o west north z next old new pushed patch further band own push adds = record {
   added = adds.added ++ patch ∷ [];
-  after = pushed ∙ ap (λ ps. ps ++ patch ∷ []) adds.after ∙ append_assoc old adds.added (patch ∷ []);
+  after = push ∙ ap (λ ps. ps ++ patch ∷ []) adds.after ∙ append_assoc old adds.added (patch ∷ []);
   own = all_append (λ d. d.number ≡ number) adds.added (patch ∷ []) adds.own (own, tt);
-  whole = λ p within inside. elim (row_or_before west north z p within) [
+  whole = λ p within inside. elim (band_or_before west north z p (subst (λ n. is_within (rows_before west north n) p ≡ true) further within)) [
     | inl before ↦ near_left adds.added (patch ∷ []) number p (adds.whole p before inside)
     | inr here ↦ near_last adds.added patch number p
-        (near_from number p patch own (row p here inside))
+        (near_from number p patch own (band p here inside))
   ];
 }
 
--- all rows
-pub rows_end : (number : ℕ) (o : Outline) (west north z : ℕ) (old new : List Patch) → z ≡ north + 16
+-- all bands
+pub bands_end : (number : ℕ) (o : Outline) (west north z : ℕ) (old new : List Patch) → z ≡ north + 32
     → Adds number o (rows_before west north z) old new → Adds number o (square west north) old new
-rows_end number o west north z old new last adds =
+bands_end number o west north z old new last adds =
     subst (λ e. Adds number o e old new) (all_rows west north z last) adds
 
 -- the patches of one number have it

@@ -1,4 +1,4 @@
--- The numbers of the regions of a chunk, as its patches are gone through.
+-- The numbers of the regions of a tile, as its patches are gone through.
 use Rattle.std.proofs.Common.{◌≡◌, ◌⊎◌, inl, inr, ℕ, pos, ◌+◌, ◌<◌, ◌≤◌, Bool, true, false, ◌&&◌, nat_eq, length, get_or, take, drop, List, [], ◌∷◌, ◌++◌, Contains, Option, Some, None, IsSome, option_map, refl, ap, sym, ◌∙◌, subst, arith, add-one, drop-cons}
 use Rattle.std.specs.List.{AllByRecursion, All, AllPairs}
 use Rattle.std.proofs.lemmas.Bool.{and_from, and_parts, both_ways, eq-eqb, eqb-true, or_cases, or_left, or_right}
@@ -12,9 +12,9 @@ use Rattle.vx_decide.proofs.ByNumber.{above_zero}
 use Rattle.vx_geom.specs.declared.extent.Extent.{Extent}
 use Rattle.vx_geom.specs.declared.pos.Pos.{Pos}
 use Rattle.vx_geom.specs.Extent.{is_within}
-use Rattle.vx_index.specs.declared.chunk.Chunk.{Chunk}
+use Rattle.vx_index.specs.declared.tile.Tile.{Tile}
 use Rattle.vx_index.specs.declared.patch.Patch.{Patch}
-use Rattle.vx_index.specs.Chunks.{IsChunk, StandsIn}
+use Rattle.vx_index.specs.Tiles.{IsTile, StandsIn}
 use Rattle.vx_index.specs.Patches.{has_such, has_number, AreInOrder, AreNumbersOf, IsMet}
 use Rattle.vx_index.specs.Shapes.{shape_at}
 use Rattle.vx_index.proofs.Orders.{order_lower}
@@ -166,30 +166,30 @@ such_weaker f g tells n (d ∷ ds) has = elim (or_cases (is_such f n d) (has_suc
   | inr later ↦ or_right (is_such g n d) (has_such g ds n) (such_weaker f g tells n ds later)
 ]
 
--- so the numbers of the patches of a chunk are those of regions
-numbers_named : (rs : Regions) (chunk : Chunk) (test : Patch → Bool) (numbers : List ℕ) → IsChunk rs chunk
-    → AreNumbersOf test chunk.patches.items numbers → AreNumbers rs numbers
-numbers_named rs chunk test numbers is of n there =
-    region_met (region_at rs n) chunk.columns (of_number (λ m. IsMet (shape_at rs m) chunk.columns) n chunk.patches.items is.patches.met (of.own n there))
+-- so the numbers of the patches of a tile are those of regions
+numbers_named : (rs : Regions) (tile : Tile) (test : Patch → Bool) (numbers : List ℕ) → IsTile rs tile
+    → AreNumbersOf test tile.patches.items numbers → AreNumbers rs numbers
+numbers_named rs tile test numbers is of n there =
+    region_met (region_at rs n) tile.columns (of_number (λ m. IsMet (shape_at rs m) tile.columns) n tile.patches.items is.patches.met (of.own n there))
 
 -- and those of the patches that have the position are those of all regions that contain it
-pub numbers_hold : (rs : Regions) (p : Pos) (chunk : Chunk) (test : Patch → Bool) (numbers : List ℕ) → IsForest rs → IsChunk rs chunk
-    → is_within chunk.columns p ≡ true → ((d : Patch) → is_within d.columns p ≡ true → test d ≡ true)
-    → AreNumbersOf test chunk.patches.items numbers → HoldCandidates rs p numbers
-numbers_hold rs p chunk test numbers forest is within tells of = record {
+pub numbers_hold : (rs : Regions) (p : Pos) (tile : Tile) (test : Patch → Bool) (numbers : List ℕ) → IsForest rs → IsTile rs tile
+    → is_within tile.columns p ≡ true → ((d : Patch) → is_within d.columns p ≡ true → test d ≡ true)
+    → AreNumbersOf test tile.patches.items numbers → HoldCandidates rs p numbers
+numbers_hold rs p tile test numbers forest is within tells of = record {
   ascending = of.ascending;
-  named = numbers_named rs chunk test numbers is of;
+  named = numbers_named rs tile test numbers is of;
   whole = λ n r there inside.
       of.whole n (above_zero rs n r forest.numbered there)
-      (such_weaker (λ d. is_within d.columns p) test tells n chunk.patches.items
+      (such_weaker (λ d. is_within d.columns p) test tells n tile.patches.items
       (is.patches.told n r.shape p (ap (option_map (λ (d : RegionData). d.shape)) there) within inside));
 }
 
--- so all numbers of a chunk name the regions in which a machine there stands
-pub numbers_name_hosts : (rs : Regions) (actor : Actor) (chunk : Chunk) → IsForest rs → IsChunk rs chunk → StandsIn chunk.columns actor
-    → NameHosts rs actor chunk.numbers.items
-numbers_name_hosts rs actor chunk forest is stands = record {
-  named = numbers_named rs chunk (λ d. true) chunk.numbers.items is is.numbers;
+-- so all numbers of a tile name the regions in which a machine there stands
+pub numbers_name_hosts : (rs : Regions) (actor : Actor) (tile : Tile) → IsForest rs → IsTile rs tile → StandsIn tile.columns actor
+    → NameHosts rs actor tile.numbers.items
+numbers_name_hosts rs actor tile forest is stands = record {
+  named = numbers_named rs tile (λ d. true) tile.numbers.items is is.numbers;
   whole = λ q machine.
-      numbers_hold rs q chunk (λ d. true) chunk.numbers.items forest is (stands q machine) (λ d within. refl) is.numbers;
+      numbers_hold rs q tile (λ d. true) tile.numbers.items forest is (stands q machine) (λ d within. refl) is.numbers;
 }

@@ -1,4 +1,4 @@
--- The patches of a chunk after the shape of a number became another or is gone.
+-- The patches of a tile after the shape of a number became another or is gone.
 use Rattle.std.proofs.Common.{◌≡◌, ◌≢◌, inl, inr, ℕ, ◌≤◌, Bool, true, false, nat_eq, nat_lt, List, [], ◌∷◌, ◌++◌, filter, Option, Some, option_map, ap, sym, ◌∙◌, subst, arith}
 use Rattle.std.specs.List.{AllByRecursion}
 use Rattle.std.proofs.lemmas.Bool.{and_parts, both_ways, cases_eq, cases_lt, eqb-true, lt-ltb, ltb-true, or_parts}

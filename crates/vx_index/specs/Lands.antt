@@ -1,14 +1,14 @@
 -- What a land tells of shapes.
 use Rattle.std.specs.Prelude.{List}
 use Rattle.std.specs.List.{All, flat_map}
-use Rattle.vx_index.specs.Chunks.{TellsOf}
+use Rattle.vx_index.specs.Tiles.{TellsOf}
 use Rattle.vx_index.specs.Shapes.{Shapes}
-use Rattle.vx_index.specs.declared.chunk.Chunk.{Chunk}
+use Rattle.vx_index.specs.declared.tile.Tile.{Tile}
 
--- the chunks of all rows, one row after another
-abbrev pub joined : List (List Chunk) → List Chunk
+-- the tiles of all rows, one row after another
+abbrev pub joined : List (List Tile) → List Tile
 joined rows = flat_map (λ row. row) rows
 
--- each chunk of a land tells of all these shapes where they lie in its columns, and of no others
-abbrev pub IsLandOf : Shapes → List Chunk → Type 0
-IsLandOf shapes chunks = All (TellsOf shapes) chunks
+-- each tile of a land tells of all these shapes where they lie in its columns, and of no others
+abbrev pub IsLandOf : Shapes → List Tile → Type 0
+IsLandOf shapes tiles = All (TellsOf shapes) tiles

@@ -1,4 +1,4 @@
-pub mod Chunks
+pub mod Tiles
 pub mod Cuts
 pub mod Lands
 pub mod Patches

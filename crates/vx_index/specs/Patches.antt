@@ -1,4 +1,4 @@
--- The regions of a chunk, kept as patches of columns.
+-- The regions of a tile, kept as patches of columns.
 use Rattle.std.specs.Prelude.{◌≡◌, ℕ, pos, ◌+◌, ◌<◌, ◌≤◌, Bool, true, false, ◌&&◌, nat_eq, List, [], ◌∷◌, ◌++◌, Contains, Option, Some, None}
 use Rattle.std.specs.List.{list_any, AllByRecursion}
 use Rattle.std.specs.List.Sorted.{IsStrictlyIncreasing}
@@ -9,33 +9,42 @@ use Rattle.vx_geom.specs.Outline.{Outline, is_in}
 use Rattle.vx_index.specs.Shapes.{Shapes}
 use Rattle.vx_index.specs.declared.patch.Patch.{Patch}
 
--- 16 by 16 columns, from this one to the east and to the south
+-- 32 by 32 columns, from this one to the east and to the south
 abbrev pub square : ℕ → ℕ → Extent
 square west north = record {
   west = pos west;
-  east = pos (west + 15);
+  east = pos (west + 31);
   north = pos north;
-  south = pos (north + 15);
+  south = pos (north + 31);
 }
 
--- 16 columns of the row z
+-- 32 columns of the row z
 abbrev pub row_of_square : ℕ → ℕ → Extent
 row_of_square west z = record {
   west = pos west;
-  east = pos (west + 15);
+  east = pos (west + 31);
   north = pos z;
   south = pos z;
 }
 
--- the columns of a row, if there are any, have that of the position
-abbrev pub is_in_row : Option Extent → Pos → Bool
-is_in_row None p = false
-is_in_row (Some row) p = is_within row p
+-- 32 columns of each of eight rows, from the row z to the south
+abbrev pub band_of_square : ℕ → ℕ → Extent
+band_of_square west z = record {
+  west = pos west;
+  east = pos (west + 31);
+  north = pos z;
+  south = pos (z + 7);
+}
 
--- each position of the shape in these columns lies in one of the row's
-abbrev pub HoldsRow : Outline → Extent → Option Extent → Type 0
-HoldsRow shape columns row = (p : Pos) → is_within columns p ≡ true
-    → is_in shape p ≡ true → is_in_row row p ≡ true
+-- these columns, if there are any, have that of the position
+abbrev pub is_in_any : Option Extent → Pos → Bool
+is_in_any None p = false
+is_in_any (Some columns) p = is_within columns p
+
+-- each position of the shape in these columns lies in one of the others
+abbrev pub HoldsThere : Outline → Extent → Option Extent → Type 0
+HoldsThere shape columns others = (p : Pos) → is_within columns p ≡ true
+    → is_in shape p ≡ true → is_in_any others p ≡ true
 
 -- some patch of the region of that number passes the test
 abbrev pub has_such : (Patch → Bool) → List Patch → ℕ → Bool

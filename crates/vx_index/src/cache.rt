@@ -4,7 +4,7 @@ ghost use Rattle.vx_region.specs.Regions.{Regions};
 ghost use Rattle.vx_region.specs.Subjects.{Named};
 ghost use Rattle.vx_decide.specs.Unset.{IsUnset};
 ghost use Rattle.vx_decide.specs.Verdict.{verdict};
-ghost use Rattle.vx_index.specs.Chunks.{IsCacheOf};
+ghost use Rattle.vx_index.specs.Tiles.{IsCacheOf};
 ghost use Rattle.vx_index.specs.Lands.{IsLandOf};
 ghost use Rattle.vx_index.specs.Shapes.{shape_at};
 

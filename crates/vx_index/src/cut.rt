@@ -10,10 +10,10 @@ use std::alloc::{AllocError, Global};
 use std::marker::Model;
 use vx_geom::{Extent, Shape};
 
-/// So many rows are told at once: those of a chunk.
+/// So many rows are told at once: those of a tile.
 const ROWS: usize = SIDE as usize;
 
-/// A shape, and the columns that it has in some rows, told once for all chunks along these.
+/// A shape, and the columns that it has in some rows, told once for all tiles along these.
 /// Contracts see it as the shape.
 #[derive(Drop)]
 pub(crate) struct Cut<'a> {
@@ -50,7 +50,7 @@ impl<'a> Cut<'a> {
         }
     }
 
-    /// The shape, and where it is a polygon the rows of the chunks that begin so far from the north.
+    /// The shape, and where it is a polygon the rows of the tiles that begin so far from the north.
     /// Those of a polygon take memory.
     pub(crate) fn along(alloc: Global, shape: &'a Shape, north: i32) -> Result<Cut<'a>, AllocError>
         ensures { IfOk result (λ cut. cut ≡ shape.now) }
@@ -105,7 +105,7 @@ fn rows_from(
     Ok(rows)
 }
 
-/// The shape, if there is one, with the rows of the chunks that begin so far from the north.
+/// The shape, if there is one, with the rows of the tiles that begin so far from the north.
 pub(crate) fn cut_along<'a>(
     alloc: Global,
     shape: Option<&'a Shape>,

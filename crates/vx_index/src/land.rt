@@ -3,15 +3,15 @@ ghost use Rattle.std.specs.List.{All};
 ghost use Rattle.vx_geom.specs.Extent.{is_within};
 ghost use Rattle.vx_decide.specs.Unset.{IsUnset};
 ghost use Rattle.vx_decide.specs.Verdict.{verdict};
-ghost use Rattle.vx_index.specs.Chunks.{TellsOf};
+ghost use Rattle.vx_index.specs.Tiles.{TellsOf};
 ghost use Rattle.vx_index.specs.Lands.{IsLandOf, joined};
 ghost use Rattle.vx_index.specs.Shapes.{Shapes, renewed_at, shape_at, with_at, without_at};
 ghost use Rattle.vx_index.specs.Touching.{AreTouched};
 ghost use Rattle.vx_region.specs.Subjects.{actor_of};
 
-use crate::chunk::Chunk;
 use crate::patches::SIDE;
 use crate::row::{ACROSS, Row};
+use crate::tile::Tile;
 use crate::touched::Touched;
 use std::alloc::{AllocError, Global};
 use std::marker::Model;
@@ -21,9 +21,9 @@ use vx_flag::{Action, Flag};
 use vx_geom::{Pos, Shape};
 use vx_region::{RegionNo, RegionSet, Subject};
 
-/// Where regions lie in the widest world, chunk by chunk. It depends on their shapes alone. Copies
-/// share it, and a land that differs by one region shares the rows and the chunks that tell the
-/// same. Contracts see it as its chunks.
+/// Where regions lie in the widest world, tile by tile. It depends on their shapes alone. Copies
+/// share it, and a land that differs by one region shares the rows and the tiles that tell the
+/// same. Contracts see it as its tiles.
 pub struct Land {
     // From the north.
     rows: Arc<Vec<Row>>,
@@ -33,9 +33,9 @@ impl Model for Land {
     ghost use Rattle.std.specs.Prelude.{List};
     ghost use Rattle.std.specs.Arc.{arc_value};
     ghost use Rattle.vx_index.specs.Lands.{joined};
-    ghost use Rattle.vx_index.specs.declared.chunk.Chunk.{Chunk};
+    ghost use Rattle.vx_index.specs.declared.tile.Tile.{Tile};
 
-    ghost Value = { List Chunk };
+    ghost Value = { List Tile };
 
     ghost view = { λ a. joined (arc_value a.rows).items };
 }
@@ -48,7 +48,7 @@ impl Drop for Land {
 }
 
 impl Land {
-    /// The land of these regions. It costs a look at each region for each chunk.
+    /// The land of these regions. It costs a look at each region for each tile.
     pub fn of(alloc: Global, regions: &RegionSet) -> Result<Land, AllocError>
         ensures { IfOk result (IsLandOf (shape_at regions.now)) }
     {
@@ -78,7 +78,7 @@ impl Land {
     }
 
     /// The land of these regions where the one of that number, which may be new, has this shape.
-    /// This one stays as it is. Only the chunks in which the shape or the one before it lies, and
+    /// This one stays as it is. Only the tiles in which the shape or the one before it lies, and
     /// their rows, take memory of their own.
     pub fn put(
         &self,
@@ -94,7 +94,7 @@ impl Land {
     }
 
     /// The land of these regions without the one of that number. This one stays as it is. Only the
-    /// chunks in which that region lies, and their rows, take memory of their own.
+    /// tiles in which that region lies, and their rows, take memory of their own.
     pub fn without(
         &self,
         alloc: Global,
@@ -125,9 +125,9 @@ impl Land {
     }
 
     /// Whether the subject may do this at the place, and the rule that says so, by these regions;
-    /// these flags are set nowhere. It costs the regions near the place, or those of its chunk
+    /// these flags are set nowhere. It costs the regions near the place, or those of its tile
     /// where many are near, and takes no memory. For each region with domains that a machine is
-    /// asked about it costs a look at the regions of the chunk in which the machine stands. Outside
+    /// asked about it costs a look at the regions of the tile in which the machine stands. Outside
     /// the widest world it walks all.
     pub fn decide(
         &self,
@@ -141,8 +141,8 @@ impl Land {
         requires unset { All (IsUnset regions.now) unset.now }
         ensures { result ≡ verdict regions.now (actor_of subject.now) action p }
     {
-        match self.chunk_at(p) {
-            Some(chunk) => chunk.decide(&self.asker(regions, subject), unset, action, p),
+        match self.tile_at(p) {
+            Some(tile) => tile.decide(&self.asker(regions, subject), unset, action, p),
             None => Plain::new(regions).decide(subject, action, p),
         }
     }
@@ -162,12 +162,12 @@ impl Land {
         ensures { IfSome result
             (λ answer. answer ≡ verdict regions.now (actor_of subject.now) action p) }
     {
-        self.chunk_at(p)?
+        self.tile_at(p)?
             .decide_by_few(&self.asker(regions, subject), unset, action, p)
     }
 
     // The subject as one who asks of these regions. Where it is a machine its hosts are those of
-    // the chunk in which it stands; outside the widest world they are all.
+    // the tile in which it stands; outside the widest world they are all.
     fn asker<'a>(&'a self, regions: &'a RegionSet, subject: &'a Subject) -> Asker<'a>
         requires { IsLandOf (shape_at regions.now) self.now }
         ensures regions { result.regions.now ≡ regions.now }
@@ -176,23 +176,23 @@ impl Land {
         let Subject::Machine(place) = subject else {
             return Asker::new(regions, subject);
         };
-        match self.chunk_at(*place) {
-            Some(chunk) => chunk.asker(regions, subject),
+        match self.tile_at(*place) {
+            Some(tile) => tile.asker(regions, subject),
             None => Asker::new(regions, subject),
         }
     }
 
-    // The chunk that holds the position, where that lies in the widest world.
-    fn chunk_at(&self, p: Pos) -> Option<&Chunk>
-        ensures among { IfSome result (λ chunk. Contains self.now chunk.now) }
-        ensures within { IfSome result (λ chunk. is_within chunk.now.columns p ≡ true) }
+    // The tile that holds the position, where that lies in the widest world.
+    fn tile_at(&self, p: Pos) -> Option<&Tile>
+        ensures among { IfSome result (λ tile. Contains self.now tile.now) }
+        ensures within { IfSome result (λ tile. is_within tile.now.columns p ≡ true) }
     {
         let (row, column) = indices_of(p)?;
-        let chunk = self.rows.get(row)?.chunk(column)?;
-        if !chunk.holds(p) {
+        let tile = self.rows.get(row)?.tile(column)?;
+        if !tile.holds(p) {
             return None;
         }
-        Some(chunk)
+        Some(tile)
     }
 }
 
@@ -222,7 +222,7 @@ fn renewed_rows(
     Ok(after)
 }
 
-// The indices of the row and of the chunk in it that hold the position, where that lies in the
+// The indices of the row and of the tile in it that hold the position, where that lies in the
 // widest world.
 fn indices_of(p: Pos) -> Option<(usize, usize)> {
     let column = u32::try_from(p.x).ok()? / SIDE;

@@ -1,11 +1,10 @@
-//! The regions near a position, found by chunks, and verdicts that were given: decisions that cost
+//! The regions near a position, found by tiles, and verdicts that were given: decisions that cost
 //! what is near.
 #![tactic(auto)]
 
 mod asked;
 mod cache;
 mod cached;
-mod chunk;
 mod cut;
 mod indexed;
 mod kept;
@@ -14,6 +13,7 @@ mod patch;
 mod patches;
 mod plot;
 mod row;
+mod tile;
 mod touched;
 
 pub use cache::Cache;

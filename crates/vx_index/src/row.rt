@@ -2,15 +2,15 @@ ghost use Rattle.std.specs.Prelude.{◌≡◌, ◌≤◌, ℕ, false, Option, op
 ghost use Rattle.std.specs.List.{All};
 ghost use Rattle.vx_geom.specs.declared.bounds.TheConstants.{MAX_COLUMNS_EACH_WAY};
 ghost use Rattle.vx_geom.specs.Outline.{Outline};
-ghost use Rattle.vx_index.specs.Chunks.{IsChunk, TellsOf};
+ghost use Rattle.vx_index.specs.Tiles.{IsTile, TellsOf};
 ghost use Rattle.vx_index.specs.Plots.{LiesAlong};
 ghost use Rattle.vx_index.specs.Shapes.{Shapes, renewed_at};
 ghost use Rattle.vx_index.specs.Touching.{AreTouched};
 
-use crate::chunk::Chunk;
 use crate::cut::cut_along;
 use crate::patches::{SIDE, square};
 use crate::plot::Plot;
+use crate::tile::Tile;
 use crate::touched::Touched;
 use std::alloc::{AllocError, Global};
 use std::marker::Model;
@@ -18,14 +18,14 @@ use std::sync::Arc;
 use vx_geom::{Extent, MAX_COLUMNS_EACH_WAY, Shape};
 use vx_region::RegionSet;
 
-/// The widest world has so many chunks from west to east, and from north to south.
+/// The widest world has so many tiles from west to east, and from north to south.
 pub(crate) const ACROSS: u32 = MAX_COLUMNS_EACH_WAY / SIDE;
 
-/// The chunks of a land from the west to the east, at one distance from the north. Copies share
-/// them. Contracts see it as its chunks.
+/// The tiles of a land from the west to the east, at one distance from the north. Copies share
+/// them. Contracts see it as its tiles.
 #[derive(Drop)]
 pub(crate) struct Row {
-    // They lie as far from the north as those of each chunk.
+    // They lie as far from the north as those of each tile.
     columns: Extent,
     plots: Arc<Vec<Plot>>,
 }
@@ -35,9 +35,9 @@ impl Model for Row {
     ghost use Rattle.std.specs.List.{All};
     ghost use Rattle.std.specs.Arc.{arc_value};
     ghost use Rattle.vx_index.specs.Plots.{LiesAlong};
-    ghost use Rattle.vx_index.specs.declared.chunk.Chunk.{Chunk};
+    ghost use Rattle.vx_index.specs.declared.tile.Tile.{Tile};
 
-    ghost Value = { List Chunk };
+    ghost Value = { List Tile };
 
     ghost view = { λ a. (arc_value a.plots).items };
 
@@ -46,16 +46,16 @@ impl Model for Row {
 
 impl Row {
     /// The row of these regions that begins so far from the north. It costs a look at each region
-    /// for each chunk.
+    /// for each tile.
     pub(crate) fn of(alloc: Global, regions: &RegionSet, north: u32) -> Result<Row, AllocError>
         requires north { north ≤ MAX_COLUMNS_EACH_WAY }
-        ensures { IfOk result (All (IsChunk regions.now)) }
+        ensures { IfOk result (All (IsTile regions.now)) }
     {
         let columns = square(0, north);
         let mut plots = Vec::new(alloc);
         for column in 0..ACROSS {
-            let chunk = Chunk::new(alloc, regions, SIDE * column, north)?;
-            plots.push(Plot::new(alloc, chunk)?)?;
+            let tile = Tile::new(alloc, regions, SIDE * column, north)?;
+            plots.push(Plot::new(alloc, tile)?)?;
         }
         Row::made(alloc, columns, plots)
     }
@@ -71,7 +71,7 @@ impl Row {
         })
     }
 
-    /// A copy, which shares all chunks.
+    /// A copy, which shares all tiles.
     pub(crate) fn try_clone(&self) -> Result<Row, AllocError>
         ensures { IfOk result (λ copy. copy ≡ self.now) }
     {
@@ -81,11 +81,11 @@ impl Row {
         })
     }
 
-    /// The chunk of that index from the west, if the row has so many.
-    pub(crate) fn chunk(&self, index: usize) -> Option<&Chunk>
-        ensures { IfSome result (λ chunk. Contains self.now chunk.now) }
+    /// The tile of that index from the west, if the row has so many.
+    pub(crate) fn tile(&self, index: usize) -> Option<&Tile>
+        ensures { IfSome result (λ tile. Contains self.now tile.now) }
     {
-        Some(self.plots.get(index)?.chunk())
+        Some(self.plots.get(index)?.tile())
     }
 
     /// Whether the region lies as far from the north as the row, before or after the change of its
@@ -98,7 +98,7 @@ impl Row {
         touched.touches_row(&self.columns)
     }
 
-    /// The row where the region of that number has this shape, or is gone. The chunks in which
+    /// The row where the region of that number has this shape, or is gone. The tiles in which
     /// neither the shape nor the one before it lies are shared. It is never inlined: a walk over
     /// all rows, of which few are touched, would pay for it at each.
     #[inline(never)]

@@ -23,7 +23,7 @@ use Rattle.vx_policy.proofs.Accepted.{id_spelled, shape_there, new_shape, local_
 use Rattle.vx_policy.specs.declared.listing.Listing.{Listing}
 use Rattle.vx_policy.specs.declared.listing.Listing.TheVariants.{Add, Drop}
 use Rattle.vx_policy.proofs.Parts.{kept_given}
-use Rattle.vx_index.specs.declared.chunk.Chunk.{Chunk}
+use Rattle.vx_index.specs.declared.tile.Tile.{Tile}
 use Rattle.vx_index.specs.Lands.{IsLandOf}
 use Rattle.vx_index.specs.Shapes.{Shapes, renewed_at, shape_at}
 use Rattle.vx_index.proofs.Shapes.{at_number, elsewhere}
@@ -183,7 +183,7 @@ at_some P None named is holds = tt
 at_some P (Some n) named is holds = holds n.0 (sym is)
 
 -- a land stays one where no shape changes
-pub land_stays : (before after : Regions) (land : List Chunk) → ShapesStayBut None before after → IsLandOf (shape_at before) land → IsLandOf (shape_at after) land
+pub land_stays : (before after : Regions) (land : List Tile) → ShapesStayBut None before after → IsLandOf (shape_at before) land → IsLandOf (shape_at after) land
 land_stays before after land stay of = subst (λ (shapes : Shapes). IsLandOf shapes land) same of
   where
     differs : (n : ℕ) → None ≢ Some n
@@ -193,14 +193,14 @@ land_stays before after land stay of = subst (λ (shapes : Shapes). IsLandOf sha
     same = λ i n. sym (stay n (differs n)) i
 
 -- and so does a copy of it
-pub copy_tells : {E : Type 0} (before after : Regions) (land : List Chunk) (result : Result (List Chunk) E) → ShapesStayBut None before after
+pub copy_tells : {E : Type 0} (before after : Regions) (land : List Tile) (result : Result (List Tile) E) → ShapesStayBut None before after
     → IsLandOf (shape_at before) land → IfOk result (λ copy. copy ≡ land) → IfOk result (IsLandOf (shape_at after))
 copy_tells before after land result stay of copies =
     IfOk-weaker result (λ copy. copy ≡ land) (IsLandOf (shape_at after))
-    (λ copy is. subst (λ (cs : List Chunk). IsLandOf (shape_at after) cs) (sym is) (land_stays before after land stay of)) copies
+    (λ copy is. subst (λ (cs : List Tile). IsLandOf (shape_at after) cs) (sym is) (land_stays before after land stay of)) copies
 
 -- and a land with the shape of the number as it is then is one of those after the edit
-pub renewed_tells : {E : Type 0} (before after : Regions) (number : ℕ) (o : Option Outline) (result : Result (List Chunk) E)
+pub renewed_tells : {E : Type 0} (before after : Regions) (number : ℕ) (o : Option Outline) (result : Result (List Tile) E)
     → ShapesStayBut (Some number) before after → shape_at after number ≡ o → IfOk result (IsLandOf (renewed_at (shape_at before) number o))
     → IfOk result (IsLandOf (shape_at after))
 renewed_tells before after number o result stay is made = subst (λ (shapes : Shapes). IfOk result (IsLandOf shapes)) (λ i n. same n i) made

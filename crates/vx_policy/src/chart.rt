@@ -1,6 +1,6 @@
 ghost use Rattle.std.specs.Prelude.{◌≡◌, true, None, IfOk};
 ghost use Rattle.vx_decide.specs.Verdict.{verdict};
-ghost use Rattle.vx_index.specs.Chunks.{IsCacheOf};
+ghost use Rattle.vx_index.specs.Tiles.{IsCacheOf};
 ghost use Rattle.vx_policy.specs.Asked.{asked};
 ghost use Rattle.vx_policy.specs.Charts.{IsChartOf};
 ghost use Rattle.vx_policy.specs.Edits.{edited};
@@ -49,7 +49,7 @@ impl Chart {
     }
 
     /// The chart of the regions after an edit that nothing stands against, where this is the chart
-    /// of those before it. It shares the chunks that stay.
+    /// of those before it. It shares the tiles that stay.
     pub(crate) fn after(
         &self,
         alloc: Global,

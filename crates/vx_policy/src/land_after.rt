@@ -13,7 +13,7 @@ use vx_index::Land;
 use vx_region::RegionSet;
 
 /// The land of the regions after an edit that nothing stands against, where this is the land of
-/// those before it. Where no shape changes it is shared, else only the chunks take memory in which
+/// those before it. Where no shape changes it is shared, else only the tiles take memory in which
 /// the region lies before or after.
 pub(crate) fn land_after(
     alloc: Global,

@@ -2,7 +2,7 @@ ghost use Rattle.std.specs.Prelude.{◌≡◌, None, Some, Err, option_map, IfOk
 ghost use Rattle.std.specs.Arc.{arc_value};
 ghost use Rattle.std.specs.Bool.{Decides};
 ghost use Rattle.vx_decide.specs.Verdict.{verdict};
-ghost use Rattle.vx_index.specs.Chunks.{IsCacheOf};
+ghost use Rattle.vx_index.specs.Tiles.{IsCacheOf};
 ghost use Rattle.vx_policy.specs.Asked.{asked};
 ghost use Rattle.vx_policy.specs.Charts.{IsChartOf};
 ghost use Rattle.vx_policy.specs.Edits.{edited, number_given};
@@ -121,7 +121,7 @@ impl Policy {
 
     /// Makes an edit that nothing stands against, and answers the number that a definition gave.
     /// What takes memory is what the edit touches: where a copy shares it, the region with those
-    /// that stand in one block with it, and where its shape changes the chunks in which it lies. So
+    /// that stand in one block with it, and where its shape changes the tiles in which it lies. So
     /// the first edit behind a copy costs a pointer for each block of regions, and those behind it
     /// do not. Where the policy is without its chart, it stays so.
     pub fn change(&mut self, alloc: Global, edit: &Edit) -> Result<Option<RegionNo>, AllocError>

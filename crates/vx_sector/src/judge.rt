@@ -20,7 +20,7 @@ pub(crate) struct Judge {
 
 impl Model for Judge {
     ghost use Rattle.vx_policy.specs.declared.version.Version.{Version};
-    ghost use Rattle.vx_index.specs.Chunks.{IsCacheOf};
+    ghost use Rattle.vx_index.specs.Tiles.{IsCacheOf};
 
     ghost Value = { Version };
 

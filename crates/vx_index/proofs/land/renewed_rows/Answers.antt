@@ -1,9 +1,9 @@
 use Rattle.std.specs.Option.{option_copied}
 use Rattle.std.proofs.Common.{◌≡◌, [], ◌∷◌, ◌++◌, List, rules, sym, subst}
 use Rattle.std.specs.List.{All}
-use Rattle.vx_index.specs.Chunks.{TellsOf}
+use Rattle.vx_index.specs.Tiles.{TellsOf}
 use Rattle.vx_index.specs.Shapes.{renewed_at}
-use Rattle.vx_index.specs.declared.chunk.Chunk.{Chunk}
+use Rattle.vx_index.specs.declared.tile.Tile.{Tile}
 use Rattle.vx_index.proofs.Told.{push_holds}
 use Rattle.vx_index.proofs.land.renewed_rows.Goals as goal
 use Rattle.vx_index.proofs.land.renewed_rows.Goals.{then-is_touched+in_ok-renewed, else-is_touched+in_ok-try_clone}
@@ -33,7 +33,7 @@ loop-row-preserved c =
             λ shapes tell are.
                 let tells : All (TellsOf shapes) old = search rules in
                 push_holds (All (TellsOf (renewed_at shapes n shape))) rows w.push_reserved-else-is_touched.new.self.items copy pushed (c.loop-row.invariant.0 shapes tell are)
-                (subst (λ (cs : List Chunk). All (TellsOf (renewed_at shapes n shape)) cs) (sym w.in_ok-try_clone.ensures)
+                (subst (λ (cs : List Tile). All (TellsOf (renewed_at shapes n shape)) cs) (sym w.in_ok-try_clone.ensures)
                 (c.is_touched.ensures w.if-is_touched.false shapes n shape tells are)),
             search rules,
             search rules,

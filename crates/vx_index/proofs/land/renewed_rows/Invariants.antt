@@ -1,12 +1,12 @@
 use Rattle.std.proofs.Common.{◌≡◌, ◌≤◌, length, vec_capacity}
 use Rattle.std.specs.Option.{option_copied}
 use Rattle.std.specs.List.{All}
-use Rattle.vx_index.specs.Chunks.{TellsOf}
+use Rattle.vx_index.specs.Tiles.{TellsOf}
 use Rattle.vx_index.specs.Shapes.{Shapes, renewed_at}
 use Rattle.vx_index.specs.Touching.{AreTouched}
 use Rattle.vx_index.proofs.land.renewed_rows.Given as goal
 
--- the chunks of the rows so far tell of the shapes with the new one, and there is room for the others
+-- the tiles of the rows so far tell of the shapes with the new one, and there is room for the others
 abbrev pub invariant-loop-row : goal.invariant-loop-row
 invariant-loop-row l =
     ((shapes : Shapes) → All (All (TellsOf shapes)) l.rows → AreTouched (shapes l.number) (option_copied l.shape) l.touched

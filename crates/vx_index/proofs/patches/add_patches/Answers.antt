@@ -5,7 +5,7 @@ use Rattle.vx_index.specs.Patches.{square}
 use Rattle.vx_index.proofs.Adding.{adds_apart, adds_one}
 use Rattle.vx_index.proofs.patches.add_patches.Goals as goal
 
--- the columns of the shape are others than those of the chunk
+-- the columns of the shape are others than those of the tile
 pub returns-then-not-meets-clause-adds : goal.returns-then-not-meets-clause-adds
 returns-then-not-meets-clause-adds c =
     adds_apart c.args.number c.args.shape.now (square c.args.west c.args.north) c.args.patches.now.items

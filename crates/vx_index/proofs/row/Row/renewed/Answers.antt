@@ -1,7 +1,7 @@
 use Rattle.std.specs.Option.{option_copied}
 use Rattle.std.proofs.Common.{◌≡◌, ◌∙◌, [], ◌∷◌, ◌++◌, rules, sym, subst}
 use Rattle.std.specs.List.{All}
-use Rattle.vx_index.specs.Chunks.{TellsOf}
+use Rattle.vx_index.specs.Tiles.{TellsOf}
 use Rattle.vx_index.specs.Plots.{LiesAlong}
 use Rattle.vx_index.specs.Shapes.{renewed_at}
 use Rattle.vx_index.proofs.Along.{along_still}

@@ -1,13 +1,13 @@
 use Rattle.std.proofs.Common.{◌≡◌, ◌≤◌, length, vec_capacity}
 use Rattle.std.specs.List.{All}
 use Rattle.std.specs.Option.{option_copied}
-use Rattle.vx_index.specs.Chunks.{TellsOf}
+use Rattle.vx_index.specs.Tiles.{TellsOf}
 use Rattle.vx_index.specs.Plots.{LiesAlong}
 use Rattle.vx_index.specs.Shapes.{Shapes, renewed_at}
 use Rattle.vx_index.specs.Touching.{AreTouched}
 use Rattle.vx_index.proofs.row.Row.renewed.Given as goal
 
--- the chunks so far tell of the shapes with the new one, and lie in the row, and there is room for the others
+-- the tiles so far tell of the shapes with the new one, and lie in the row, and there is room for the others
 abbrev pub invariant-loop-plot : goal.invariant-loop-plot
 invariant-loop-plot l =
     ((shapes : Shapes) → All (TellsOf shapes) l.self → AreTouched (shapes l.number) (option_copied l.shape) l.touched

@@ -23,6 +23,7 @@ use crate::reading::{next_line, read_of};
 use crate::stage::Stage;
 use std::alloc::Global;
 use std::io::{Read, Write};
+use std::mem;
 use std::sync::Wait;
 use std::thread::Threads;
 use vx_board::{Desk, Opened};
@@ -81,9 +82,13 @@ pub fn play<
     let mut desk = Desk::new(rt, alloc, opening.policy().try_clone()?, edits, VIEWS)?;
     let view = desk.first_view();
     let session = Session::<A, B>::begin(alloc, opening, view, blanks, workers)?;
-    play_at(
+    let played = play_at(
         rt, alloc, &desk, session, first, number, lines, reader, writer, json,
-    )
+    );
+    // The process ends next, and takes back its memory at once. To let each edit and each version
+    // go took a seventh of a run with many edits.
+    mem::forget(desk);
+    played
 }
 
 // Plays the body in a session in which nothing was done yet, and in which alone its desk is edited.
@@ -132,7 +137,10 @@ fn play_at<
         writer,
     );
     let report = settle(alloc, session, read)?;
-    write_end(alloc, &report, json, writer)
+    let written = write_end(alloc, &report, json, writer);
+    // The process ends next, as in `play`.
+    mem::forget(report);
+    written
 }
 
 // Settles a session whose lines were read to the end or up to a faulty one.

@@ -30,7 +30,8 @@ use vx_world::Blanks;
 /// before it has been written out. Before the last line, and before the fault of a faulty line, the
 /// record is settled, and what was replied is compared with it; where they differ that is the
 /// fault. A script of more than 16,777,216 bytes always ends in a fault, and none ends in that of a
-/// regions file.
+/// regions file. The memory of the record and of the edits is never given back: it is for a process
+/// that ends behind one run.
 pub fn run<T: Threads + Wait + Sync, R: Read, W: Write>(
     rt: &T,
     alloc: Global,

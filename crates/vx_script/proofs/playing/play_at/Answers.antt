@@ -28,11 +28,11 @@ returns-clause-ok g c =
     let now = c.read_body-read.new.session in
     let a = g.W.Write.contents c.args.writer.now in
     let b = g.W.Write.contents c.read_body-read.new.writer in
-    let e = g.W.Write.contents c.write_end.new.writer in
+    let e = g.W.Write.contents c.write_end-written.new.writer in
     let ended = c.in_ok-report.ensures.ended in
     let r = record_in c.in_ok-report.report.chronicle c.in_ok-report.report.windows.items c.in_ok-report.report.version in
     let Wrote : List ℕ → Type 0 = λ rest. WroteBody (opening_of old) c.args.json c.args.number (body_lines (option_map said c.args.first) rest) None a e in
-    on_ok_weaker c.write_end.result
+    on_ok_weaker c.write_end-written.result
     (λ written. if_known _ _ Wrote (rw ended.0 at c.read_body-read.ensures.done)
     (λ rest done. wrote_game g.A.Naming.first old now c.args.json c.args.number (body_lines (option_map said c.args.first) rest) c.requires.first c.requires.nothing r a b e done ended.1 written))
-    c.write_end.ensures.ok
+    c.write_end-written.ensures.ok

@@ -4,6 +4,7 @@ ghost use Rattle.vx_region.specs.Blocks.{Holds, entry_at, with_entries};
 ghost use Rattle.vx_region.specs.BlockSharing.{lends_in_block};
 
 use crate::region::Region;
+use crate::searching::last_that;
 use crate::shared_region::SharedRegion;
 use std::alloc::{AllocError, Global};
 use std::marker::Model;
@@ -86,8 +87,8 @@ impl Block {
     /// The place of the list where the region of that number stands, if it stands in the block. No
     /// clause says so: only costs rest on it.
     pub(crate) fn place_near(&self, number: u32) -> usize {
-        let before = self.entries.partition_point(|entry| entry.0 < number);
-        self.start.wrapping_add(before)
+        let inside = last_that(&self.entries, |entry| entry.0 <= number);
+        self.start.wrapping_add(inside)
     }
 
     /// The region at a place of the list, to write. Where a copy shares the block, it is copied

@@ -10,6 +10,7 @@ mod region_list;
 mod region_no;
 mod region_set;
 mod roster;
+mod searching;
 mod shared_region;
 mod subject;
 

@@ -8,6 +8,7 @@ mod edits;
 
 use crate::block::{Block, FULL};
 use crate::region::Region;
+use crate::searching::last_that;
 use std::alloc::{AllocError, Global};
 use std::marker::Model;
 
@@ -128,8 +129,8 @@ impl RegionList {
     fn in_order(&self, number: u32) -> Option<(usize, &Region)>
         ensures { IfSome result (λ r. slice_get self.now r.0 ≡ Some (number, r.1.now)) }
     {
-        let behind = self.blocks.partition_point(|block| block.begins_by(number));
-        let block = self.blocks.get(behind.checked_sub(1)?)?;
+        let last = last_that(&self.blocks, |block| block.begins_by(number));
+        let block = self.blocks.get(last)?;
         let place = block.place_near(number);
         let (found, region) = block.at(place)?;
         if found == number {

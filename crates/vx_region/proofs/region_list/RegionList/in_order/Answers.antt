@@ -7,7 +7,7 @@ use Rattle.vx_region.proofs.region_list.RegionList.in_order.Goals as goal
 
 pub returns-then-found-number : goal.returns-then-found-number
 returns-then-found-number c =
-    let k = c.in_ok-checked_sub.field-0 in
+    let k = c.last_that-last.result in
     let b = c.in_ok-block.block.now in
     let place = c.place_near-place.result in
     let e : Entry = (c.in_ok-found.found, c.in_ok-found.region.now) in

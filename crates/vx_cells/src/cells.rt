@@ -146,7 +146,20 @@ impl Cells {
         ensures slots { result ≡ chest_at self.now p }
         ensures each { IfSome result (All IsSlot) }
     {
-        self.stored.chest(p)
+        match self.slots(p) {
+            Some(slots) => Some(*slots),
+            None => None,
+        }
+    }
+
+    /// The slots of the chest at a position of this sector, if there is one, to read. It costs less
+    /// than a copy of all of them.
+    pub fn slots(&self, p: Pos) -> Option<&[Slot; SLOTS]>
+        requires { holds self.now p ≡ true }
+        ensures slots { option_copied result ≡ chest_at self.now p }
+        ensures each { IfSome result (λ slots. All IsSlot slots.now) }
+    {
+        self.stored.slots(p)
     }
 
     /// Puts something else into a slot of the chest at a position of this sector: nothing, or 1 to

@@ -191,10 +191,10 @@ impl Stored {
     }
 
     /// The slots of the chest at a position of this sector, if there is one.
-    pub fn chest(&self, p: Pos) -> Option<[Slot; SLOTS]>
+    pub fn slots(&self, p: Pos) -> Option<&[Slot; SLOTS]>
         requires { holds self.now p ≡ true }
-        ensures slots { result ≡ chest_at self.now p }
-        ensures each { IfSome result (All IsSlot) }
+        ensures slots { option_copied result ≡ chest_at self.now p }
+        ensures each { IfSome result (λ slots. All IsSlot slots.now) }
     {
         self.chests.get(self.bounds.index_in_sector(p))
     }

@@ -9,6 +9,5 @@ pub mod Keeping
 pub mod Mapped
 pub mod Owning
 pub mod Recording
-pub mod Showing
 pub mod Stepped
 pub mod Tables

@@ -8,4 +8,3 @@ pub mod Records
 pub mod Rests
 pub mod Said
 pub mod Settling
-pub mod Spares

@@ -21,7 +21,6 @@ mod rests;
 mod saying;
 mod seated;
 mod settling;
-mod spare;
 mod tick;
 
 pub use archive::Archive;

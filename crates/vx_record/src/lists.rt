@@ -7,7 +7,6 @@ ghost use Rattle.vx_sector.specs.Windows.{answer_of, is_full, is_recorded, secto
 ghost use Rattle.vx_record.specs.Calls.{row_after};
 
 use crate::call::Call;
-use crate::spare::{copy_of, spare_for};
 use std::alloc::{AllocError, Global};
 use std::marker::Model;
 use vx_sector::{Cmd, MAX_ENTRIES, Refusal, Reply, Seat, Sector};
@@ -129,17 +128,14 @@ fn act_into(
     ensures sector { sector.new ≡ sector_after sector.old (seat_of seat.now) cmd.now result }
     ensures row { row.new.items ≡ row_after row.old.items cmd.now result }
 {
-    let Ok(spare) = spare_for(*row.allocator(), sector, seat, cmd) else {
-        return Err(Refusal::NoMemory);
-    };
     let Ok(()) = row.reserve(1) else {
         return Err(Refusal::NoMemory);
     };
     match sector.carry_out(seat, cmd) {
-        Ok(reply) => {
+        Ok((reply, copy)) => {
             row.push_reserved(Call {
                 cmd: *cmd,
-                answer: Ok(copy_of(&reply, spare)),
+                answer: Ok(copy),
             });
             Ok(reply)
         }

@@ -77,6 +77,11 @@ abbrev pub is_recorded : Result Reply Refusal → Bool
 is_recorded (Ok reply) = true
 is_recorded (Err refusal) = leaves_trace refusal
 
+-- the answer, where its reply is handed out together with a copy
+abbrev pub told : Result (Reply × Reply) Refusal → Result Reply Refusal
+told (Ok replies) = Ok replies.0
+told (Err refusal) = Err refusal
+
 -- the sector after a command and its answer
 unfoldable pub sector_after : SectorData → SeatData → Cmd → Result Reply Refusal → SectorData
 sector_after s seat cmd answer =

@@ -125,7 +125,7 @@ fn shown(alloc: Global, cells: &Cells, p: Pos, cell: Cell) -> Result<Contents, R
         ⊎ (refusal ≡ Refusal.NoMemory)) }
 {
     let slots = opening(cells, p, cell)?;
-    Contents::new(alloc, slots).map_err(|_| Refusal::NoMemory)
+    Contents::new(alloc, *slots).map_err(|_| Refusal::NoMemory)
 }
 
 // A part put where that cell stands, if it is air.

@@ -15,17 +15,19 @@ use vx_cells::{Cells, MAX_COUNT, SLOTS, Slot, Stack};
 use vx_geom::Pos;
 
 /// The slots of the chest to be opened, if that cell, which stands at the position, is one.
-pub fn opening(cells: &Cells, p: Pos, cell: Cell) -> Result<[Slot; SLOTS], Refusal>
+pub fn opening(cells: &Cells, p: Pos, cell: Cell) -> Result<&[Slot; SLOTS], Refusal>
     requires held { holds cells.now p ≡ true }
     requires cell { cell ≡ cell_at cells.now p }
-    ensures slots { result
-        ≡ ok_unless (hindrance cells.now (Cmd.OpenChest p)) (slots_at cells.now p) }
-    ensures each { IfOk result (All IsSlot) }
+    ensures slots { MatchResult result
+        (λ slots. (hindrance cells.now (Cmd.OpenChest p) ≡ None)
+        × (slots.now ≡ slots_at cells.now p))
+        (λ refusal. hindrance cells.now (Cmd.OpenChest p) ≡ Some refusal) }
+    ensures each { IfOk result (λ slots. All IsSlot slots.now) }
 {
     let Cell::Chest = cell else {
         return Err(Refusal::NotChest);
     };
-    cells.chest(p).ok_or(Refusal::NotChest)
+    cells.slots(p).ok_or(Refusal::NotChest)
 }
 
 /// So many of an item put into a slot of that cell, which stands at the position, if it is a chest.
@@ -89,8 +91,8 @@ pub fn is_in_use(cells: &Cells, p: Pos, cell: Cell) -> bool
     let Cell::Chest = cell else {
         return false;
     };
-    match cells.chest(p) {
-        Some(slots) => any_filled(&slots),
+    match cells.slots(p) {
+        Some(slots) => any_filled(slots),
         None => false,
     }
 }

@@ -4,7 +4,7 @@ ghost use Rattle.vx_cells.specs.SectorCells.{holds};
 ghost use Rattle.vx_sector.specs.Acting.{rules_answer};
 ghost use Rattle.vx_sector.specs.Commands.{place_of};
 ghost use Rattle.vx_sector.specs.SectorData.{seat_of, entry_of};
-ghost use Rattle.vx_sector.specs.Windows.{IsWindow, cells_after, most_entries, count_of, is_recorded, is_full, put_in, CanTamper};
+ghost use Rattle.vx_sector.specs.Windows.{IsWindow, cells_after, most_entries, count_of, is_recorded, is_full, put_in, told, CanTamper};
 
 use crate::cmd::Cmd;
 use crate::entry::Entry;
@@ -197,19 +197,21 @@ impl Sector {
         if self.is_full() {
             return Err(Refusal::HistoryFull);
         }
-        self.carry_out(&seat, &cmd)
+        told(self.carry_out(&seat, &cmd))
     }
 
     /// Carries out a command at a position of the sector, where there is room for its record, as
-    /// `act` does.
+    /// `act` does. The reply comes with a copy, so that who keeps it elsewhere too needs no memory
+    /// for it after the command is carried out.
     #[tactic(auto, unfolding(crate::specs::Windows::sector_after))]
-    pub fn carry_out(&mut self, seat: &Seat, cmd: &Cmd) -> Result<Reply, Refusal>
+    pub fn carry_out(&mut self, seat: &Seat, cmd: &Cmd) -> Result<(Reply, Reply), Refusal>
         requires room { count_of self.old < most_entries }
         requires held { holds self.old.cells (place_of cmd.now) ≡ true }
-        ensures answer { (result
+        ensures answer { (told result
             ≡ rules_answer self.old.version.policy self.old.cells (seat_of seat.now) cmd.now)
-            ⊎ (result ≡ Err Refusal.NoMemory) }
-        ensures after { self.new ≡ sector_after self.old (seat_of seat.now) cmd.now result }
+            ⊎ (told result ≡ Err Refusal.NoMemory) }
+        ensures copy { IfOk result (λ replies. replies.1 ≡ replies.0) }
+        ensures after { self.new ≡ sector_after self.old (seat_of seat.now) cmd.now (told result) }
     {
         self.window.carry_out(seat, cmd)
     }
@@ -228,6 +230,14 @@ impl Sector {
     {
         MAX_ENTRIES <= self.count()
     }
+}
+
+// The answer alone, where its reply comes with a copy.
+fn told(answer: Result<(Reply, Reply), Refusal>) -> Result<Reply, Refusal>
+    ensures { result ≡ told answer }
+{
+    let (reply, _copy) = answer?;
+    Ok(reply)
 }
 
 // The record of a window, in a place of its own.

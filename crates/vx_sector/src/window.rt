@@ -5,7 +5,7 @@ ghost use Rattle.vx_cells.specs.SectorCells.{IsSlot, holds, cell_at, with_cell, 
 ghost use Rattle.vx_sector.specs.Acting.{rules_answer, applied, effect_of, Fits};
 ghost use Rattle.vx_sector.specs.Commands.{place_of};
 ghost use Rattle.vx_sector.specs.SectorData.{seat_of, entry_of};
-ghost use Rattle.vx_sector.specs.Windows.{window_after};
+ghost use Rattle.vx_sector.specs.Windows.{told, window_after};
 
 use crate::acting::outcome_of;
 use crate::cmd::Cmd;
@@ -118,13 +118,15 @@ impl Window {
     }
 
     /// Carries out a command at a position of the sector, and puts it with its answer at the end of
-    /// the record. Where memory is wanting nothing is done.
-    pub(crate) fn carry_out(&mut self, seat: &Seat, cmd: &Cmd) -> Result<Reply, Refusal>
+    /// the record. Where memory is wanting nothing is done. The reply comes with a copy, as
+    /// `Sector::carry_out` tells.
+    pub(crate) fn carry_out(&mut self, seat: &Seat, cmd: &Cmd) -> Result<(Reply, Reply), Refusal>
         requires held { holds self.old.cells (place_of cmd.now) ≡ true }
-        ensures answer { (result
+        ensures answer { (told result
             ≡ rules_answer self.old.version.policy self.old.cells (seat_of seat.now) cmd.now)
-            ⊎ (result ≡ Err Refusal.NoMemory) }
-        ensures after { self.new ≡ window_after self.old (seat_of seat.now) cmd.now result }
+            ⊎ (told result ≡ Err Refusal.NoMemory) }
+        ensures copy { IfOk result (λ replies. replies.1 ≡ replies.0) }
+        ensures after { self.new ≡ window_after self.old (seat_of seat.now) cmd.now (told result) }
     {
         let alloc = *self.entries.allocator();
         self.cells.soundness();
@@ -135,20 +137,24 @@ impl Window {
     }
 
     // Does what a command does that nothing stands against, and puts it with its reply at the end
-    // of the record.
+    // of the record. Both copies of the reply are made before.
     fn grant(
         &mut self,
         seat: &Seat,
         cmd: &Cmd,
         reply: Reply,
         effect: Effect,
-    ) -> Result<Reply, Refusal>
+    ) -> Result<(Reply, Reply), Refusal>
         requires held { holds self.old.cells (place_of cmd.now) ≡ true }
         requires effect { effect ≡ effect_of self.old.cells cmd.now }
         requires fits { Fits self.old.cells (place_of cmd.now) effect }
-        ensures answer { (result ≡ Ok reply) ⊎ (result ≡ Err Refusal.NoMemory) }
-        ensures after { self.new ≡ window_after self.old (seat_of seat.now) cmd.now result }
+        ensures answer { (told result ≡ Ok reply) ⊎ (told result ≡ Err Refusal.NoMemory) }
+        ensures copy { IfOk result (λ replies. replies.1 ≡ replies.0) }
+        ensures after { self.new ≡ window_after self.old (seat_of seat.now) cmd.now (told result) }
     {
+        let Ok(recorded) = reply.try_clone() else {
+            return Err(Refusal::NoMemory);
+        };
         let Ok(copy) = reply.try_clone() else {
             return Err(Refusal::NoMemory);
         };
@@ -157,15 +163,20 @@ impl Window {
         self.entries.push_reserved(Entry {
             seat: *seat,
             cmd: *cmd,
-            answer: Ok(copy),
+            answer: Ok(recorded),
         });
-        Ok(reply)
+        Ok((reply, copy))
     }
 
     // Puts a command with its refusal at the end of the record, unless that leaves no trace.
-    fn refuse(&mut self, seat: &Seat, cmd: &Cmd, refusal: Refusal) -> Result<Reply, Refusal>
+    fn refuse(
+        &mut self,
+        seat: &Seat,
+        cmd: &Cmd,
+        refusal: Refusal,
+    ) -> Result<(Reply, Reply), Refusal>
         ensures answer { (result ≡ Err refusal) ⊎ (result ≡ Err Refusal.NoMemory) }
-        ensures after { self.new ≡ window_after self.old (seat_of seat.now) cmd.now result }
+        ensures after { self.new ≡ window_after self.old (seat_of seat.now) cmd.now (told result) }
     {
         if !refusal.leaves_trace() {
             return Err(refusal);

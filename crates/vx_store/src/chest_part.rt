@@ -40,7 +40,7 @@ impl HasChests for ChestPart {
 
     ghost copied = { λ part copy same. same };
 
-    fn get(&self, index: u32) -> Option<[Slot; SLOTS]> {
+    fn get(&self, index: u32) -> Option<&[Slot; SLOTS]> {
         self.chests.get(index)
     }
 

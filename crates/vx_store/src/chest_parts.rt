@@ -1,4 +1,5 @@
 ghost use Rattle.std.specs.Prelude.{◌≡◌, ◌<◌, ◌↔◌, ℕ, IsTrue, [], IsSome, slice_set, IfOk, OnOk, OnErr};
+ghost use Rattle.std.specs.Option.{option_copied};
 ghost use Rattle.vx_store.specs.Chests.{slots_of_chest, Changes, SameSlots, begun, refilled};
 ghost use Rattle.vx_store.specs.Codes.{cell_of, is_chest};
 ghost use Rattle.vx_store.specs.Placing.{CanPut};
@@ -51,8 +52,8 @@ impl ChestParts {
     }
 
     /// The slots of the chest at that index.
-    pub fn get(&self, index: u32) -> Option<[Slot; SLOTS]>
-        ensures { result ≡ slots_of_chest self.now index }
+    pub fn get(&self, index: u32) -> Option<&[Slot; SLOTS]>
+        ensures { option_copied result ≡ slots_of_chest self.now index }
     {
         self.groups.get(index)
     }

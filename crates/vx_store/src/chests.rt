@@ -1,4 +1,5 @@
 ghost use Rattle.std.specs.Prelude.{◌≡◌, ◌<◌, ◌↔◌, ℕ, IsTrue, [], None, Some, IsSome, OnOk, OnErr};
+ghost use Rattle.std.specs.Option.{option_copied};
 ghost use Rattle.vx_store.specs.declared.stack.TheConstants.{SLOTS};
 
 use crate::stack::{SLOTS, Slot};
@@ -33,13 +34,10 @@ impl Chests {
     }
 
     /// The slots of the chest at that index.
-    pub fn get(&self, index: u32) -> Option<[Slot; SLOTS]>
-        ensures { result ≡ slots_of_chest self.now index }
+    pub fn get(&self, index: u32) -> Option<&[Slot; SLOTS]>
+        ensures { option_copied result ≡ slots_of_chest self.now index }
     {
-        match self.slots.get(&index) {
-            Some(slots) => Some(*slots),
-            None => None,
-        }
+        self.slots.get(&index)
     }
 
     /// Puts an empty chest at that index, also where one stood.

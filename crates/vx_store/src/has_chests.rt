@@ -1,4 +1,5 @@
 ghost use Rattle.std.specs.Prelude.{◌≡◌, ◌<◌, ◌↔◌, ℕ, IsTrue, IsSome, slice_set, OnOk, OnErr};
+ghost use Rattle.std.specs.Option.{option_copied};
 ghost use Rattle.vx_store.specs.Chests.{ChestData, slots_of_chest, Changes, SameSlots, begun, refilled};
 ghost use Rattle.vx_store.specs.Codes.{cell_of, is_chest};
 ghost use Rattle.vx_store.specs.Placing.{CanPut};
@@ -14,8 +15,8 @@ pub trait HasChests: Clone + Drop {
     ghost chests: { Self → ChestData };
 
     /// The slots of the chest at that index.
-    fn get(&self, index: u32) -> Option<[Slot; SLOTS]>
-        ensures { result ≡ slots_of_chest (chests self.now) index };
+    fn get(&self, index: u32) -> Option<&[Slot; SLOTS]>
+        ensures { option_copied result ≡ slots_of_chest (chests self.now) index };
 
     /// Puts something else into a slot of the chest at that index.
     fn set(&mut self, index: u32, slot: u8, content: Slot) -> Result<(), AllocError>

@@ -56,7 +56,7 @@ impl<P: HasChests, const STRIDE: u32> HasChests for Parted<P, STRIDE> {
 
     ghost copied = { λ chests copy same. same };
 
-    fn get(&self, index: u32) -> Option<[Slot; SLOTS]> {
+    fn get(&self, index: u32) -> Option<&[Slot; SLOTS]> {
         self.parts[part_of(STRIDE, index)].get(index)
     }
 

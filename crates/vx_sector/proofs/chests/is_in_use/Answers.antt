@@ -1,4 +1,5 @@
-use Rattle.std.proofs.Common.{◌≡◌, ◌≢◌, Bool, true, false, Option, None, refl, subst, if◌then◌else◌, sym, ◌∙◌}
+use Rattle.std.proofs.Common.{◌≡◌, ◌≢◌, Bool, true, false, Option, None, ap, refl, subst, if◌then◌else◌, sym, ◌∙◌}
+use Rattle.std.specs.Option.{option_copied}
 use Rattle.vx_block.specs.declared.cell.Cell.{Cell}
 use Rattle.vx_block.specs.declared.cell.Cell.TheVariants as cell
 use Rattle.vx_store.specs.Codes.{is_chest}
@@ -15,7 +16,7 @@ no_chest cell.Chest h = absurd (h refl)
 no_chest x h = refl
 
 pub returns-in-None : goal.returns-in-None
-returns-in-None c = rw (no_slots _ _ c.requires.whole (not_chest _ _ (sym c.chest.ensures.slots ∙ c.in-None.is))) refl
+returns-in-None c = rw (no_slots _ _ c.requires.whole (not_chest _ _ (sym c.slots.ensures.slots ∙ ap option_copied c.in-None.is))) refl
 
 pub returns-in_default : goal.returns-in_default
 returns-in_default c =

@@ -27,14 +27,17 @@ pub carry_out-requires-clause-room : goal.carry_out-requires-clause-room
 carry_out-requires-clause-room c = room_where_not_full c.args.self.now (search rules)
 
 pub returns-clause-answer : goal.returns-clause-answer
-returns-clause-answer c = there_answered c.args.self.now (seat_of c.args.seat) c.args.cmd _ (search rules) (search rules) c.carry_out.ensures.answer
+returns-clause-answer c = rw (c.told.ensures) (there_answered c.args.self.now (seat_of c.args.seat) c.args.cmd _ (search rules) (search rules) c.carry_out.ensures.answer)
 
 pub returns-clause-memory : goal.returns-clause-memory
 returns-clause-memory c = inr (subst (λ a. is_recorded a ≡ true) (answered_by_the_rules c.args.self.now (seat_of c.args.seat) c.args.cmd (search rules)
     (search rules)) (answer_recorded _ _ _ _))
 
 pub returns-clause-outside : goal.returns-clause-outside
-returns-clause-outside c = there_not_outside c.args.self.now (seat_of c.args.seat) c.args.cmd _ (search rules) (search rules) c.carry_out.ensures.answer
+returns-clause-outside c = rw (c.told.ensures) (there_not_outside c.args.self.now (seat_of c.args.seat) c.args.cmd _ (search rules) (search rules) c.carry_out.ensures.answer)
 
 pub returns-clause-full : goal.returns-clause-full
-returns-clause-full c = there_not_full c.args.self.now (seat_of c.args.seat) c.args.cmd _ (search rules) (search rules) c.carry_out.ensures.answer
+returns-clause-full c = rw (c.told.ensures) (there_not_full c.args.self.now (seat_of c.args.seat) c.args.cmd _ (search rules) (search rules) c.carry_out.ensures.answer)
+
+pub returns-clause-after : goal.returns-clause-after
+returns-clause-after c = rw (c.told.ensures) c.carry_out.ensures.after

@@ -1,7 +1,7 @@
 use Rattle.std.proofs.Common.{◌∙◌}
 use Rattle.vx_cells.proofs.Indices.{inside_from_holds}
 use Rattle.vx_cells.proofs.StoredCells.{chest-stored}
-use Rattle.vx_cells.proofs.stored.Stored.chest.Goals as goal
+use Rattle.vx_cells.proofs.stored.Stored.slots.Goals as goal
 
 pub index_in_sector-requires : goal.index_in_sector-requires
 index_in_sector-requires c = let held = rw (← c.self.view_is) at c.requires in inside_from_holds _ c.args.p held

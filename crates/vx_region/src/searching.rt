@@ -1,5 +1,4 @@
 //! Looks in a list that stands in order.
-ghost use Rattle.std.specs.Prelude.{};
 
 /// The index of the last item for which the test holds, in a list where it holds for the first
 /// ones and for none behind them; 0 if it holds for none. Each step takes one of two halves without

@@ -85,8 +85,7 @@ pub fn play<
     let played = play_at(
         rt, alloc, &desk, session, first, number, lines, reader, writer, json,
     );
-    // The process ends next, and takes back its memory at once. To let each edit and each version
-    // go took a seventh of a run with many edits.
+    // The process ends next, and takes back its memory at once (docs/DECISIONS.md).
     mem::forget(desk);
     played
 }

@@ -5,7 +5,7 @@ ghost use Rattle.vx_store.specs.declared.stack.TheConstants.{SLOTS};
 ghost use Rattle.vx_store.specs.Codes.{is_chest};
 ghost use Rattle.vx_cells.specs.SectorCells.{IsWhole, IsSlot, holds, cell_at};
 ghost use Rattle.vx_sector.specs.Slots.{count_in, is_filled, holds_other};
-ghost use Rattle.vx_sector.specs.Acting.{refuse_if, ok_unless, first_some, hindrance, permitted_effect, Fits, slots_at, slot_at};
+ghost use Rattle.vx_sector.specs.Acting.{refuse_if, first_some, hindrance, permitted_effect, Fits, slots_at, slot_at};
 
 use crate::cmd::Cmd;
 use crate::effect::Effect;
